@@ -1,0 +1,13 @@
+pub mod Lists
+pub mod Prefix
+pub mod Substitution
+pub mod Exact
+pub mod Heads
+pub mod SubjectReduction
+pub mod Safety
+pub mod Monotone
+pub mod Rounds
+pub mod Flags
+pub mod Paths
+pub mod Runs
+pub mod Acceptance
