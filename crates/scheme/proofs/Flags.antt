@@ -1,9 +1,10 @@
 -- The flags are the kept set: the elements that they choose are those kept, and there is a flag 0 or 1 for each element.
 use Prim.Native.Nat.{ℕ, zero, suc, _≤_}
+use native.Mathlib.Nat.{le-of-suc-le-suc, not-suc-le-zero}
 use mathlib.Core.Path.{_≡_, refl, sym, ap, ap₂, subst, _∙_}
 use mathlib.Core.Logic.{_⊎_, inl, inr}
 use mathlib.Core.Bool.{Bool, true, false, _&&_}
-use mathlib.Core.List.{List, [], _∷_, List·Memᴰ, List·Memᴰ·not-nil, List·Memᴰ·cases-cons}
+use mathlib.Core.List.{List, [], _∷_, _++_, List·Memᴰ, List·Memᴰ·not-nil, List·Memᴰ·cases-cons}
 use lib.ListN.{length, replicate, length-replicate}
 use Rattle.scheme.specs.Lists.{keepIf, select}
 use Rattle.scheme.specs.Rounds.{round, after, kept}
@@ -20,6 +21,15 @@ ones (suc n) f m = go (List·Memᴰ·cases-cons m) (ones n f)
     go : (f ≡ 1) ⊎ List·Memᴰ f (replicate n 1) → (List·Memᴰ f (replicate n 1) → (f ≡ 0) ⊎ (f ≡ 1)) → (f ≡ 0) ⊎ (f ≡ 1)
     go (inl e) ih = inr e
     go (inr k) ih = ih k
+
+-- flags past the last element choose nothing
+pub chosen-prefix : {B : Type 0} (fs gs : List ℕ) (bs : List B) → length bs ≤ length fs → chosen (fs ++ gs) bs ≡ chosen fs bs
+unfolding chosen
+chosen-prefix [] [] [] h = refl
+chosen-prefix [] (g ∷ gs) [] h = refl
+chosen-prefix [] gs (b ∷ bs) h = absurd (not-suc-le-zero h)
+chosen-prefix (f ∷ fs) gs [] h = refl
+chosen-prefix (f ∷ fs) gs (b ∷ bs) h = ap (keepIf (isKept f) b) (chosen-prefix fs gs bs (le-of-suc-le-suc h))
 
 module _ {B : Type 0} (test : List B → B → Bool) where
   chosen-retested : (set : List B) (fs : List ℕ) (bs : List B) → chosen (retested test set fs bs) bs ≡ select (test set) (chosen fs bs)

@@ -11,3 +11,5 @@ pub mod Flags
 pub mod Paths
 pub mod Runs
 pub mod Acceptance
+pub mod Alike
+pub mod Examples

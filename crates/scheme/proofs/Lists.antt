@@ -2,9 +2,9 @@
 -- A test is read as a statement by T (lib.Dec): T true holds, T false does not.
 use mathlib.Core.Path.{_≡_, refl, sym, subst}
 use mathlib.Core.Logic.{_⊎_, inl, inr}
-use mathlib.Core.Bool.{Bool, true, false, _&&_, _||_}
+use mathlib.Core.Bool.{Bool, true, false, _&&_, _||_, true≢false}
 use mathlib.Core.Option.{Option, none, some}
-use mathlib.Core.List.{List, [], _∷_, List·Memᴰ, List·Memᴰ·head, List·Memᴰ·tail, List·Memᴰ·not-nil, List·Memᴰ·cases-cons}
+use mathlib.Core.List.{List, [], _∷_, _++_, List·Memᴰ, List·Memᴰ·head, List·Memᴰ·tail, List·Memᴰ·not-nil, List·Memᴰ·cases-cons}
 use Prim.Native.Nat.{ℕ, suc, _≤_, zero-le, suc-le-suc}
 use native.Mathlib.Omega.{arith}
 use lib.Dec.{T}
@@ -45,6 +45,19 @@ pub and-both : (a b : Bool) → T a → T b → T (a && b)
 and-both true b t u = u
 and-both false b t u = absurd t
 
+-- The same, of tests that fail.
+pub or-false : (a b : Bool) → (a || b) ≡ false → (a ≡ false) × (b ≡ false)
+or-false true b e = (e, absurd (true≢false e))
+or-false false b e = (refl, e)
+
+pub and-false : (a b : Bool) → (a && b) ≡ false → a ≡ true → b ≡ false
+and-false true b e t = e
+and-false false b e t = absurd (true≢false (sym t))
+
+pub and-true : (a b : Bool) → (a && b) ≡ true → (a ≡ true) × (b ≡ true)
+and-true true b e = (refl, e)
+and-true false b e = (e, absurd (true≢false (sym e)))
+
 -- every element of the first list is one of the second
 abbrev pub Sub : {A : Type 0} → List A → List A → Type 0
 Sub {A} s t = (a : A) → List·Memᴰ a s → List·Memᴰ a t
@@ -63,6 +76,11 @@ module _ {A : Type 0} where
   unfolding any
   any-in p (List·Memᴰ·head {x = y} {xs = ys} e) t = or-left (p y) (any p ys) (subst (λ z. T (p z)) e t)
   any-in p (List·Memᴰ·tail {x = y} {xs = ys} m) t = or-right (p y) (any p ys) (any-in p m t)
+
+  pub any-false : (p : A → Bool) {l : List A} {x : A} → any p l ≡ false → List·Memᴰ x l → p x ≡ false
+  unfolding any
+  any-false p e (List·Memᴰ·head {x = y} {xs = ys} h) = subst (λ z. p z ≡ false) (sym h) (or-false (p y) (any p ys) e .0)
+  any-false p e (List·Memᴰ·tail {x = y} {xs = ys} m) = any-false p (or-false (p y) (any p ys) e .1) m
 
   pub all-out : (p : A → Bool) {l : List A} {x : A} → List·Memᴰ x l → T (all p l) → T (p x)
   unfolding all
@@ -131,3 +149,12 @@ module _ {A : Type 0} where
   unfolding found
   found-out none p t = absurd t
   found-out (some a) p t = (a, refl, t)
+
+  pub select-append : (p : A → Bool) (xs ys : List A) → select p (xs ++ ys) ≡ select p xs ++ select p ys
+  unfolding select keepIf
+  select-append p [] ys = refl
+  select-append p (x ∷ xs) ys = go (p x) (select-append p xs ys)
+    where
+      go : (b : Bool) → select p (xs ++ ys) ≡ select p xs ++ select p ys → keepIf b x (select p (xs ++ ys)) ≡ keepIf b x (select p xs) ++ select p ys
+      go true e = λ i. x ∷ e i
+      go false e = e

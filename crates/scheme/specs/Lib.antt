@@ -12,3 +12,4 @@ pub mod Replay
 pub mod Safety
 pub mod Paths
 pub mod Acceptance
+pub mod Alike

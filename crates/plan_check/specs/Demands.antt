@@ -1,0 +1,89 @@
+-- What a buyer is promised of every answer: three demands, for every file and all lent flags.
+use Prim.Native.Nat.{ℕ, _<_}
+use mathlib.Core.Path.{_≡_}
+use mathlib.Core.Logic.{_⊎_}
+use mathlib.Core.List.{List, [], List·Memᴰ}
+use lib.Dec.{T}
+use lib.ListN.{length, getD}
+use Rattle.scheme.specs.Reduction.{Plan}
+use Rattle.scheme.specs.Types.{state}
+use Rattle.scheme.specs.Typing.{Automaton, Binding}
+use Rattle.scheme.specs.Rounds.{round, after}
+use Rattle.scheme.specs.Flags.{chosen}
+use Rattle.scheme.specs.Acceptance.{holdsExactly}
+use Rattle.scheme.specs.Replay.{Ending}
+use Rattle.scheme.specs.Paths.{starting, Within, ReplaysTo, Ends}
+use Rattle.scheme.specs.Safety.{SafetyRule}
+use Rattle.records.specs.Records.{Record, recordsOf, listed}
+use Rattle.casefile.specs.Kinds.{Kind, payloads}
+use Rattle.casefile.specs.Tables.{planOf, automatonOf, bindingsOf}
+use Rattle.casefile.specs.Cases.{bindingCase, pathCase, caseOf}
+use Rattle.replay.specs.PathCases.{nodeLimit, pathAnswer}
+use Rattle.plan_check.specs.Answers.{Answer, proved, unproved, refuted, answer, pathOutcome, flagsAfter}
+
+-- The parts of a file: "plan and automaton are that file's kinds 1 to 6".
+abbrev pub planIn : List ℕ → Plan
+planIn file = planOf (listed (recordsOf file))
+
+abbrev pub automatonIn : List ℕ → Automaton
+automatonIn file = automatonOf (listed (recordsOf file))
+
+abbrev pub offeredIn : List ℕ → List Binding
+offeredIn file = bindingsOf (listed (recordsOf file))
+
+abbrev pub lettersIn : List ℕ → List ℕ
+lettersIn file = getD (payloads Kind.path (listed (recordsOf file))) 0 []
+
+-- every element of the first list is one of the second
+abbrev pub Within-list : List Binding → List Binding → Type 0
+Within-list s t = (b : Binding) → List·Memᴰ b s → List·Memᴰ b t
+
+-- each binding of a set holds under the set
+abbrev pub Consistent : Automaton → Plan → List Binding → Type 0
+Consistent aut plan s = (b : Binding) → List·Memᴰ b s → T (holdsExactly aut plan s b)
+
+-- the start symbol at state 0
+abbrev pub startBinding : Binding
+startBinding = record { nonterminal = 0; type = state 0 }
+
+-- A binding case: a is the answer, `marks` the flags afterwards.
+pub record Shrinks (aut : Automaton) (plan : Plan) (offered : List Binding) (marks : List ℕ) (a : Answer) : Type 0 where
+  -- the kept set and the count of rounds
+  pub kept : List Binding
+  pub rounds : ℕ
+  -- the kept set is the greatest consistent part of what was offered
+  pub is-offered : Within-list kept offered
+  pub is-consistent : Consistent aut plan kept
+  pub is-greatest : (s : List Binding) → Consistent aut plan s → Within-list s offered → Within-list s kept
+  -- the flags mark it
+  pub is-marked : chosen marks offered ≡ kept
+  -- it is what so many rounds leave, after which a further round drops nothing, and after fewer it does
+  pub is-left : after (holdsExactly aut plan) rounds offered ≡ kept
+  pub is-final : round (holdsExactly aut plan) kept ≡ kept
+  pub is-least : (n : ℕ) → n < rounds → round (holdsExactly aut plan) (after (holdsExactly aut plan) n offered) ≡ after (holdsExactly aut plan) n offered → ⊥
+  -- proved exactly when the start symbol at state 0 is kept
+  pub verdict : (List·Memᴰ startBinding kept × (a ≡ proved (length kept) (length offered) rounds)) ⊎ ((List·Memᴰ startBinding kept → ⊥) × (a ≡ unproved (length kept) (length offered) rounds))
+
+-- A path case: a is the answer.
+pub record Replayed (aut : Automaton) (plan : Plan) (letters : List ℕ) (a : Answer) : Type 0 where
+  -- refuted exactly when the path replays within the limit to a constructor with no transition there
+  pub refutes : (q c : ℕ) → ReplaysTo aut plan (Within nodeLimit) letters starting q c → a ≡ refuted (length letters) q c
+  pub refuted-replays : (n q c : ℕ) → a ≡ refuted n q c → (length letters ≡ n) × ReplaysTo aut plan (Within nodeLimit) letters starting q c
+  -- and 13, 14 and 15 are said of the letters that `Ends` says
+  pub ending : Ending
+  pub ends : Ends aut plan nodeLimit 0 letters starting ending
+  pub says : a ≡ pathOutcome (pathAnswer ending) .answer
+
+-- DEMAND 1: the answer is that of the definition, and so is every lent byte afterwards.
+pub record Demand1 (file lent : List ℕ) (a : Answer) (marks : List ℕ) : Type 0 where
+  pub is-answer : a ≡ answer file (length lent) .answer
+  pub are-marks : marks ≡ flagsAfter file lent
+
+-- DEMAND 2: the kept bindings are the greatest consistent subset; proved, unproved and refuted are said exactly where they are so.
+pub record Demand2 (file lent : List ℕ) (a : Answer) (marks : List ℕ) : Type 0 where
+  pub of-bindings : (rs : List Record) → caseOf file (length lent) ≡ bindingCase rs → Shrinks (automatonIn file) (planIn file) (offeredIn file) marks a
+  pub of-path : (rs : List Record) (ls : List ℕ) → caseOf file (length lent) ≡ pathCase rs ls → Replayed (automatonIn file) (planIn file) (lettersIn file) a
+
+-- DEMAND 3: after `proved` the safety rule holds for that file's plan and automaton.
+abbrev pub Demand3 : List ℕ → Answer → Type 0
+Demand3 file a = (kept total rounds : ℕ) → a ≡ proved kept total rounds → SafetyRule (automatonIn file) (planIn file)
