@@ -55,10 +55,10 @@ module _ {rs : List Record} (ok : Passed rs) (bytes : (i : ℕ) → Bytes (getD 
       let p = n .payload in
       let four : length p ≡ 4 = eqb-true (length p) 4 (not-false (eqb (length p) 4) (n .passed-tests .fits)) in
       let long : length (sortsOf (n .earlier)) ≡ suc i = (
-        let a = grow-length sortFrom (o ∷ []) (payloads sort (n .earlier)) in
-        let b = ap length (n .before) in
-        let c = length-take-le i (payloads sort rs) (omega arith) in
-        omega arith) in
+      let a = grow-length sortFrom (o ∷ []) (payloads sort (n .earlier)) in
+      let b = ap length (n .before) in
+      let c = length-take-le i (payloads sort rs) (omega arith) in
+      omega arith) in
       let (x, y) = or-false (leb (length (sortsOf (n .earlier))) (word p 0)) (leb (length (sortsOf (n .earlier))) (word p 2)) (n .passed-tests .ranges) in
       let x′ = leb-false (length (sortsOf (n .earlier))) (word p 0) x in
       let y′ = leb-false (length (sortsOf (n .earlier))) (word p 2) y in

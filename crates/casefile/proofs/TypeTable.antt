@@ -103,10 +103,10 @@ module _ {rs : List Record} (ok : Passed rs) (bytes : (i : ℕ) → Bytes (getD 
   type-shape i h =
       let n = entry ok type i h in
       let few : count type (n .earlier) ≤ i = (
-        let a = count-payloads type (n .earlier) in
-        let b = ap length (n .before) in
-        let c = length-take-le i (payloads type rs) (omega arith) in
-        omega arith) in
+      let a = count-payloads type (n .earlier) in
+      let b = ap length (n .before) in
+      let c = length-take-le i (payloads type rs) (omega arith) in
+      omega arith) in
       subst (Shape i) (sym (n .here)) (tested-shape (n .earlier) i few (n .payload) (subst Bytes (n .here) (bytes i)) (n .passed-tests))
 
   -- each type is made of the table by its record

@@ -23,7 +23,6 @@ pub record Refusal : Type 0 where
   pub place : ℕ
 
 infix 5 refuse_at_when_
-
 -- a refusal and the test that gives it
 pub data Test : Type 0 where
   refuse_at_when_ : ℕ → ℕ → Bool → Test

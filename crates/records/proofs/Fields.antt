@@ -2,11 +2,12 @@
 use Prim.Native.Nat.{ℕ, zero, suc, _+_, _*_, _^_, _<_, _≤_}
 use mathlib.Core.Path.{_≡_, refl, sym, ap, _∙_}
 use mathlib.Core.List.{List, [], _∷_, _++_}
-use native.Mathlib.Nat.{zero-add, add-zero, suc-add, mul-assoc, pow-succ', le-of-suc-le-suc, not-suc-le-zero}
+use native.Mathlib.Nat.{zero-add, add-zero, suc-add, mul-assoc, mul-le-mul-left, one-le-pow, pow-succ', le-of-suc-le-suc, not-suc-le-zero}
 use native.Mathlib.Omega.{arith}
-use lib.ListN.{length, getD, take, drop}
+use lib.ListN.{length, getD, take, drop, List·getD-eq-default}
+use lib.Pow.{pow-add}
 use lib.Seq.{getD-take, getD-drop}
-use Rattle.records.specs.Fields.{field}
+use Rattle.records.specs.Fields.{field, IsField}
 
 -- every element is a byte
 abbrev pub Bytes : List ℕ → Type 0
@@ -55,3 +56,29 @@ field-part zero s k n i h = refl
 field-part (suc w) s k n i h =
     rw (getD-take n (drop k s) i 0 (omega arith), getD-drop, field-part w s k n (i + 1) (omega arith))
     (ap (λ m. getD s (k + i) 0 + 256 * field w s m) (omega arith))
+
+-- a field past the end is 0
+pub field-out : (w : ℕ) (s : List ℕ) (i : ℕ) → length s ≤ i → field w s i ≡ 0
+unfolding field
+field-out zero s i h = refl
+field-out (suc w) s i h = rw (List·getD-eq-default s 0 h, field-out w s (i + 1) (omega arith))
+
+-- the number 0 is any field past the end
+pub is-field-out : (w : ℕ) (s : List ℕ) (i : ℕ) → length s ≤ i → IsField w s i 0
+is-field-out w s i h = record { value = sym (field-out w s i h); bound = one-le-pow w 256 (omega arith) }
+
+-- the number in a byte is the field of that byte
+pub is-field-one : (s : List ℕ) (i b : ℕ) → b ≡ getD s i 0 → b < 256 → IsField 1 s i b
+unfolding field
+is-field-one s i b e h = record { value = omega arith; bound = omega arith }
+
+join-lt : (p q a b : ℕ) → a < p → b < q → a + p * b < p * q
+join-lt p q a b ha hb = let m : p * suc b ≤ p * q = mul-le-mul-left p hb in omega arith
+
+-- two fields side by side are one field
+pub is-field-join : (v w : ℕ) (s : List ℕ) (i a b : ℕ) → IsField v s i a → IsField w s (i + v) b → IsField (v + w) s i (a + 256 ^ v * b)
+is-field-join v w s i a b x y =
+    record {
+      value = rw (field-split, ← x .value, ← y .value);
+      bound = rw pow-add (join-lt (256 ^ v) (256 ^ w) a b (x .bound) (y .bound));
+    }

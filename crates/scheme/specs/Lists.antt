@@ -6,7 +6,6 @@ use mathlib.Core.Option.{Option, none, some}
 -- A branch with a recursive call in it is bound by a `let` above the choice: a `let` is computed only where it is read.
 module _ {A : Type 0} where
   infixr 10 if_then_else_
-
   -- one of two values, by a test
   abbrev pub if_then_else_ : Bool → A → A → A
   if true then x else y = x

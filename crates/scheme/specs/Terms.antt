@@ -3,7 +3,6 @@ use Prim.Native.Nat.{ℕ, zero, suc, _+_}
 use mathlib.Core.List.{List, [], _∷_}
 
 infixr 40 _∷ᵗ_ _++ᵗ_
-
 -- what stands in front of a term: a constructor, a nonterminal or a parameter, by its number
 pub data Head : Type 0 where
   con : ℕ → Head

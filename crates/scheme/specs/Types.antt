@@ -6,7 +6,6 @@ use lib.Dec.{eqb}
 use Rattle.scheme.specs.Sorts.{Sort, o, _⇒_}
 
 infixr 40 _∷ʸ_
-
 mutual
   -- a state, or an arrow from a set of members to a result
   pub data Ty : Type 0 where
