@@ -158,3 +158,16 @@ module _ {A : Type 0} where
       go : (b : Bool) → select p (xs ++ ys) ≡ select p xs ++ select p ys → keepIf b x (select p (xs ++ ys)) ≡ keepIf b x (select p xs) ++ select p ys
       go true e = λ i. x ∷ e i
       go false e = e
+
+  -- a walk over a list that looks for an element that passes: what is left decides
+  pub any-miss : (p : A → Bool) (l : List A) (x : A) (rest : List A) → l ≡ x ∷ rest → p x ≡ false → any p l ≡ any p rest
+  unfolding any
+  any-miss p l x rest e f = rw (e, any, f) refl
+
+  pub any-hit : (p : A → Bool) (l : List A) (x : A) (rest : List A) → l ≡ x ∷ rest → p x ≡ true → any p l ≡ true
+  unfolding any
+  any-hit p l x rest e f = rw (e, any, f) refl
+
+  pub any-done : (p : A → Bool) (l : List A) → l ≡ [] → any p l ≡ false
+  unfolding any
+  any-done p l e = rw (e, any) refl
