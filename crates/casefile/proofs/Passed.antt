@@ -49,7 +49,7 @@ tested rs r k e =
     let (d, i) = first-none 7 (r .place) (misplaced rs (r .payload) k) _ h in
     record { fits = a; few = b; ranges = c; placed = d }
 
-kindOf-number : (k : Kind) → kindOf (number k) ≡ some k
+pub kindOf-number : (k : Kind) → kindOf (number k) ≡ some k
 unfolding kindOf number
 kindOf-number sort = refl
 kindOf-number constructor = refl
