@@ -1,2 +1,3 @@
 pub mod Index
 pub mod Codes
+pub mod Tests

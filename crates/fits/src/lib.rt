@@ -1,0 +1,1 @@
+// The fit of types to sorts.
