@@ -9,7 +9,7 @@ use borrow.Author.Tests.{lt-ltb, le-ltb, le-leb, lt-leb, eq-eqb, ne-eqb}
 use lib.Dec.{leb, ltb, eqb}
 use lib.ListN.{length, getD, drop, length-drop, drop-of-length-le}
 use lib.Seq.{drop-cons}
-use Rattle.scheme.specs.Lists.{any}
+use Rattle.scheme.specs.Lists.{if_then_else_, any}
 use Rattle.scheme.proofs.Lists.{any-miss, any-hit, any-done}
 use Rattle.records.specs.Fields.{field, byte, word}
 use Rattle.casefile.specs.Tables.{Cell, cellsOf, words}
@@ -204,3 +204,10 @@ pub entries-par : (cs ns ps tag : ℕ) → (tag ≡ 0 → ⊥) → (tag ≡ 1 �
 entries-par cs ns ps zero e f = absurd (e refl)
 entries-par cs ns ps (suc zero) e f = absurd (f refl)
 entries-par cs ns ps (suc (suc t)) e f = refl
+
+-- the argument count of a listed sort
+pub arguments-none : (lens : List ℕ) (n s : ℕ) → n < s → 0 ≡ (if leb s n then getD lens s 0 else 0)
+arguments-none lens n s h = sym (ap (λ v. if v then getD lens s 0 else 0) (lt-leb s n h))
+
+pub arguments-there : (lens : List ℕ) (n s r : ℕ) → s ≤ n → r ≡ getD lens s 0 → r ≡ (if leb s n then getD lens s 0 else 0)
+arguments-there lens n s r h e = e ∙ sym (ap (λ v. if v then getD lens s 0 else 0) (le-leb s n h))

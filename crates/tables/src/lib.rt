@@ -7,7 +7,7 @@ ghost use Prim.Native.Nat.{ℕ, _+_, _<_, _≤_};
 ghost use mathlib.Core.List.{List, [], _∷_};
 ghost use lib.ListN.{length, getD, drop};
 ghost use lib.Dec.{leb};
-ghost use Rattle.scheme.specs.Lists.{any};
+ghost use Rattle.scheme.specs.Lists.{if_then_else_, any};
 ghost use Rattle.casefile.specs.Tables.{words, cellsOf};
 ghost use Rattle.casefile.specs.Refusals.{ascends, wrongCell};
 ghost use Rattle.tables.specs.Matching.{matches, cellAt, samePayload};
@@ -149,6 +149,16 @@ fn repeats(file: &[u8], index: &[u16], base: usize, n: usize, p: &[u8]) -> bool
     false
 }
 
+// How many arguments sort s has, where it is sort 0 or one of n listed ones, else 0.
+fn arguments_of(lens: &[u16], n: usize, s: usize) -> usize
+    ensures { λ r. ⌜ r ≡ (if leb s n then getD (now (lens .entry)) s 0 else 0) ⌝ }
+{
+    if n < s {
+        return 0;
+    }
+    place_at(lens, s)
+}
+
 // The code of the payload p of a sort after n sorts; lens holds their argument counts.
 pub fn test_sort(file: &[u8], index: &[u16], lens: &[u16], n: usize, p: &[u8]) -> usize
     ensures { λ r. ⌜ TestsSort (now (file .entry)) (now (index .entry)) (now (lens .entry)) n (now (p .entry)) r ⌝ }
@@ -161,8 +171,7 @@ pub fn test_sort(file: &[u8], index: &[u16], lens: &[u16], n: usize, p: &[u8]) -
     }
     let from = word_at(p, 0);
     let to = word_at(p, 2);
-    let arguments = place_at(lens, to);
-    if to <= n && 8 <= arguments {
+    if 8 <= arguments_of(lens, n, to) {
         return 5;
     }
     if n < from {

@@ -1,3 +1,11 @@
+use Prim.Native.Nat.{ℕ, _+_, _-_, _<_, _≤_}
+use mathlib.Core.Path.{_≡_, refl, sym, ap, subst, _∙_}
+use mathlib.Core.Logic.{⊎-elim}
+use mathlib.Core.List.{List}
+use native.Mathlib.Omega.{arith}
+use borrow.Author.Needs.{needs}
+use lib.ListN.{length, drop}
+use Rattle.tables.proofs.Seeking.{Sought, seek-start, seek-miss, seek-hit, seek-done, base-few}
 use Rattle.tables.proofs.repeats.Statement.{statement}
 use Rattle.tables.proofs.repeats.Tie as tie
 use Rattle.tables.proofs.repeats.Reads as reads
@@ -6,54 +14,43 @@ use Rattle.entries.proofs.place_at.Reads as place-at-reads
 use Rattle.tables.proofs.same_payload.Reads as same-payload-reads
 
 abbrev Inv-loop : tie.InvT-loop
-Inv-loop file index base n p i₀ i = ?
+Inv-loop file index base n p i₀ i = (i ≤ n) × Sought file index base n p i
 
 abbrev μ-loop : tie.MeasureT-loop
-μ-loop file index base n p i₀ i = ?
+μ-loop file index base n p i₀ i = n - i
 
--- src/lib.rt:136:9
 returns : tie.Need-returns Inv-loop μ-loop
-returns c = ?
+returns c = λ k rs ib ix m l. absurd (let few = base-few _ k ib in omega arith)
 
--- src/lib.rt:139:9
 returns-2 : tie.Need-returns-2 Inv-loop μ-loop
-returns-2 c = ?
+returns-2 c = λ k rs ib ix m l. absurd (omega arith)
 
--- src/lib.rt:142:5
 loop-holds : tie.Need-loop-holds Inv-loop μ-loop
-loop-holds c = ?
+loop-holds c = (omega arith, seek-start _ _ _ _ _)
 
--- src/lib.rt:143:34
 add-place-at : tie.Need-add-place-at Inv-loop μ-loop
-add-place-at c = ?
+add-place-at c = omega arith
 
--- src/lib.rt:143:13
 place-at-requires : tie.Need-place-at-requires Inv-loop μ-loop
-place-at-requires c κs = ?
+place-at-requires c κs = search needs
 
--- src/lib.rt:144:12
 same-payload-requires : tie.Need-same-payload-requires Inv-loop μ-loop
-same-payload-requires c κs = ?
+same-payload-requires c κs = search needs
 
--- src/lib.rt:145:13
 returns-3 : tie.Need-returns-3 Inv-loop μ-loop
-returns-3 c = ?
+returns-3 c = seek-hit _ _ _ _ _ _ _ _ (omega arith) (c .before .before .place-at .ensures .value) (c .before .before .place-at .ensures .bound) (c .before .same-payload .ensures) (c .before .before .before .before .loop .inv .1) (c .if3 .taken)
 
--- src/lib.rt:147:13
 add-i : tie.Need-add-i Inv-loop μ-loop
-add-i c = ?
+add-i c = omega arith
 
--- src/lib.rt:142:5
 loop-less : tie.Need-loop-less Inv-loop μ-loop
-loop-less c = ?
+loop-less c = omega arith
 
--- src/lib.rt:142:5
 loop-again : tie.Need-loop-again Inv-loop μ-loop
-loop-again c = ?
+loop-again c = (omega arith, seek-miss _ _ _ _ _ _ _ _ (omega arith) (c .before .before .place-at .ensures .value) (c .before .before .place-at .ensures .bound) (c .before .same-payload .ensures) (c .before .before .before .before .loop .inv .1) (c .if3 .left))
 
--- src/lib.rt:132:1
 returns-4 : tie.Need-returns-4 Inv-loop μ-loop
-returns-4 c = ?
+returns-4 c = seek-done _ _ _ _ _ (c .before .loop .i) (c .before .loop .inv .1) (omega arith)
 
 pub repeats-spec : {M : Type 1} → statement M
 repeats-spec =

@@ -1,3 +1,10 @@
+use Prim.Native.Nat.{ℕ, _+_, _-_, _<_, _≤_}
+use mathlib.Core.Path.{_≡_, refl, sym, ap, subst, _∙_}
+use mathlib.Core.Logic.{⊎-elim}
+use mathlib.Core.List.{List}
+use native.Mathlib.Omega.{arith}
+use lib.ListN.{length, drop}
+use Rattle.tables.proofs.Seeking.{payload-other, payload-same}
 use borrow.Author.Needs.{needs}
 use Rattle.tables.proofs.same_payload.Statement.{statement}
 use Rattle.tables.proofs.same_payload.Tie as tie
@@ -6,25 +13,20 @@ use Rattle.tables.proofs.same_payload.Lts as lts
 use Rattle.records.proofs.word_at.Reads as word-at-reads
 use Rattle.tables.proofs.matches_at.Reads as matches-at-reads
 
--- src/lib.rt:123:9
 returns : tie.Need-returns
-returns c = ?
+returns c = λ h k l. absurd (omega arith)
 
--- src/lib.rt:125:8
 word-at-requires : tie.Need-word-at-requires
 word-at-requires c κs = search needs
 
--- src/lib.rt:126:9
 returns-2 : tie.Need-returns-2
-returns-2 c = ?
+returns-2 c = λ h k l. payload-other _ _ _ _ (c .before .word-at .ensures .value) (c .if2 .taken)
 
--- src/lib.rt:128:5
 matches-at-requires : tie.Need-matches-at-requires
 matches-at-requires c κs = search needs
 
--- src/lib.rt:119:1
 returns-3 : tie.Need-returns-3
-returns-3 c = ?
+returns-3 c = λ h k l. payload-same _ _ _ _ _ (c .before .before .word-at .ensures .value) (c .before .if2 .left) (c .matches-at .ensures l k)
 
 pub same-payload-spec : {M : Type 1} → statement M
 same-payload-spec =

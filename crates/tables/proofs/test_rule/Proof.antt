@@ -1,3 +1,11 @@
+use Prim.Native.Nat.{ℕ, _+_, _-_, _<_, _≤_}
+use mathlib.Core.Path.{_≡_, refl, sym, ap, subst, _∙_}
+use mathlib.Core.Logic.{⊎-elim}
+use mathlib.Core.List.{List}
+use native.Mathlib.Omega.{arith}
+use lib.ListN.{length, drop}
+use Rattle.tables.proofs.Codes.{rule-short, rule-odd, rule-large, rule-none, rule-rest}
+use Rattle.scheme.specs.Lists.{if_then_else_}
 use borrow.Author.Needs.{needs}
 use Rattle.tables.proofs.test_rule.Statement.{statement}
 use Rattle.tables.proofs.test_rule.Tie as tie
@@ -7,53 +15,41 @@ use Rattle.entries.proofs.place_at.Reads as place-at-reads
 use Rattle.records.proofs.word_at.Reads as word-at-reads
 use Rattle.tables.proofs.wrong_cells.Reads as wrong-cells-reads
 
--- src/lib.rt:185:9
 returns : tie.Need-returns
-returns c = ?
+returns c = λ sorts rs co sl cn ix ft fw li. rule-short (c .before .before .before .before .before .args .file .now) (c .before .before .before .before .before .args .index .now) (c .before .before .before .before .before .args .lens .now) (c .before .before .before .before .before .args .n) sorts (c .before .before .before .before .before .args .constructors) (c .before .before .before .before .before .args .nonterminals) (c .before .before .before .before .before .args .p .now) rs co sl cn ix ft fw li (c .if1 .taken)
 
--- src/lib.rt:188:9
 returns-2 : tie.Need-returns-2
-returns-2 c = ?
+returns-2 c = λ sorts rs co sl cn ix ft fw li. rule-odd (c .before .before .before .before .before .before .args .file .now) (c .before .before .before .before .before .before .args .index .now) (c .before .before .before .before .before .before .args .lens .now) (c .before .before .before .before .before .before .args .n) sorts (c .before .before .before .before .before .before .args .constructors) (c .before .before .before .before .before .before .args .nonterminals) (c .before .before .before .before .before .before .args .p .now) rs co sl cn ix ft fw li (omega arith) (c .if2 .taken)
 
--- src/lib.rt:191:9
 returns-3 : tie.Need-returns-3
-returns-3 c = ?
+returns-3 c = λ sorts rs co sl cn ix ft fw li. rule-large (c .before .before .before .before .before .before .before .args .file .now) (c .before .before .before .before .before .before .before .args .index .now) (c .before .before .before .before .before .before .before .args .lens .now) (c .before .before .before .before .before .before .before .args .n) sorts (c .before .before .before .before .before .before .before .args .constructors) (c .before .before .before .before .before .before .before .args .nonterminals) (c .before .before .before .before .before .before .before .args .p .now) rs co sl cn ix ft fw li (omega arith) (c .before .if2 .left) (c .if3 .taken)
 
--- src/lib.rt:194:9
 returns-4 : tie.Need-returns-4
-returns-4 c = ?
+returns-4 c = λ sorts rs co sl cn ix ft fw li. rule-none (c .before .before .before .before .before .before .before .before .args .file .now) (c .before .before .before .before .before .before .before .before .args .index .now) (c .before .before .before .before .before .before .before .before .args .lens .now) (c .before .before .before .before .before .before .before .before .args .n) sorts (c .before .before .before .before .before .before .before .before .args .constructors) (c .before .before .before .before .before .before .before .before .args .nonterminals) (c .before .before .before .before .before .before .before .before .args .p .now) rs co sl cn ix ft fw li (omega arith) (c .before .before .if2 .left) (omega arith) (c .if4 .taken)
 
--- src/lib.rt:197:9
 returns-5 : tie.Need-returns-5
-returns-5 c = search needs
+returns-5 c = λ sorts rs co sl cn ix ft fw li. absurd (omega arith)
 
--- src/lib.rt:199:43
 add-place-at : tie.Need-add-place-at
 add-place-at c = search needs
 
--- src/lib.rt:199:27
 place-at-requires : tie.Need-place-at-requires
 place-at-requires c κs = search needs
 
--- src/lib.rt:199:9
 word-at-requires : tie.Need-word-at-requires
 word-at-requires c κs = search needs
 
--- src/lib.rt:200:9
 place-at-requires-2 : tie.Need-place-at-requires-2
 place-at-requires-2 c κs = search needs
 
--- src/lib.rt:201:8
 wrong-cells-requires : tie.Need-wrong-cells-requires
 wrong-cells-requires c κs = search needs
 
--- src/lib.rt:202:9
 returns-6 : tie.Need-returns-6
-returns-6 c = ?
+returns-6 c = λ sorts rs co sl cn ix ft fw li. sym (rule-rest (c .before .before .before .before .before .before .before .before .before .before .before .before .before .before .args .file .now) (c .before .before .before .before .before .before .before .before .before .before .before .before .before .before .args .index .now) (c .before .before .before .before .before .before .before .before .before .before .before .before .before .before .args .lens .now) (c .before .before .before .before .before .before .before .before .before .before .before .before .before .before .args .n) sorts (c .before .before .before .before .before .before .before .before .before .before .before .before .before .before .args .constructors) (c .before .before .before .before .before .before .before .before .before .before .before .before .before .before .args .nonterminals) (c .before .before .before .before .before .before .before .before .before .before .before .before .before .before .args .p .now) rs co sl cn ix ft fw li (omega arith) (c .before .before .before .before .before .before .before .before .if2 .left) (omega arith) _ _ _ (c .before .before .before .before .place-at .ensures .value) (c .before .before .before .word-at .ensures .value) (c .before .before .place-at2 .ensures .value) (omega arith) _ (c .before .wrong-cells .ensures) ∙ ap (λ v. if v then 6 else 0) (c .if6 .taken))
 
--- src/lib.rt:181:1
 returns-7 : tie.Need-returns-7
-returns-7 c = ?
+returns-7 c = λ sorts rs co sl cn ix ft fw li. sym (rule-rest (c .before .before .before .before .before .before .before .before .before .before .before .before .before .before .args .file .now) (c .before .before .before .before .before .before .before .before .before .before .before .before .before .before .args .index .now) (c .before .before .before .before .before .before .before .before .before .before .before .before .before .before .args .lens .now) (c .before .before .before .before .before .before .before .before .before .before .before .before .before .before .args .n) sorts (c .before .before .before .before .before .before .before .before .before .before .before .before .before .before .args .constructors) (c .before .before .before .before .before .before .before .before .before .before .before .before .before .before .args .nonterminals) (c .before .before .before .before .before .before .before .before .before .before .before .before .before .before .args .p .now) rs co sl cn ix ft fw li (omega arith) (c .before .before .before .before .before .before .before .before .if2 .left) (omega arith) _ _ _ (c .before .before .before .before .place-at .ensures .value) (c .before .before .before .word-at .ensures .value) (c .before .before .place-at2 .ensures .value) (omega arith) _ (c .before .wrong-cells .ensures) ∙ ap (λ v. if v then 6 else 0) (c .if6 .left))
 
 pub test-rule-spec : {M : Type 1} → statement M
 test-rule-spec =
