@@ -1,1 +1,319 @@
-// The bodies of rules.
+// The bodies of rules: whether one is a single term of sort o within 64 levels, and where each of its subterms ends.
+use records::byte_at;
+use records::word_at;
+ghost use mathlib.Core.Path.{_≡_};
+ghost use mathlib.Core.Bool.{_&&_, false};
+ghost use Prim.Native.Nat.{_<_, _≤_, _/_, max};
+ghost use lib.Dec.{eqb};
+ghost use lib.ListN.{length, getD};
+ghost use Rattle.bodies.specs.Tables.{IsEntry, Stored};
+ghost use Rattle.bodies.specs.Sorted.{SortArrays, TreeCodes, Applied, ArrowTo, NextTree, ParameterSort};
+ghost use mathlib.Core.List.{List};
+ghost use Rattle.scheme.specs.Sorts.{Sort};
+ghost use Rattle.bodies.specs.Bodies.{ArgumentsFit, HeadCode, NodeRead, Scanned, BodyDecided};
+
+// What the arguments of a node come to: whether they fit, the node behind them, the code of the sort that is left, their depth.
+pub struct Arguments {
+    pub fit: bool,
+    pub end: usize,
+    pub sort: usize,
+    pub deep: usize,
+}
+
+// The entry of a table at a place; 0 past the end.
+pub fn entry_at(a: &[u16], i: usize) -> usize
+    ensures { λ r. ⌜ IsEntry (now (a .entry)) i r ⌝ }
+{
+    if i < a.len() { a[i] as usize } else { 0 }
+}
+
+// A number as an entry of a table; 0 where it does not fit one.
+fn narrow(v: usize) -> u16
+    ensures { λ r. ⌜ (v < 65536 → r ≡ v) ⌝ }
+{
+    if v < 65536 { v as u16 } else { 0 }
+}
+
+// Stores a number at a place of a table that has the place.
+fn put(a: &mut [u16], i: usize, v: usize)
+    ensures { λ _. ⌜ Stored (now (a .entry)) (now (a .exit)) i v ⌝ }
+{
+    let w = narrow(v);
+    if i < a.len() {
+        a[i] = w;
+    }
+}
+
+// The larger of two numbers.
+fn larger(a: usize, b: usize) -> usize
+    ensures { λ r. ⌜ r ≡ max a b ⌝ }
+{
+    if a < b { b } else { a }
+}
+
+// Is sort i from o to sort `to`?
+fn is_arrow(froms: &[u16], tos: &[u16], i: usize, to: usize) -> bool
+    ensures { λ r. ⌜ r ≡ (eqb (getD (now (froms .entry)) i 0) 0 && eqb (getD (now (tos .entry)) i 0) to) ⌝ }
+{
+    if entry_at(froms, i) != 0 {
+        return false;
+    }
+    entry_at(tos, i) == to
+}
+
+// The number of the sort from o to sort `to`, or n where none of the n sorts is it.
+fn arrow_to(froms: &[u16], tos: &[u16], n: usize, to: usize) -> usize
+    ensures { λ r. ⌜ ArrowTo (now (froms .entry)) (now (tos .entry)) n to r ⌝ }
+{
+    let mut i: usize = 1;
+    while i < n {
+        if is_arrow(froms, tos, i, to) {
+            return i;
+        }
+        i += 1;
+    }
+    n
+}
+
+// The code of the sort of constructors with one argument more than those of sort `code`; `other` where it is not listed.
+fn next_tree(froms: &[u16], tos: &[u16], n: usize, code: u16, other: u16) -> u16
+    ensures { λ r. ⌜ NextTree (now (froms .entry)) (now (tos .entry)) n code other r ⌝ }
+{
+    if 1000 <= code {
+        return other;
+    }
+    let r = arrow_to(froms, tos, n, code as usize);
+    if r < n { narrow(r) } else { other }
+}
+
+// The codes of the sorts of constructors with 0 to 4 arguments.
+pub fn tree_codes(froms: &[u16], tos: &[u16], n: usize) -> [u16; 5]
+    ensures { λ r. ⌜ ((sorts : List Sort) → SortArrays sorts n (now (froms .entry)) (now (tos .entry)) → TreeCodes sorts r) ⌝ }
+{
+    let one = next_tree(froms, tos, n, 0, 1001);
+    let two = next_tree(froms, tos, n, one, 1002);
+    let three = next_tree(froms, tos, n, two, 1003);
+    let four = next_tree(froms, tos, n, three, 1004);
+    [0, one, two, three, four]
+}
+
+// The number of the sort of parameter j of a nonterminal whose sort has the number `own`.
+fn parameter(froms: &[u16], tos: &[u16], own: usize, j: usize) -> usize
+    ensures { λ r. ⌜ ParameterSort (now (froms .entry)) (now (tos .entry)) own j r ⌝ }
+{
+    let mut s = own;
+    let mut steps = j;
+    while 0 < steps {
+        s = entry_at(tos, s);
+        steps -= 1;
+    }
+    entry_at(froms, s)
+}
+
+// The code of a head's sort with one argument off; 2000 where the argument does not fit.
+fn apply(froms: &[u16], tos: &[u16], trees: &[u16], head: usize, argument: usize) -> usize
+    ensures { λ r. ⌜ Applied (now (froms .entry)) (now (tos .entry)) (now (trees .entry)) head argument r ⌝ }
+{
+    if 1000 < head {
+        if argument != 0 {
+            return 2000;
+        }
+        return entry_at(trees, head - 1001);
+    }
+    if head == 0 {
+        return 2000;
+    }
+    if argument != entry_at(froms, head) {
+        return 2000;
+    }
+    entry_at(tos, head)
+}
+
+// Arguments that do not fit.
+fn misfit() -> Arguments
+    ensures { λ r. ⌜ r .fit ≡ false ⌝ }
+{
+    Arguments {
+        fit: false,
+        end: 0,
+        sort: 0,
+        deep: 0,
+    }
+}
+
+// What k arguments from node `at` on come to, of a head whose sort has the code `head`; the tables hold n nodes.
+fn arguments_fit(
+    froms: &[u16],
+    tos: &[u16],
+    trees: &[u16],
+    ends: &[u16],
+    codes: &[u16],
+    depths: &[u16],
+    n: usize,
+    at: usize,
+    k: usize,
+    head: usize,
+) -> Arguments
+    ensures { λ r. ⌜ ArgumentsFit (now (froms .entry)) (now (tos .entry)) (now (trees .entry)) (now (ends .entry)) (now (codes .entry)) (now (depths .entry)) n at k head r ⌝ }
+{
+    let mut end = at;
+    let mut left = k;
+    let mut sort = head;
+    let mut deep: usize = 0;
+    while 0 < left {
+        if n <= end {
+            return misfit();
+        }
+        sort = apply(froms, tos, trees, sort, entry_at(codes, end));
+        if sort == 2000 {
+            return misfit();
+        }
+        deep = larger(deep, entry_at(depths, end));
+        end = entry_at(ends, end);
+        left -= 1;
+    }
+    Arguments {
+        fit: true,
+        end,
+        sort,
+        deep,
+    }
+}
+
+// The code of the sort of the head of node i of a body.
+fn head_code(
+    p: &[u8],
+    froms: &[u16],
+    tos: &[u16],
+    trees: &[u16],
+    arities: &[u16],
+    signatures: &[u16],
+    own: usize,
+    i: usize,
+) -> usize
+    requires { ⌜ i < 256 ⌝ }
+    ensures { λ r. ⌜ HeadCode (now (p .entry)) (now (froms .entry)) (now (tos .entry)) (now (trees .entry)) (now (arities .entry)) (now (signatures .entry)) own i r ⌝ }
+{
+    let tag = byte_at(p, i * 4);
+    let number = word_at(p, i * 4 + 1);
+    if tag == 0 {
+        return entry_at(trees, entry_at(arities, number));
+    }
+    if tag == 1 {
+        return entry_at(signatures, number);
+    }
+    parameter(froms, tos, own, number)
+}
+
+// Reads node i of a body, where the tables hold the nodes behind it, and fills the tables; false where it lacks an argument or one does not fit, or it nests over 64 deep.
+fn read_node(
+    p: &[u8],
+    froms: &[u16],
+    tos: &[u16],
+    trees: &[u16],
+    arities: &[u16],
+    signatures: &[u16],
+    own: usize,
+    ends: &mut [u16],
+    codes: &mut [u16],
+    depths: &mut [u16],
+    i: usize,
+) -> bool
+    requires { ⌜ i < 256 ⌝ }
+    ensures { λ r. ⌜ NodeRead (now (p .entry)) (now (froms .entry)) (now (tos .entry)) (now (trees .entry)) (now (arities .entry)) (now (signatures .entry)) own i (now (ends .entry)) (now (codes .entry)) (now (depths .entry)) (now (ends .exit)) (now (codes .exit)) (now (depths .exit)) r ⌝ }
+{
+    let n = p.len() / 4;
+    let head = head_code(p, froms, tos, trees, arities, signatures, own, i);
+    let k = byte_at(p, i * 4 + 3);
+    let a = arguments_fit(froms, tos, trees, ends, codes, depths, n, i + 1, k, head);
+    if !a.fit {
+        return false;
+    }
+    if 64 <= a.deep {
+        return false;
+    }
+    put(ends, i, a.end);
+    put(codes, i, a.sort);
+    put(depths, i, a.deep + 1);
+    true
+}
+
+// Reads the nodes of a body, the last one first, and fills the tables; false where one of them does not fit.
+fn scan(
+    p: &[u8],
+    froms: &[u16],
+    tos: &[u16],
+    trees: &[u16],
+    arities: &[u16],
+    signatures: &[u16],
+    own: usize,
+    ends: &mut [u16],
+    codes: &mut [u16],
+    depths: &mut [u16],
+) -> bool
+    requires { ⌜ (length (now p) / 4 ≤ 256) × (length (now codes) ≡ 256) × (length (now depths) ≡ 256) ⌝ }
+    ensures { λ r. ⌜ Scanned (now (p .entry)) (now (froms .entry)) (now (tos .entry)) (now (trees .entry)) (now (arities .entry)) (now (signatures .entry)) own (now (ends .entry)) (now (ends .exit)) (now (codes .exit)) (now (depths .exit)) r ⌝ }
+{
+    let mut i = p.len() / 4;
+    while 0 < i {
+        i -= 1;
+        if !read_node(
+            p,
+            froms,
+            tos,
+            trees,
+            arities,
+            signatures,
+            own,
+            ends,
+            codes,
+            depths,
+            i,
+        ) {
+            return false;
+        }
+    }
+    true
+}
+
+// Is the body one term of sort o within 64 levels? Where it is, `ends` has for each node the number of the node behind its subterm.
+pub fn body_fits(
+    p: &[u8],
+    froms: &[u16],
+    tos: &[u16],
+    trees: &[u16],
+    arities: &[u16],
+    signatures: &[u16],
+    own: usize,
+    ends: &mut [u16],
+) -> bool
+    ensures { λ r. ⌜ BodyDecided (now (p .entry)) (now (froms .entry)) (now (tos .entry)) (now (trees .entry)) (now (arities .entry)) (now (signatures .entry)) own (now (ends .entry)) (now (ends .exit)) r ⌝ }
+{
+    let n = p.len() / 4;
+    if 256 < n {
+        return false;
+    }
+    if n == 0 {
+        return false;
+    }
+    let mut codes = [0u16; 256];
+    let mut depths = [0u16; 256];
+    if !scan(
+        p,
+        froms,
+        tos,
+        trees,
+        arities,
+        signatures,
+        own,
+        ends,
+        &mut codes,
+        &mut depths,
+    ) {
+        return false;
+    }
+    if entry_at(ends, 0) != n {
+        return false;
+    }
+    entry_at(&codes, 0) == 0
+}

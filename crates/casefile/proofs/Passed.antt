@@ -94,6 +94,8 @@ payloads-other k rs r e = rw (select-append, e, append-nil) refl
 -- number i of a kind: the records before it, which hold the first i of the kind, and the tests that it passed after them
 pub record Entry (k : Kind) (rs : List Record) (i : ℕ) : Type 0 where
   pub earlier : List Record
+  pub later : List Record
+  pub together : earlier ++ later ≡ rs
   pub passed : Passed earlier
   pub payload : List ℕ
   pub here : getD (payloads k rs) i [] ≡ payload
@@ -104,6 +106,8 @@ entry-more : (k : Kind) (rs : List Record) (r : Record) (i : ℕ) (more : List (
 entry-more k rs r i more e h n =
     record {
       earlier = n .earlier;
+      later = n .later ++ (r ∷ []);
+      together = sym (append-assoc (n .earlier) (n .later) (r ∷ [])) ∙ ap (λ l. l ++ (r ∷ [])) (n .together);
       passed = n .passed;
       payload = n .payload;
       here = ap (λ l. getD l i []) e ∙ List·getD-append (payloads k rs) more [] i h ∙ n .here;
@@ -115,6 +119,8 @@ entry-last : (k : Kind) (rs : List Record) (r : Record) → Passed rs → refuse
 entry-last k rs r ok e f =
     record {
       earlier = rs;
+      later = r ∷ [];
+      together = refl;
       passed = ok;
       payload = r .payload;
       here = ap (λ l. getD l (length (payloads k rs)) []) (payloads-more k rs r f) ∙ getD-append-seam (payloads k rs) (r .payload) [] [];

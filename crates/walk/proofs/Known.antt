@@ -120,13 +120,13 @@ module _ (file index : List ℕ) (rs : List Record) (r : Record) (k : Kind) (n :
           field-there = each (λ b p. (w off : ℕ) → off + w ≤ length p → field w file (b + off) ≡ field w p off) (λ i h. old .field-there i h) new-field;
         }
 
-number-inj : (k k′ : Kind) → number k ≡ number k′ → k ≡ k′
+pub number-inj : (k k′ : Kind) → number k ≡ number k′ → k ≡ k′
 number-inj k k′ e = some-inj (sym (kindOf-number k) ∙ ap kindOf e ∙ kindOf-number k′)
   where
     some-inj : some k ≡ some k′ → k ≡ k′
     some-inj f = cc
 
-number-few : (k : Kind) → number k < 10
+pub number-few : (k : Kind) → number k < 10
 unfolding number
 number-few sort = omega arith
 number-few constructor = omega arith
@@ -138,7 +138,7 @@ number-few type = omega arith
 number-few binding = omega arith
 number-few path = omega arith
 
-base-room : (k : Kind) (i : ℕ) → i < room k → base k + i < 3170
+pub base-room : (k : Kind) (i : ℕ) → i < room k → base k + i < 3170
 base-room sort i h = omega arith
 base-room constructor i h = omega arith
 base-room nonterminal i h = omega arith

@@ -1,1 +1,3 @@
 pub mod Known
+pub mod Storing
+pub mod Dispatch

@@ -1,0 +1,258 @@
+-- One node more: the tables hold the terms from it on, or the body is not accepted.
+use Prim.Native.Nat.{ℕ, zero, suc, _+_, _*_, _-_, _/_, _<_, _≤_, max}
+use mathlib.Core.Path.{_≡_, refl, sym, ap, ap₂, subst, _∙_}
+use mathlib.Core.Bool.{Bool, true, false, _&&_}
+use mathlib.Core.List.{List, [], _∷_}
+use mathlib.Core.Option.{Option, none, some}
+use native.Mathlib.Omega.{arith}
+use native.Mathlib.Nat.{le-of-suc-le-suc, not-suc-le-zero}
+use borrow.Author.Tests.{le-leb, leb-true, leb-false}
+use lib.Dec.{T, leb, leb→le}
+use lib.ListN.{length, getD, set, take, drop, length-set}
+use lib.Seq.{getD-set-same, getD-set-other, drop-set-lt}
+use Rattle.scheme.specs.Sorts.{Sort, o, _⇒_}
+use Rattle.scheme.specs.Sorting.{sortOf, sortAfter}
+use Rattle.scheme.specs.Terms.{Head, Term, node, Terms, []ᵗ, _∷ᵗ_, countᵗ, nodes, nodesAll}
+use Rattle.scheme.specs.Prefix.{Node, takeᵗ, dropᵗ, terms, complete, depth, deepest}
+use Rattle.scheme.proofs.Lists.{and-left, and-right, and-both, true→T}
+use Rattle.records.specs.Fields.{field}
+use Rattle.casefile.specs.Tables.{headOf, nodesOf, firstTerm}
+use Rattle.bodies.specs.Tables.{Stored}
+use Rattle.bodies.specs.Sorted.{Code, Coded}
+use Rattle.bodies.specs.Bodies.{Held, Fits, ArgumentsFit, Goods, Held-from, headsBy, Setting, cellAt, HeadCode, NodeRead}
+use Rattle.bodies.specs.declared.Arguments.{Arguments}
+use Rattle.bodies.proofs.Codes.{code-small}
+use Rattle.bodies.proofs.Loop.{after-out}
+use Rattle.bodies.proofs.Nodes.{nodeAt, nodes-length, nodes-drop}
+
+-- a table after a store
+module _ {before after : List ℕ} {i v : ℕ} (s : Stored before after i v) where
+  pub stored-length : length after ≡ length before
+  stored-length = ap length (s .after-is) ∙ length-set before i (s .word)
+
+  pub stored-here : i < length before → v < 65536 → getD after i 0 ≡ v
+  stored-here h k = ap (λ l. getD l i 0) (s .after-is) ∙ getD-set-same before i (s .word) 0 h ∙ s .word-is k
+
+  pub stored-other : (j : ℕ) → (j ≡ i → ⊥) → getD after j 0 ≡ getD before j 0
+  stored-other j h = ap (λ l. getD l j 0) (s .after-is) ∙ getD-set-other before i j (s .word) 0 h
+
+  pub stored-rest : (m : ℕ) → i < m → drop m after ≡ drop m before
+  stored-rest m h = ap (drop m) (s .after-is) ∙ drop-set-lt m before i (s .word) h
+
+module _ (hs : Head → Sort) (sorts : List Sort) (n : ℕ) where
+  module _ (ends codes depths : List ℕ) where
+    held-le : (ts : Terms) (at : ℕ) → Held hs sorts ends codes depths n ts at → at ≤ n
+    unfolding Held
+    held-le []ᵗ at h = omega arith
+    held-le (t ∷ᵗ ts) at h = let k = h .0 in omega arith
+
+    -- behind the first k terms stand the others
+    held-drop : (k : ℕ) (ts : Terms) (at : ℕ) → k ≤ countᵗ ts → Held hs sorts ends codes depths n ts at → Held hs sorts ends codes depths n (dropᵗ k ts) (at + nodesAll (takeᵗ k ts))
+    unfolding Held dropᵗ takeᵗ nodesAll countᵗ
+    held-drop zero ts at l h = let e : at ≡ at + 0 = omega arith in subst (λ x. Held hs sorts ends codes depths n ts x) e h
+    held-drop (suc k) []ᵗ at l h = absurd (omega arith)
+    held-drop (suc k) (t ∷ᵗ ts) at l h =
+        let e : at + nodes t + nodesAll (takeᵗ k ts) ≡ at + (nodes t + nodesAll (takeᵗ k ts)) = omega arith in
+        subst (λ x. Held hs sorts ends codes depths n (dropᵗ k ts) x) e (held-drop k ts (at + nodes t) (le-of-suc-le-suc l) (h .5))
+
+    -- tables that are the same from a node on
+    held-kept : (ends′ codes′ depths′ : List ℕ) (ts : Terms) (at : ℕ) → Held hs sorts ends codes depths n ts at
+        → ((j : ℕ) → at ≤ j → getD ends′ j 0 ≡ getD ends j 0) → ((j : ℕ) → at ≤ j → getD codes′ j 0 ≡ getD codes j 0) → ((j : ℕ) → at ≤ j → getD depths′ j 0 ≡ getD depths j 0)
+        → Held hs sorts ends′ codes′ depths′ n ts at
+    unfolding Held
+    held-kept ends′ codes′ depths′ []ᵗ at h e c d = h
+    held-kept ends′ codes′ depths′ (t ∷ᵗ ts) at h e c d =
+        let s = h .2 in (
+          h .0,
+          e at (omega arith) ∙ h .1,
+          (s .0, s .1, subst (λ x. Code sorts x (s .0)) (sym (c at (omega arith))) (s .2)),
+          d at (omega arith) ∙ h .3,
+          h .4,
+          held-kept ends′ codes′ depths′ ts (at + nodes t) (h .5) (λ j l. e j (omega arith)) (λ j l. c j (omega arith)) (λ j l. d j (omega arith)),
+        )
+
+-- what every body that is accepted has, each part of it has
+module _ (hs : Head → Sort) where
+  goods-join : (k : ℕ) (ts : Terms) → Goods hs (takeᵗ k ts) → Goods hs (dropᵗ k ts) → Goods hs ts
+  unfolding Goods takeᵗ dropᵗ
+  goods-join zero ts a b = b
+  goods-join (suc k) []ᵗ a b = tt
+  goods-join (suc k) (t ∷ᵗ ts) a b = (a .0, a .1, goods-join k ts (a .2) b)
+
+  goods-arguments : (ts : Terms) (s x : Sort) → sortAfter hs ts s ≡ some x → deepest ts ≤ 64 → Goods hs ts
+  unfolding Goods deepest
+  goods-arguments []ᵗ s x e d = tt
+  goods-arguments (t ∷ᵗ ts) s x e d =
+      let (a, b, es, ea, eb) = after-out hs t ts s x e in
+      ((a, ea), omega arith, goods-arguments ts b x eb (omega arith))
+
+  goods-back : (nd : Node) (ns : List Node) → Goods hs (terms (nd ∷ ns)) → Goods hs (terms ns)
+  unfolding Goods terms sortOf depth
+  goods-back nd ns g =
+      let d = g .1 in
+      goods-join (nd .count) (terms ns) (goods-arguments (takeᵗ (nd .count) (terms ns)) (hs (nd .head)) (g .0 .0) (g .0 .1) (omega arith)) (g .2)
+
+  goods-drop : (i : ℕ) (ns : List Node) → Goods hs (terms ns) → Goods hs (terms (drop i ns))
+  goods-drop zero ns g = g
+  goods-drop (suc i) [] g = g
+  goods-drop (suc i) (nd ∷ ns) g = goods-drop i ns (goods-back nd ns g)
+
+  complete-drop : (i : ℕ) (ns : List Node) → T (complete ns) → T (complete (drop i ns))
+  unfolding complete
+  complete-drop zero ns c = c
+  complete-drop (suc i) [] c = c
+  complete-drop (suc i) (nd ∷ ns) c = complete-drop i ns (and-right (leb (nd .count) (countᵗ (terms ns))) (complete ns) c)
+
+  -- what a node asks for that is part of such a body
+  node-asks : (nd : Node) (ns : List Node) → T (complete (nd ∷ ns)) → Goods hs (terms (nd ∷ ns))
+      → (nd .count ≤ countᵗ (terms ns)) × ((x : Sort) × (sortAfter hs (takeᵗ (nd .count) (terms ns)) (hs (nd .head)) ≡ some x)) × (deepest (takeᵗ (nd .count) (terms ns)) < 64)
+  unfolding complete Goods terms sortOf depth
+  node-asks nd ns c g =
+      let d = g .1 in
+      (leb→le (nd .count) (countᵗ (terms ns)) (and-left (leb (nd .count) (countᵗ (terms ns))) (complete ns) c), g .0, omega arith)
+
+module _ (hs : Head → Sort) (sorts : List Sort) (ns : List Node) (i : ℕ) (nd : Node) (d : drop i ns ≡ nd ∷ drop (suc i) ns) (inside : i < length ns) where
+  asks : T (complete ns) → Goods hs (terms ns)
+      → (nd .count ≤ countᵗ (terms (drop (suc i) ns))) × ((x : Sort) × (sortAfter hs (takeᵗ (nd .count) (terms (drop (suc i) ns))) (hs (nd .head)) ≡ some x))
+      × (deepest (takeᵗ (nd .count) (terms (drop (suc i) ns))) < 64)
+  asks c g =
+      node-asks hs nd (drop (suc i) ns) (subst (λ l. T (complete l)) d (complete-drop hs i ns c)) (subst (λ l. Goods hs (terms l)) d (goods-drop hs i ns g))
+
+  module _ {ends codes depths : List ℕ} (h : Held-from hs sorts ns ends codes depths (suc i)) (r : Arguments) where
+    -- the node's arguments do not fit, or are too deep
+    pub node-misfit : (k : ℕ) → k ≡ nd .count → (k ≤ countᵗ (terms (drop (suc i) ns)) → (x : Sort) → sortAfter hs (takeᵗ k (terms (drop (suc i) ns))) (hs (nd .head)) ≡ some x → ⊥)
+        → T (complete ns) → Goods hs (terms ns) → ⊥
+    node-misfit k e f c g =
+        let (a, b, m) = asks c g in
+        f (rw e a) (b .0) (rw e (b .1))
+
+    pub node-deep : (k at : ℕ) → k ≡ nd .count → Fits hs sorts (terms (drop (suc i) ns)) (hs (nd .head)) at k r → 64 ≤ r .deep → T (complete ns) → Goods hs (terms ns) → ⊥
+    node-deep k at e f m c g =
+        let (a, b, l) = asks c g in
+        let q = f .deep-is in
+        let z : deepest (takeᵗ k (terms (drop (suc i) ns))) ≡ deepest (takeᵗ (nd .count) (terms (drop (suc i) ns))) = ap (λ x. deepest (takeᵗ x (terms (drop (suc i) ns)))) e in
+        omega arith
+
+    module _ (f : Fits hs sorts (terms (drop (suc i) ns)) (hs (nd .head)) (suc i) (nd .count) r) (shallow : r .deep < 64) (few : length ns ≤ 256) (small : r .sort < 2000) where
+      module _ {ends′ codes′ depths′ : List ℕ} (se : Stored ends ends′ i (r .end)) (sc : Stored codes codes′ i (r .sort)) (sd : Stored depths depths′ i (r .deep + 1))
+          (he : i < length ends) (hc : i < length codes) (hd : i < length depths) where
+        behind : Held hs sorts ends codes depths (length ns) (dropᵗ (nd .count) (terms (drop (suc i) ns))) (suc i + nodesAll (takeᵗ (nd .count) (terms (drop (suc i) ns))))
+        behind = held-drop hs sorts (length ns) ends codes depths (nd .count) (terms (drop (suc i) ns)) (suc i) (f .enough) (h .held)
+
+        end-here : getD ends′ i 0 ≡ suc i + nodesAll (takeᵗ (nd .count) (terms (drop (suc i) ns)))
+        end-here =
+            let l = held-le hs sorts (length ns) ends codes depths (dropᵗ (nd .count) (terms (drop (suc i) ns))) (suc i + nodesAll (takeᵗ (nd .count) (terms (drop (suc i) ns)))) behind in
+            let e = f .end-is in
+            stored-here se he (omega arith) ∙ e
+
+        behind′ : Held hs sorts ends′ codes′ depths′ (length ns) (dropᵗ (nd .count) (terms (drop (suc i) ns))) (suc i + nodesAll (takeᵗ (nd .count) (terms (drop (suc i) ns))))
+        behind′ =
+            held-kept hs sorts (length ns) ends codes depths ends′ codes′ depths′ (dropᵗ (nd .count) (terms (drop (suc i) ns))) (suc i + nodesAll (takeᵗ (nd .count) (terms (drop (suc i) ns)))) behind
+            (λ j l. stored-other se j (λ e. omega arith)) (λ j l. stored-other sc j (λ e. omega arith)) (λ j l. stored-other sd j (λ e. omega arith))
+
+        held-here : Held hs sorts ends′ codes′ depths′ (length ns) (terms (nd ∷ drop (suc i) ns)) i
+        unfolding Held terms sortOf nodes depth
+        held-here =
+            let q = f .deep-is in
+            let e : suc i + nodesAll (takeᵗ (nd .count) (terms (drop (suc i) ns))) ≡ i + suc (nodesAll (takeᵗ (nd .count) (terms (drop (suc i) ns)))) = omega arith in (
+              inside,
+              end-here ∙ e,
+              (f .rest, f .rest-is, subst (λ x. Code sorts x (f .rest)) (sym (stored-here sc hc (omega arith))) (f .code)),
+              stored-here sd hd (omega arith) ∙ (omega arith),
+              omega arith,
+              subst (λ x. Held hs sorts ends′ codes′ depths′ (length ns) (dropᵗ (nd .count) (terms (drop (suc i) ns))) x) e behind′,
+            )
+
+        whole-here : T (complete (nd ∷ drop (suc i) ns))
+        unfolding complete
+        whole-here =
+            and-both (leb (nd .count) (countᵗ (terms (drop (suc i) ns)))) (complete (drop (suc i) ns))
+            (true→T (le-leb (nd .count) (countᵗ (terms (drop (suc i) ns))) (f .enough))) (h .whole)
+
+        first-here : i + nodes (firstTerm (terms (nd ∷ drop (suc i) ns))) ≡ suc i + nodesAll (takeᵗ (nd .count) (terms (drop (suc i) ns)))
+        unfolding terms firstTerm nodes
+        first-here = omega arith
+
+        ends-from : (j : ℕ) → i ≤ j → j < length ns → (b : Bool) → leb j i ≡ b → getD ends′ j 0 ≡ j + nodes (firstTerm (terms (drop j ns)))
+        ends-from j l m true e =
+            let g = leb-true j i e in
+            let ej : i ≡ j = omega arith in
+            subst (λ x. getD ends′ x 0 ≡ x + nodes (firstTerm (terms (drop x ns)))) ej
+            (end-here ∙ sym first-here ∙ ap (λ l. i + nodes (firstTerm (terms l))) (sym d))
+        ends-from j l m false e =
+            let g = leb-false j i e in
+            stored-other se j (λ x. omega arith) ∙ h .ends-are j (omega arith) m
+
+        -- the tables hold the node too
+        pub node-held : Held-from hs sorts ns ends′ codes′ depths′ i
+        node-held = record {
+          whole = subst (λ l. T (complete l)) (sym d) whole-here;
+          held = subst (λ l. Held hs sorts ends′ codes′ depths′ (length ns) (terms l) i) (sym d) held-here;
+          ends-are = λ j l m. ends-from j l m (leb j i) refl;
+        }
+
+module _ {p froms tos trees arities signatures : List ℕ} {own i : ℕ} {ends codes depths : List ℕ} {head k : ℕ} {r : Arguments} (hc : HeadCode p froms tos trees arities signatures own i head)
+    (ek : k ≡ field 1 p (i * 4 + 3)) (af : ArgumentsFit froms tos trees ends codes depths (length p / 4) (i + 1) k head r) where
+  module _ {sorts : List Sort} {counts numbers : List ℕ} (w : Setting sorts counts numbers p froms tos trees arities signatures own) (inside : i < length p / 4)
+      (h : Held-from (headsBy sorts counts numbers own) sorts (nodesOf p) ends codes depths (suc i)) where
+    behind-node : Held (headsBy sorts counts numbers own) sorts ends codes depths (length p / 4) (terms (drop (suc i) (nodesOf p))) (i + 1)
+    behind-node =
+        let e : suc i ≡ i + 1 = omega arith in
+        subst (λ x. Held (headsBy sorts counts numbers own) sorts ends codes depths (length p / 4) (terms (drop (suc i) (nodesOf p))) x) e
+        (subst (λ x. Held (headsBy sorts counts numbers own) sorts ends codes depths x (terms (drop (suc i) (nodesOf p))) (suc i)) (nodes-length p) (h .held))
+
+    node-inside : i < length (nodesOf p)
+    node-inside = let e = nodes-length p in omega arith
+
+    fits-node : r .fit ≡ true → Fits (headsBy sorts counts numbers own) sorts (terms (drop (suc i) (nodesOf p))) (headsBy sorts counts numbers own (headOf (cellAt p i))) (suc i) (nodeAt p i .count) r
+    fits-node y =
+        let e : i + 1 ≡ suc i = omega arith in
+        subst (λ x. Fits (headsBy sorts counts numbers own) sorts (terms (drop (suc i) (nodesOf p))) (headsBy sorts counts numbers own (headOf (cellAt p i))) (suc i) x r) ek
+        (subst (λ x. Fits (headsBy sorts counts numbers own) sorts (terms (drop (suc i) (nodesOf p))) (headsBy sorts counts numbers own (headOf (cellAt p i))) x k r) e
+        (af .fits (headsBy sorts counts numbers own) sorts (terms (drop (suc i) (nodesOf p))) (headsBy sorts counts numbers own (headOf (cellAt p i))) (w .coded) behind-node
+        (hc sorts counts numbers w inside) y))
+
+    misfit-fails : r .fit ≡ false → T (complete (nodesOf p)) → Goods (headsBy sorts counts numbers own) (terms (nodesOf p)) → ⊥
+    misfit-fails y =
+        node-misfit (headsBy sorts counts numbers own) sorts (nodesOf p) i (nodeAt p i) (nodes-drop p i inside) node-inside h r k ek
+        (af .misfit (headsBy sorts counts numbers own) sorts (terms (drop (suc i) (nodesOf p))) (headsBy sorts counts numbers own (headOf (cellAt p i))) (w .coded) behind-node
+        (hc sorts counts numbers w inside) y)
+
+    deep-fails : r .fit ≡ true → 64 ≤ r .deep → T (complete (nodesOf p)) → Goods (headsBy sorts counts numbers own) (terms (nodesOf p)) → ⊥
+    deep-fails y m =
+        node-deep (headsBy sorts counts numbers own) sorts (nodesOf p) i (nodeAt p i) (nodes-drop p i inside) node-inside h r (nodeAt p i .count) (suc i) refl (fits-node y) m
+
+  pub read-misfit : r .fit ≡ false → NodeRead p froms tos trees arities signatures own i ends codes depths ends codes depths false
+  read-misfit y = record {
+    long = refl;
+    long-codes = refl;
+    long-depths = refl;
+    rest = λ m l. refl;
+    holds = λ sorts counts numbers w few inside he hc′ hd h e. absurd (let z : _≡_ {A = ℕ} 0 1 = cc in omega arith);
+    fails = λ sorts counts numbers w inside h e. misfit-fails w inside h y;
+  }
+
+  pub read-deep : r .fit ≡ true → 64 ≤ r .deep → NodeRead p froms tos trees arities signatures own i ends codes depths ends codes depths false
+  read-deep y m = record {
+    long = refl;
+    long-codes = refl;
+    long-depths = refl;
+    rest = λ n l. refl;
+    holds = λ sorts counts numbers w few inside he hc′ hd h e. absurd (let z : _≡_ {A = ℕ} 0 1 = cc in omega arith);
+    fails = λ sorts counts numbers w inside h e. deep-fails w inside h y m;
+  }
+
+  pub read-held : {ends′ codes′ depths′ : List ℕ} → r .fit ≡ true → r .deep < 64 → Stored ends ends′ i (r .end) → Stored codes codes′ i (r .sort) → Stored depths depths′ i (r .deep + 1)
+      → NodeRead p froms tos trees arities signatures own i ends codes depths ends′ codes′ depths′ true
+  read-held y m se sc sd = record {
+    long = stored-length se;
+    long-codes = stored-length sc;
+    long-depths = stored-length sd;
+    rest = stored-rest se;
+    holds = λ sorts counts numbers w few inside he hc′ hd h e.
+        let f = fits-node w inside h y in
+        let l = nodes-length p in
+        node-held (headsBy sorts counts numbers own) sorts (nodesOf p) i (nodeAt p i) (nodes-drop p i inside) (node-inside w inside h) h r f m (omega arith)
+        (code-small (w .coded .table) (f .code)) se sc sd he hc′ hd;
+    fails = λ sorts counts numbers w inside h e. absurd (let z : _≡_ {A = ℕ} 0 1 = cc in omega arith);
+  }

@@ -1,0 +1,7 @@
+pub mod Codes
+pub mod Parameters
+pub mod Loop
+pub mod Nodes
+pub mod Backward
+pub mod Scanning
+pub mod Deciding

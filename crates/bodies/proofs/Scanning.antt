@@ -1,0 +1,94 @@
+-- The pass over a body's nodes, the last one first.
+use Prim.Native.Nat.{ℕ, zero, suc, _+_, _-_, _/_, _<_, _≤_}
+use mathlib.Core.Path.{_≡_, refl, sym, ap, subst, _∙_}
+use mathlib.Core.Bool.{Bool, true, false}
+use mathlib.Core.List.{List, []}
+use native.Mathlib.Omega.{arith}
+use lib.Dec.{T}
+use lib.ListN.{length, getD, drop, drop-of-length-le}
+use Rattle.scheme.specs.Sorts.{Sort}
+use Rattle.scheme.specs.Terms.{Head, []ᵗ}
+use Rattle.scheme.specs.Prefix.{Node, terms, complete}
+use Rattle.casefile.specs.Tables.{nodesOf}
+use Rattle.bodies.specs.Bodies.{Held, Held-from, headsBy, Setting, NodeRead, Scanned}
+use Rattle.bodies.proofs.Nodes.{nodes-length}
+
+-- behind the last node there is nothing to hold
+held-none : (hs : Head → Sort) (sorts : List Sort) (ns : List Node) (ends codes depths : List ℕ) (i : ℕ) → i ≡ length ns → Held-from hs sorts ns ends codes depths i
+unfolding Held terms complete
+held-none hs sorts ns ends codes depths i e =
+    let l : length ns ≤ i = omega arith in
+    let d : drop i ns ≡ [] = drop-of-length-le ns l in
+    record {
+      whole = subst (λ l. T (complete l)) (sym d) tt;
+      held = subst (λ l. Held hs sorts ends codes depths (length ns) (terms l) i) (sym d) e;
+      ends-are = λ j l m. absurd (omega arith);
+    }
+
+-- the tables hold the nodes from i on
+pub record Scanning (p froms tos trees arities signatures : List ℕ) (own : ℕ) (before ends codes depths : List ℕ) (i : ℕ) : Type 0 where
+  pub within : i ≤ length p / 4
+  pub few : length p / 4 ≤ 256
+  pub long : length ends ≡ length before
+  pub long-codes : length codes ≡ 256
+  pub long-depths : length depths ≡ 256
+  pub rest : drop (length p / 4) ends ≡ drop (length p / 4) before
+  pub holds : (sorts : List Sort) (counts numbers : List ℕ) → Setting sorts counts numbers p froms tos trees arities signatures own → length p / 4 ≤ length before
+      → Held-from (headsBy sorts counts numbers own) sorts (nodesOf p) ends codes depths i
+
+module _ {p froms tos trees arities signatures : List ℕ} {own : ℕ} where
+  pub scan-start : {ends codes depths : List ℕ} (i : ℕ) → i ≡ length p / 4 → length p / 4 ≤ 256 → length codes ≡ 256 → length depths ≡ 256
+      → Scanning p froms tos trees arities signatures own ends ends codes depths i
+  scan-start {ends} {codes} {depths} i e f lc ld = record {
+    within = omega arith;
+    few = f;
+    long = refl;
+    long-codes = lc;
+    long-depths = ld;
+    rest = refl;
+    holds = λ sorts counts numbers w h. held-none (headsBy sorts counts numbers own) sorts (nodesOf p) ends codes depths i (e ∙ sym (nodes-length p));
+  }
+
+  module _ {before ends codes depths : List ℕ} {i : ℕ} (s : Scanning p froms tos trees arities signatures own before ends codes depths i) where
+    pub scan-next : {ends′ codes′ depths′ : List ℕ} {r : Bool} → 0 < i → NodeRead p froms tos trees arities signatures own (i - 1) ends codes depths ends′ codes′ depths′ r → r ≡ true
+        → Scanning p froms tos trees arities signatures own before ends′ codes′ depths′ (i - 1)
+    scan-next h n y =
+        let a = s .within in
+        let b = s .few in
+        let c = s .long in
+        let d = s .long-codes in
+        let e = s .long-depths in
+        record {
+          within = omega arith;
+          few = b;
+          long = n .long ∙ c;
+          long-codes = n .long-codes ∙ d;
+          long-depths = n .long-depths ∙ e;
+          rest = n .rest (length p / 4) (omega arith) ∙ s .rest;
+          holds = λ sorts counts numbers w f.
+              let g : i ≡ suc (i - 1) = omega arith in
+              n .holds sorts counts numbers w b (omega arith) (omega arith) (omega arith) (omega arith)
+              (subst (λ x. Held-from (headsBy sorts counts numbers own) sorts (nodesOf p) ends codes depths x) g (s .holds sorts counts numbers w f)) y;
+        }
+
+    pub scan-fail : {ends′ codes′ depths′ : List ℕ} {r : Bool} → 0 < i → NodeRead p froms tos trees arities signatures own (i - 1) ends codes depths ends′ codes′ depths′ r → r ≡ false
+        → Scanned p froms tos trees arities signatures own before ends′ codes′ depths′ false
+    scan-fail h n y =
+        let a = s .within in
+        record {
+          long = n .long ∙ s .long;
+          rest = n .rest (length p / 4) (omega arith) ∙ s .rest;
+          holds = λ sorts counts numbers w f e. absurd (let z : _≡_ {A = ℕ} 0 1 = cc in omega arith);
+          fails = λ sorts counts numbers w f e.
+              let g : i ≡ suc (i - 1) = omega arith in
+              n .fails sorts counts numbers w (omega arith)
+              (subst (λ x. Held-from (headsBy sorts counts numbers own) sorts (nodesOf p) ends codes depths x) g (s .holds sorts counts numbers w f)) y;
+        }
+
+    pub scan-end : i ≡ 0 → Scanned p froms tos trees arities signatures own before ends codes depths true
+    scan-end z = record {
+      long = s .long;
+      rest = s .rest;
+      holds = λ sorts counts numbers w f e. subst (λ x. Held-from (headsBy sorts counts numbers own) sorts (nodesOf p) ends codes depths x) z (s .holds sorts counts numbers w f);
+      fails = λ sorts counts numbers w f e. absurd (let q : _≡_ {A = ℕ} 0 1 = cc in omega arith);
+    }

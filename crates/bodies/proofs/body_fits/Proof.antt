@@ -1,0 +1,67 @@
+-- `body_fits` meets its contract.
+use borrow.Author.Tests.{not-true, not-false}
+use Rattle.bodies.proofs.Deciding.{decide-long, decide-empty, decide-fails, decide-ends, decide-last}
+use borrow.Author.Needs.{needs}
+use Rattle.bodies.proofs.body_fits.Statement.{statement}
+use Rattle.bodies.proofs.body_fits.Tie as tie
+
+returns : tie.Need-returns
+returns c = decide-long (c .if1 .taken)
+
+returns-2 : tie.Need-returns-2
+returns-2 c = decide-empty (c .if2 .taken)
+
+slice-aggregate-scan : tie.Need-slice-aggregate-scan
+slice-aggregate-scan c = search needs
+
+slice-aggregate-scan-2 : tie.Need-slice-aggregate-scan-2
+slice-aggregate-scan-2 c = search needs
+
+scan-requires : tie.Need-scan-requires
+scan-requires c κs = search needs
+
+same-length : tie.Need-same-length
+same-length c = search needs
+
+returns-3 : tie.Need-returns-3
+returns-3 c = decide-fails (c .before .before .before .before .before .scan .ensures) (not-true _ (c .if3 .taken))
+
+entry-at-requires : tie.Need-entry-at-requires
+entry-at-requires c κs = search needs
+
+same-length-2 : tie.Need-same-length-2
+same-length-2 c = search needs
+
+returns-4 : tie.Need-returns-4
+returns-4 c = decide-ends (c .before .before .before .before .before .before .before .before .scan .ensures) (not-false _ (c .before .before .before .if3 .left)) (c .before .before .before .before .before .before .before .before .before .before .before .before .if2 .left) _ (c .before .entry-at .ensures .value) (c .if4 .taken)
+
+slice-aggregate-entry-at : tie.Need-slice-aggregate-entry-at
+slice-aggregate-entry-at c = search needs
+
+entry-at-requires-2 : tie.Need-entry-at-requires-2
+entry-at-requires-2 c κs = search needs
+
+same-length-3 : tie.Need-same-length-3
+same-length-3 c = search needs
+
+returns-5 : tie.Need-returns-5
+returns-5 c = decide-last (c .before .before .before .before .before .before .before .before .before .before .scan .ensures) (not-false _ (c .before .before .before .before .before .if3 .left)) (c .before .before .before .before .before .before .before .before .before .before .before .before .before .before .if2 .left) _ _ (c .before .before .before .entry-at .ensures .value) (c .before .before .if4 .left) (c .entry-at2 .ensures .value)
+
+pub body-fits-spec : {M : Type 1} → statement M
+body-fits-spec =
+    tie.close
+    (tie.spec
+    returns
+    returns-2
+    slice-aggregate-scan
+    slice-aggregate-scan-2
+    scan-requires
+    same-length
+    returns-3
+    entry-at-requires
+    same-length-2
+    returns-4
+    slice-aggregate-entry-at
+    entry-at-requires-2
+    same-length-3
+    returns-5)

@@ -1,0 +1,3 @@
+pub mod Sorted
+pub mod Tables
+pub mod Bodies
