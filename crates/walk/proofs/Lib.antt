@@ -1,3 +1,4 @@
 pub mod Known
 pub mod Storing
 pub mod Dispatch
+pub mod Turns

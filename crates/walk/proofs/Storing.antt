@@ -4,11 +4,11 @@ use native.Mathlib.Omega.{arith}
 use native.Mathlib.Nat.{add-zero}
 use mathlib.Core.Path.{_≡_, refl, sym, ap, ap₂, subst, _∙_}
 use mathlib.Core.Bool.{Bool, true, false, not}
-use mathlib.Core.List.{List, [], _∷_, map}
+use mathlib.Core.List.{List, [], _∷_, _++_, map}
 use borrow.Author.Tests.{lt-ltb, le-ltb, eq-eqb, ne-eqb, eqb-true, not-false}
 use lib.Dec.{ltb, eqb}
-use lib.ListN.{length, getD, set, length-set, length-map}
-use lib.Seq.{set-out}
+use lib.ListN.{length, getD, take, set, replicate, length-set, length-map}
+use lib.Seq.{set-out, take-length, take-suc-set}
 use Rattle.scheme.specs.Lists.{if_then_else_, lastOr}
 use Rattle.records.specs.Fields.{field, byte, word}
 use Rattle.records.specs.Records.{Record}
@@ -112,3 +112,31 @@ entered-lens lens counts kind n p after en e = e ∙ ap (λ z. lensAfter lens ki
 
 pub entered-counts : (counts : List ℕ) (kind n : ℕ) (after : List ℕ) → n ≡ getD counts kind 0 → after ≡ stored counts kind (n + 1) → after ≡ stored counts kind (getD counts kind 0 + 1)
 entered-counts counts kind n after en e = e ∙ ap (λ z. stored counts kind (z + 1)) en
+
+-- A table that is cleared from its start on.
+pub record Cleared (before after : List ℕ) (i : ℕ) : Type 0 where
+  pub inside : i ≤ length after
+  pub long : length after ≡ length before
+  pub zeros : take i after ≡ replicate i 0
+
+pub cleared-none : (a : List ℕ) → Cleared a a 0
+cleared-none a = record { inside = omega arith; long = refl; zeros = refl }
+
+replicate-more : (x n : ℕ) → replicate n x ++ (x ∷ []) ≡ replicate (suc n) x
+replicate-more x zero = refl
+replicate-more x (suc n) = ap (x ∷_) (replicate-more x n)
+
+pub cleared-one : (b a : List ℕ) (i : ℕ) → i < length a → Cleared b a i → Cleared b (set a i 0) (i + 1)
+cleared-one b a i h c =
+    let one : suc i ≡ i + 1 = omega arith in
+    let long = length-set a i 0 in
+    record {
+      inside = omega arith;
+      long = long ∙ c .long;
+      zeros = ap (λ m. take m (set a i 0)) (sym one) ∙ take-suc-set a i 0 h ∙ ap (λ l. l ++ (0 ∷ [])) (c .zeros) ∙ replicate-more 0 i ∙ ap (λ m. replicate m 0) one;
+    }
+
+pub cleared-all : (b a : List ℕ) (i : ℕ) → Cleared b a i → length a ≤ i → a ≡ replicate (length b) 0
+cleared-all b a i c h =
+    let e : i ≡ length a = (let l = c .inside in omega arith) in
+    sym (take-length a) ∙ ap (λ m. take m a) (sym e) ∙ c .zeros ∙ ap (λ m. replicate m 0) (e ∙ c .long)

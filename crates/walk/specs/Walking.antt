@@ -1,5 +1,5 @@
 -- The walk over a file: the code of each record, the entries it makes, and what the walk comes to.
-use Prim.Native.Nat.{ℕ, _+_}
+use Prim.Native.Nat.{ℕ, _+_, _≤_}
 use mathlib.Core.Path.{_≡_}
 use mathlib.Core.Bool.{Bool, true, false}
 use mathlib.Core.List.{List, [], _∷_, _++_}
@@ -41,3 +41,13 @@ pub record AllRead (file index lens counts : List ℕ) : Type 0 where
 unfoldable pub WalkEnds : List ℕ → List ℕ → List ℕ → List ℕ → Walked → Type 0
 WalkEnds file index lens counts (Refused n p) = (flags : ℕ) → caseFrom flags (recordsOf file) [] ≡ refusedCase (record { number = n; place = p })
 WalkEnds file index lens counts Read = AllRead file index lens counts
+
+-- how a walk ends where no record is read
+abbrev pub endOf : Rattle.records.specs.declared.Read.Read → Walked
+endOf (Rattle.records.specs.declared.Read.Read.Record place start len kind c) = Read
+endOf (Rattle.records.specs.declared.Read.Read.Refused n p) = Refused n p
+endOf Rattle.records.specs.declared.Read.Read.End = Read
+
+-- the promise of the walk, for tables of the right sizes
+abbrev pub WalksTo : List ℕ → List ℕ → List ℕ → List ℕ → List ℕ → List ℕ → List ℕ → Walked → Type 0
+WalksTo file index lens counts index′ lens′ counts′ r = length index ≡ 3170 → length lens ≡ 65 → length counts ≡ 10 → length file ≤ 60000 → WalkEnds file index′ lens′ counts′ r

@@ -17,7 +17,7 @@ use tables::test_type;
 ghost use mathlib.Core.Path.{_≡_};
 ghost use mathlib.Core.List.{List};
 ghost use Prim.Native.Nat.{ℕ, _+_, _<_, _≤_};
-ghost use lib.ListN.{length, getD};
+ghost use lib.ListN.{length, getD, replicate};
 ghost use Rattle.records.specs.Records.{Record};
 ghost use Rattle.casefile.specs.Kinds.{Kind, number, kindOf};
 ghost use Rattle.casefile.specs.Tables.{stateCount};
@@ -25,7 +25,7 @@ ghost use Rattle.casefile.proofs.Passed.{Passed};
 ghost use Rattle.entries.specs.Index.{base, Indexed};
 ghost use Rattle.entries.specs.Tests.{Fitting};
 ghost use Rattle.walk.specs.Known.{Known};
-ghost use Rattle.walk.specs.Walking.{codeAs, stored, lensAfter, WalkEnds};
+ghost use Rattle.walk.specs.Walking.{codeAs, stored, lensAfter, endOf, WalksTo};
 
 // How a walk ends: with the first refusal by 2 to 7, or with every record read.
 pub enum Walked {
@@ -122,5 +122,68 @@ fn test(file: &[u8], index: &[u16], lens: &[u16], counts: &[u16], kind: usize, p
         // Kinds from 8000 (hexadecimal) on are unknown today, as those between are.
         0x8000..=0xFFFF => 3,
         _ => 3,
+    }
+}
+
+// Sets every entry of a table to 0.
+fn clear(a: &mut [u16])
+    ensures { λ _. ⌜ now (a .exit) ≡ replicate (length (now (a .entry))) 0 ⌝ }
+{
+    let mut i: usize = 0;
+    while i < a.len() {
+        a[i] = 0;
+        i = i + 1;
+    }
+}
+
+// How the walk ends where no record is read.
+fn stopped(got: Read) -> Walked
+    ensures { λ r. ⌜ r ≡ endOf got ⌝ }
+{
+    match got {
+        Read::Record {
+            place: _,
+            start: _,
+            len: _,
+            kind: _,
+            next: _,
+        } => Walked::Read,
+        Read::Refused { number, place } => Walked::Refused { number, place },
+        Read::End => Walked::Read,
+    }
+}
+
+// Walks over the records of a file of at most 60,000 bytes: enters each in the index, the argument counts of the sorts and
+// the counts of the kinds, or gives the first refusal by 2 to 7. What the tables held before does not matter.
+pub fn walk(file: &[u8], index: &mut [u16], lens: &mut [u16], counts: &mut [u16]) -> Walked
+    ensures { λ r. ⌜ WalksTo (now (file .entry)) (now (index .entry)) (now (lens .entry)) (now (counts .entry)) (now (index .exit)) (now (lens .exit)) (now (counts .exit)) r ⌝ }
+{
+    clear(counts);
+    store(lens, 0, 0);
+    let mut c = Cursor { at: 0 };
+    let mut last: usize = 0;
+    loop {
+        let got = c.next(file);
+        let Read::Record {
+            place,
+            start,
+            len,
+            kind,
+            next,
+        } = got
+        else {
+            return stopped(got);
+        };
+        if kind < last {
+            return Walked::Refused { number: 3, place };
+        }
+        let p = payload(file, start, len);
+        let number = test(file, index, lens, counts, kind, p);
+        if number != 0 {
+            return Walked::Refused { number, place };
+        }
+        enter(index, lens, counts, kind, start, p);
+        last = kind;
+        c = next;
     }
 }

@@ -1,0 +1,34 @@
+use Prim.Native.Nat.{ℕ, _+_, _-_, _<_, _≤_}
+use mathlib.Core.Path.{_≡_, refl, sym, ap, subst, _∙_}
+use mathlib.Core.Logic.{⊎-elim}
+use mathlib.Core.List.{List}
+use native.Mathlib.Omega.{arith}
+use lib.ListN.{length, drop}
+use Rattle.walk.specs.Walking.{endOf}
+use borrow.Author.Needs.{needs}
+use Rattle.walk.proofs.stopped.Statement.{statement}
+use Rattle.walk.proofs.stopped.Tie as tie
+use Rattle.walk.proofs.stopped.Reads as reads
+use Rattle.walk.proofs.stopped.Lts as lts
+
+enum-told : tie.Need-enum-told
+enum-told c = search needs
+
+enum-known-got : tie.Need-enum-known-got
+enum-known-got c = search needs
+
+enum-told-2 : tie.Need-enum-told-2
+enum-told-2 c = search needs
+
+returns : tie.Need-returns
+returns c = search needs
+
+returns-2 : tie.Need-returns-2
+returns-2 c = sym (ap endOf (c .before .got .given .1))
+
+returns-3 : tie.Need-returns-3
+returns-3 c = search needs
+
+pub stopped-spec : {M : Type 1} → statement M
+stopped-spec =
+    tie.close (tie.spec enum-told enum-known-got enum-told-2 returns returns-2 returns-3)
