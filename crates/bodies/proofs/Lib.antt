@@ -5,3 +5,4 @@ pub mod Nodes
 pub mod Backward
 pub mod Scanning
 pub mod Deciding
+pub mod FileSorts

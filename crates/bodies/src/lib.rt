@@ -123,7 +123,8 @@ fn apply(froms: &[u16], tos: &[u16], trees: &[u16], head: usize, argument: usize
     if head == 0 {
         return 2000;
     }
-    if argument != entry_at(froms, head) {
+    let from = entry_at(froms, head);
+    if argument != from {
         return 2000;
     }
     entry_at(tos, head)
@@ -312,7 +313,8 @@ pub fn body_fits(
     ) {
         return false;
     }
-    if entry_at(ends, 0) != n {
+    let end = entry_at(ends, 0);
+    if end != n {
         return false;
     }
     entry_at(&codes, 0) == 0

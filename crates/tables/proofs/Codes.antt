@@ -143,8 +143,20 @@ module _ (file index lens : List ℕ) (n sorts constructors nonterminals : ℕ) 
       pub rule-rest : length p ≤ 1024 → (r : Bool) → r ≡ any (wrongCell constructors nonterminals a) (cellsOf p) → codeFor rs p rule ≡ (if r then 6 else 0)
       unfolding codeFor wrongLength tooMany tooLarge outOfRange misplaced aritiesOf
       rule-rest l r er =
-          simp (le-ltb (length p) 4 h, eq-eqb (length p % 4) 0 e, cells-length p e, le-ltb 256 (length p / 4) (omega arith), signatures-many, counted, lt-leb nonterminals n k, parameters,
-          length-map (payloads constructor rs) (λ (q : List ℕ). byte q 0), ← count-payloads constructor rs, cons, ← er)
+          simp (
+            le-ltb (length p) 4 h,
+            eq-eqb (length p % 4) 0 e,
+            cells-length p e,
+            le-ltb 256 (length p / 4) (omega arith),
+            signatures-many,
+            counted,
+            lt-leb nonterminals n k,
+            parameters,
+            length-map (payloads constructor rs) (λ (q : List ℕ). byte q 0),
+            ← count-payloads constructor rs,
+            cons,
+            ← er,
+          )
 
 -- Types.
 module _ (file index : List ℕ) (n states : ℕ) (p : List ℕ) (rs : List Record) (ix : Indexed file index type n rs) (st : stateCount rs ≡ states) where

@@ -30,7 +30,7 @@ matches-same (a ∷ p) [] s at e h = absurd (omega arith)
 matches-same (a ∷ p) (b ∷ q) s at e h =
     let first : byte s at ≡ b = ap (byte s) (sym (add-zero at)) ∙ h 0 (omega arith) ∙ (omega arith) in
     let rest : (off : ℕ) → off < length q → byte s (at + 1 + off) ≡ byte q off = (λ off l.
-      let k : at + 1 + off ≡ at + suc off = omega arith in ap (byte s) k ∙ h (suc off) (omega arith)) in
+    let k : at + 1 + off ≡ at + suc off = omega arith in ap (byte s) k ∙ h (suc off) (omega arith)) in
     ap₂ (λ (x : ℕ) (y : Bool). eqb a x && y) first (matches-same p q s (at + 1) (omega arith) rest)
 
 -- payloads of different lengths differ
@@ -55,7 +55,7 @@ module _ (file index : List ℕ) (b n : ℕ) (p : List ℕ) where
         let four : 4 ≤ at = subst (λ z. 4 ≤ z) there (ix .behind-header i h) in
         let long : word file (at - 4) ≡ length (getD (payloads k rs) i []) = ix .length-there i (at - 4) h (omega arith) in
         let bytes : (off : ℕ) → off < length (getD (payloads k rs) i []) → byte file (at + off) ≡ byte (getD (payloads k rs) i []) off = (λ off l.
-          ap (λ z. byte file (z + off)) (sym there) ∙ ix .field-there i h 1 off (omega arith)) in
+        ap (λ z. byte file (z + off)) (sym there) ∙ ix .field-there i h 1 off (omega arith)) in
         go long bytes (ℕ-discrete (length p) (length (getD (payloads k rs) i [])))
       where
         go : word file (at - 4) ≡ length (getD (payloads k rs) i []) → ((off : ℕ) → off < length (getD (payloads k rs) i []) → byte file (at + off) ≡ byte (getD (payloads k rs) i []) off)

@@ -1,7 +1,7 @@
 // The tests of sort, rule and type records, which look at earlier entries.
+use entries::place_at;
 use records::byte_at;
 use records::word_at;
-use entries::place_at;
 ghost use mathlib.Core.Path.{_≡_};
 ghost use Prim.Native.Nat.{ℕ, _+_, _<_, _≤_};
 ghost use mathlib.Core.List.{List, [], _∷_};
@@ -62,7 +62,13 @@ fn entries_for(tag: usize, constructors: usize, nonterminals: usize, parameters:
 }
 
 // Whether the node at i is out of range: its tag, its number, or its argument count.
-fn wrong_cell(p: &[u8], i: usize, constructors: usize, nonterminals: usize, parameters: usize) -> bool
+fn wrong_cell(
+    p: &[u8],
+    i: usize,
+    constructors: usize,
+    nonterminals: usize,
+    parameters: usize,
+) -> bool
     ensures { λ r. ⌜ (i + 4 ≤ length (now (p .entry)) → r ≡ wrongCell constructors nonterminals parameters (cellAt (now (p .entry)) i)) ⌝ }
 {
     if p.len() < 4 {
@@ -187,7 +193,15 @@ pub fn test_sort(file: &[u8], index: &[u16], lens: &[u16], n: usize, p: &[u8]) -
 }
 
 // The code of the payload p of a rule after n rules, with so many sorts, constructors and nonterminals.
-pub fn test_rule(file: &[u8], index: &[u16], lens: &[u16], n: usize, constructors: usize, nonterminals: usize, p: &[u8]) -> usize
+pub fn test_rule(
+    file: &[u8],
+    index: &[u16],
+    lens: &[u16],
+    n: usize,
+    constructors: usize,
+    nonterminals: usize,
+    p: &[u8],
+) -> usize
     ensures { λ r. ⌜ ((sorts : ℕ) → TestsRule (now (file .entry)) (now (index .entry)) (now (lens .entry)) n sorts constructors nonterminals (now (p .entry)) r) ⌝ }
 {
     if p.len() < 4 {

@@ -220,10 +220,10 @@ module _ (file index lens counts : List ℕ) (rs : List Record) (known : Known f
     sorts-many : length (sortsOf rs) ≡ suc n
     unfolding sortsOf number
     sorts-many = grow-length sortFrom (o ∷ []) (payloads sort rs) ∙ (
-      let a = count-payloads sort rs in
-      let b = known .entries sort .counted in
-      let c = ap (λ z. getD counts (number z) 0) is-sort in
-      omega arith)
+        let a = count-payloads sort rs in
+        let b = known .entries sort .counted in
+        let c = ap (λ z. getD counts (number z) 0) is-sort in
+        omega arith)
 
     new-len : length (arguments (sortFrom (sortsOf rs) (r .payload))) ≡ len
     unfolding sortFrom arguments number

@@ -1,5 +1,5 @@
 -- The invariant of the walk, how it starts, what a record does to it, and how it ends.
-use Prim.Native.Nat.{ℕ, zero, suc, _+_, _<_, _≤_}
+use Prim.Native.Nat.{ℕ, zero, suc, _+_, _-_, _<_, _≤_}
 use native.Mathlib.Omega.{arith}
 use mathlib.Core.Path.{_≡_, refl, sym, ap, ap₂, subst, _∙_}
 use mathlib.Core.Logic.{⊎-elim, _≢_}
@@ -11,7 +11,7 @@ use borrow.Author.Tests.{lt-ltb, le-ltb, leb-false, ltb-false, eq-eqb}
 use types.Run.{OneOf}
 use denote.Enum.Declared.{tagOf}
 use lib.Dec.{ltb, leb, eqb}
-use lib.ListN.{length, getD, set, replicate, length-set, getD-replicate, length-map}
+use lib.ListN.{length, getD, set, replicate, length-set, getD-replicate, length-replicate, length-map}
 use lib.Seq.{getD-set-same}
 use Rattle.scheme.specs.Lists.{if_then_else_, lastOr, select}
 use Rattle.scheme.specs.Sorts.{Sort, o, arguments}
@@ -379,3 +379,56 @@ module _ {file index lens counts : List ℕ} {at last : ℕ} (w : Walking file i
             lens-long = ap length el ∙ lens-length lens kind (getD counts kind 0) p ∙ w .lens-long;
             counts-long = ap length counts-is ∙ length-set counts (number k) (n + 1) ∙ w .counts-long;
           }
+
+-- The invariant of the loop: tables keep their lengths, and where these are right the walk is under way.
+pub record Turn (file index₀ lens₀ counts₀ index lens counts : List ℕ) (at last : ℕ) : Type 0 where
+  pub same-index : length index ≡ length index₀
+  pub same-lens : length lens ≡ length lens₀
+  pub same-counts : length counts ≡ length counts₀
+  pub within : at ≤ length file
+  pub walking : length index₀ ≡ 3170 → length lens₀ ≡ 65 → length counts₀ ≡ 10 → length file ≤ 60000 → Walking file index lens counts at last
+
+pub first-turn : (file index lens lens′ counts counts′ : List ℕ) → counts′ ≡ replicate (length counts) 0 → lens′ ≡ stored lens 0 0 → Turn file index lens′ counts′ index lens′ counts′ 0 0
+first-turn file index lens lens′ counts counts′ ec el =
+    record {
+      same-index = refl;
+      same-lens = refl;
+      same-counts = refl;
+      within = omega arith;
+      walking = λ hi hl hc few. starts file index lens lens′ counts counts′ hi (sym (stored-length lens 0 0) ∙ ap length (sym el) ∙ hl) (sym (length-replicate (length counts) zero) ∙ ap length (sym ec) ∙ hc) ec el;
+    }
+
+module _ {file index₀ lens₀ counts₀ index lens counts : List ℕ} {at last : ℕ} (t : Turn file index₀ lens₀ counts₀ index lens counts at last) where
+  -- with the lengths that the tables had at the start
+  pub under-way : (lens¹ counts¹ : List ℕ) → lens₀ ≡ stored lens¹ 0 0 → counts₀ ≡ replicate (length counts¹) 0 → length index₀ ≡ 3170 → length lens¹ ≡ 65 → length counts¹ ≡ 10 → length file ≤ 60000 → Walking file index lens counts at last
+  under-way lens¹ counts¹ el ec hi hl hc few = t .walking hi (ap length el ∙ stored-length lens¹ 0 0 ∙ hl) (ap length ec ∙ length-replicate (length counts¹) zero ∙ hc) few
+
+  pub same-lens-as : (lens¹ : List ℕ) → lens₀ ≡ stored lens¹ 0 0 → length lens ≡ length lens¹
+  same-lens-as lens¹ el = t .same-lens ∙ ap length el ∙ stored-length lens¹ 0 0
+
+  pub same-counts-as : (counts¹ : List ℕ) → counts₀ ≡ replicate (length counts¹) 0 → length counts ≡ length counts¹
+  same-counts-as counts¹ ec = t .same-counts ∙ ap length ec ∙ length-replicate (length counts¹) zero
+
+  pub next-turn : (place start len kind : ℕ) (c : Cursor) → read.Record place start len kind c ≡ readAt file at → (p index′ lens′ counts′ : List ℕ) (n : ℕ) → p ≡ partOf file start len → last ≤ kind
+      → ((rs : List Record) → Known file index lens counts rs → Passed rs → n ≡ codeAs rs p (kindOf kind)) → n ≡ 0
+      → length index′ ≡ length index → length lens′ ≡ length lens → length counts′ ≡ length counts
+      → ((k : Kind) → kind ≡ number k → index′ ≡ stored index (base k + getD counts kind 0) start) → lens′ ≡ lensAfter lens kind (getD counts kind 0) p → counts′ ≡ stored counts kind (getD counts kind 0 + 1)
+      → Turn file index₀ lens₀ counts₀ index′ lens′ counts′ (c .at) kind
+  next-turn place start len kind c e p index′ lens′ counts′ n ep up en ez si sl sc ei el ec =
+      record {
+        same-index = si ∙ t .same-index;
+        same-lens = sl ∙ t .same-lens;
+        same-counts = sc ∙ t .same-counts;
+        within = read-record file at place start len kind c (sym e) .next-fits;
+        walking = λ hi hl hc few.
+            let w = t .walking hi hl hc few in
+            goes-on w place start len kind c e p index′ lens′ counts′ ep up (sym ez ∙ en (w .rs) (w .known) (w .passed)) few ei el ec;
+      }
+
+  pub next-less : (place start len kind : ℕ) (c : Cursor) → read.Record place start len kind c ≡ readAt file at → length file - c .at < length file - at
+  next-less place start len kind c e =
+      let rr = read-record file at place start len kind c (sym e) in
+      let a = rr .inside in
+      let b = rr .next-is in
+      let d = rr .next-fits in
+      omega arith

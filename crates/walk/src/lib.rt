@@ -1,9 +1,4 @@
 // The walk over a file: one pass over its records, which fills the index or finds the first refusal by 2 to 7.
-use records::Cursor;
-use records::Read;
-use records::byte_at;
-use records::payload;
-use records::word_at;
 use entries::place_at;
 use entries::test_binding;
 use entries::test_constructor;
@@ -11,6 +6,11 @@ use entries::test_nonterminal;
 use entries::test_path;
 use entries::test_states;
 use entries::test_transition;
+use records::Cursor;
+use records::Read;
+use records::byte_at;
+use records::payload;
+use records::word_at;
 use tables::test_rule;
 use tables::test_sort;
 use tables::test_type;
@@ -88,7 +88,14 @@ fn enter_sort(lens: &mut [u16], kind: usize, n: usize, p: &[u8])
 }
 
 // Enters a record of a kind, whose payload p starts at start, behind the others of its kind.
-fn enter(index: &mut [u16], lens: &mut [u16], counts: &mut [u16], kind: usize, start: usize, p: &[u8])
+fn enter(
+    index: &mut [u16],
+    lens: &mut [u16],
+    counts: &mut [u16],
+    kind: usize,
+    start: usize,
+    p: &[u8],
+)
     ensures index { λ _. ⌜ ((k : Kind) → kind ≡ number k → now (index .exit) ≡ stored (now (index .entry)) (base k + getD (now (counts .entry)) kind 0) start) ⌝ }
     ensures lens { λ _. ⌜ now (lens .exit) ≡ lensAfter (now (lens .entry)) kind (getD (now (counts .entry)) kind 0) (now (p .entry)) ⌝ }
     ensures counts { λ _. ⌜ now (counts .exit) ≡ stored (now (counts .entry)) kind (getD (now (counts .entry)) kind 0 + 1) ⌝ }

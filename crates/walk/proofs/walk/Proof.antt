@@ -1,3 +1,12 @@
+use Rattle.walk.proofs.Turns.{under-way, same-lens-as, same-counts-as, next-turn, next-less}
+use Prim.Native.Nat.{ℕ, _+_, _-_, _<_, _≤_}
+use mathlib.Core.Path.{_≡_, refl, sym, ap, subst, _∙_}
+use mathlib.Core.Logic.{⊎-elim}
+use mathlib.Core.List.{List}
+use native.Mathlib.Omega.{arith}
+use borrow.Author.Needs.{needs}
+use lib.ListN.{length, drop}
+use Rattle.walk.proofs.Turns.{Turn, first-turn, ends, falls, turned, goes-on}
 use Rattle.walk.proofs.walk.Statement.{statement}
 use Rattle.walk.proofs.walk.Tie as tie
 use Rattle.walk.proofs.walk.Reads as reads
@@ -11,102 +20,79 @@ use Rattle.walk.proofs.store.Reads as store-reads
 use Rattle.walk.proofs.test.Reads as test-reads
 
 abbrev Inv-loop : tie.InvT-loop
-Inv-loop file index₀ lens₀ counts₀ c₀ last₀ index lens counts c last = ?
+Inv-loop file index₀ lens₀ counts₀ c₀ last₀ index lens counts c last = Turn file index₀ lens₀ counts₀ index lens counts (c .at) last
 
 abbrev μ-loop : tie.MeasureT-loop
-μ-loop file index₀ lens₀ counts₀ c₀ last₀ index lens counts c last = ?
+μ-loop file index₀ lens₀ counts₀ c₀ last₀ index lens counts c last = length file - c .at
 
--- src/lib.rt:161:5
 clear-requires : tie.Need-clear-requires Inv-loop μ-loop
-clear-requires c κs = ?
+clear-requires c κs = search needs
 
--- src/lib.rt:162:5
 store-requires : tie.Need-store-requires Inv-loop μ-loop
-store-requires c κs = ?
+store-requires c κs = search needs
 
--- src/lib.rt:165:5
 loop-holds : tie.Need-loop-holds Inv-loop μ-loop
-loop-holds c = ?
+loop-holds c = first-turn _ _ _ _ (c .before .before .before .before .before .before .before .before .before .before .before .before .args .counts .now) _ (c .before .before .before .before .before .before .clear .ensures) (c .before .before .store .ensures)
 
--- src/lib.rt:166:13
 next-requires : tie.Need-next-requires Inv-loop μ-loop
-next-requires c κs = ?
+next-requires c κs = search needs
 
--- src/lib.rt:168:13
 enum-known-got : tie.Need-enum-known-got Inv-loop μ-loop
-enum-known-got c = ?
+enum-known-got c = search needs
 
--- src/lib.rt:175:13
 stopped-requires : tie.Need-stopped-requires Inv-loop μ-loop
-stopped-requires c κs = ?
+stopped-requires c κs = search needs
 
--- src/lib.rt:175:13
 same-length : tie.Need-same-length Inv-loop μ-loop
-same-length c = ?
+same-length c = c .before .before .before .loop .inv .same-index
 
--- src/lib.rt:175:13
 same-length-2 : tie.Need-same-length-2 Inv-loop μ-loop
-same-length-2 c = ?
+same-length-2 c = same-lens-as (c .before .before .before .loop .inv) _ (c .before .before .before .before .before .before .store .ensures)
 
--- src/lib.rt:175:13
 same-length-3 : tie.Need-same-length-3 Inv-loop μ-loop
-same-length-3 c = ?
+same-length-3 c = same-counts-as (c .before .before .before .loop .inv) (c .before .before .before .before .before .before .before .before .before .before .before .before .before .before .before .before .args .counts .now) (c .before .before .before .before .before .before .before .before .before .before .clear .ensures)
 
--- src/lib.rt:175:13
 returns : tie.Need-returns Inv-loop μ-loop
-returns c = ?
+returns c = λ hi hl hc few. ends (under-way (c .before .before .before .loop .inv) _ (c .before .before .before .before .before .before .before .before .before .before .before .before .before .before .before .before .args .counts .now) (c .before .before .before .before .before .before .store .ensures) (c .before .before .before .before .before .before .before .before .before .before .clear .ensures) hi hl hc few) _ (c .before .match .keys2) (c .before .before .next .ensures) _ (c .stopped .ensures)
 
--- src/lib.rt:178:13
 same-length-4 : tie.Need-same-length-4 Inv-loop μ-loop
-same-length-4 c = ?
+same-length-4 c = c .before .before .before .before .before .loop .inv .same-index
 
--- src/lib.rt:178:13
 same-length-5 : tie.Need-same-length-5 Inv-loop μ-loop
-same-length-5 c = ?
+same-length-5 c = same-lens-as (c .before .before .before .before .before .loop .inv) _ (c .before .before .before .before .before .before .before .before .store .ensures)
 
--- src/lib.rt:178:13
 same-length-6 : tie.Need-same-length-6 Inv-loop μ-loop
-same-length-6 c = ?
+same-length-6 c = same-counts-as (c .before .before .before .before .before .loop .inv) (c .before .before .before .before .before .before .before .before .before .before .before .before .before .before .before .before .before .before .args .counts .now) (c .before .before .before .before .before .before .before .before .before .before .before .before .clear .ensures)
 
--- src/lib.rt:178:13
 returns-2 : tie.Need-returns-2 Inv-loop μ-loop
-returns-2 c = ?
+returns-2 c = λ hi hl hc few. falls (under-way (c .before .before .before .before .before .loop .inv) _ (c .before .before .before .before .before .before .before .before .before .before .before .before .before .before .before .before .before .before .args .counts .now) (c .before .before .before .before .before .before .before .before .store .ensures) (c .before .before .before .before .before .before .before .before .before .before .before .before .clear .ensures) hi hl hc few) (c .before .before .got .given .0 .0) (c .before .before .got .given .0 .1 .0) (c .before .before .got .given .0 .1 .1 .0) (c .before .before .got .given .0 .1 .1 .1 .0) (c .before .before .got .given .0 .1 .1 .1 .1 .0) (sym (c .before .before .got .given .1) ∙ c .before .before .before .before .next .ensures) (c .if1 .taken)
 
--- src/lib.rt:180:13
 payload-requires : tie.Need-payload-requires Inv-loop μ-loop
-payload-requires c κs = ?
+payload-requires c κs = search needs
 
--- src/lib.rt:181:13
 test-requires : tie.Need-test-requires Inv-loop μ-loop
-test-requires c κs = ?
+test-requires c κs = search needs
 
--- src/lib.rt:183:13
 same-length-7 : tie.Need-same-length-7 Inv-loop μ-loop
-same-length-7 c = ?
+same-length-7 c = c .before .before .before .before .before .before .before .before .before .before .before .loop .inv .same-index
 
--- src/lib.rt:183:13
 same-length-8 : tie.Need-same-length-8 Inv-loop μ-loop
-same-length-8 c = ?
+same-length-8 c = same-lens-as (c .before .before .before .before .before .before .before .before .before .before .before .loop .inv) _ (c .before .before .before .before .before .before .before .before .before .before .before .before .before .before .store .ensures)
 
--- src/lib.rt:183:13
 same-length-9 : tie.Need-same-length-9 Inv-loop μ-loop
-same-length-9 c = ?
+same-length-9 c = same-counts-as (c .before .before .before .before .before .before .before .before .before .before .before .loop .inv) (c .before .before .before .before .before .before .before .before .before .before .before .before .before .before .before .before .before .before .before .before .before .before .before .before .args .counts .now) (c .before .before .before .before .before .before .before .before .before .before .before .before .before .before .before .before .before .before .clear .ensures)
 
--- src/lib.rt:183:13
 returns-3 : tie.Need-returns-3 Inv-loop μ-loop
-returns-3 c = ?
+returns-3 c = λ hi hl hc few. let w = (under-way (c .before .before .before .before .before .before .before .before .before .before .before .loop .inv) _ (c .before .before .before .before .before .before .before .before .before .before .before .before .before .before .before .before .before .before .before .before .before .before .before .before .args .counts .now) (c .before .before .before .before .before .before .before .before .before .before .before .before .before .before .store .ensures) (c .before .before .before .before .before .before .before .before .before .before .before .before .before .before .before .before .before .before .clear .ensures) hi hl hc few) in turned w (c .before .before .before .before .before .before .before .before .got .given .0 .0) (c .before .before .before .before .before .before .before .before .got .given .0 .1 .0) (c .before .before .before .before .before .before .before .before .got .given .0 .1 .1 .0) (c .before .before .before .before .before .before .before .before .got .given .0 .1 .1 .1 .0) (c .before .before .before .before .before .before .before .before .got .given .0 .1 .1 .1 .1 .0) (sym (c .before .before .before .before .before .before .before .before .got .given .1) ∙ c .before .before .before .before .before .before .before .before .before .before .next .ensures) _ _ (c .before .before .before .before .before .payload .ensures) (c .before .before .before .before .before .before .if1 .left) (c .before .test .ensures (w .rs) (w .known) (w .passed)) (c .if2 .taken)
 
--- src/lib.rt:185:9
 enter-requires : tie.Need-enter-requires Inv-loop μ-loop
-enter-requires c κs = ?
+enter-requires c κs = search needs
 
--- src/lib.rt:165:5
 loop-less : tie.Need-loop-less Inv-loop μ-loop
-loop-less c = ?
+loop-less c = next-less (c .before .before .before .before .before .before .before .before .before .before .before .before .before .before .before .before .before .before .before .before .before .loop .inv) (c .before .before .before .before .before .before .before .before .before .before .before .before .before .before .before .before .before .before .got .given .0 .0) (c .before .before .before .before .before .before .before .before .before .before .before .before .before .before .before .before .before .before .got .given .0 .1 .0) (c .before .before .before .before .before .before .before .before .before .before .before .before .before .before .before .before .before .before .got .given .0 .1 .1 .0) (c .before .before .before .before .before .before .before .before .before .before .before .before .before .before .before .before .before .before .got .given .0 .1 .1 .1 .0) (c .before .before .before .before .before .before .before .before .before .before .before .before .before .before .before .before .before .before .got .given .0 .1 .1 .1 .1 .0) (sym (c .before .before .before .before .before .before .before .before .before .before .before .before .before .before .before .before .before .before .got .given .1) ∙ c .before .before .before .before .before .before .before .before .before .before .before .before .before .before .before .before .before .before .before .before .next .ensures)
 
--- src/lib.rt:165:5
 loop-again : tie.Need-loop-again Inv-loop μ-loop
-loop-again c = ?
+loop-again c = next-turn (c .before .before .before .before .before .before .before .before .before .before .before .before .before .before .before .before .before .before .before .before .before .loop .inv) (c .before .before .before .before .before .before .before .before .before .before .before .before .before .before .before .before .before .before .got .given .0 .0) (c .before .before .before .before .before .before .before .before .before .before .before .before .before .before .before .before .before .before .got .given .0 .1 .0) (c .before .before .before .before .before .before .before .before .before .before .before .before .before .before .before .before .before .before .got .given .0 .1 .1 .0) (c .before .before .before .before .before .before .before .before .before .before .before .before .before .before .before .before .before .before .got .given .0 .1 .1 .1 .0) (c .before .before .before .before .before .before .before .before .before .before .before .before .before .before .before .before .before .before .got .given .0 .1 .1 .1 .1 .0) (sym (c .before .before .before .before .before .before .before .before .before .before .before .before .before .before .before .before .before .before .got .given .1) ∙ c .before .before .before .before .before .before .before .before .before .before .before .before .before .before .before .before .before .before .before .before .next .ensures) _ _ _ _ _ (c .before .before .before .before .before .before .before .before .before .before .before .before .before .before .before .payload .ensures) (c .before .before .before .before .before .before .before .before .before .before .before .before .before .before .before .before .if1 .left) (c .before .before .before .before .before .before .before .before .before .before .before .test .ensures) (c .before .before .before .before .before .before .before .before .before .before .if2 .left) (c .before .before .before .before .before .index .given) (c .before .before .before .lens2 .given) (c .before .counts2 .given) (c .before .before .before .before .before .before .enter .ensures .0) (c .before .before .before .before .before .before .enter .ensures .1 .0) (c .before .before .before .before .before .before .enter .ensures .1 .1)
 
 pub walk-spec : {M : Type 1} → statement M
 walk-spec =

@@ -1,0 +1,5 @@
+pub mod Arrows
+pub mod Rows
+pub mod Filling
+pub mod Misfits
+pub mod Offers

@@ -1,0 +1,144 @@
+-- One row of the table: what a type's record and a sort's record make of the flags of the types before.
+use Prim.Native.Nat.{ℕ, zero, suc, _+_, _-_, _<_, _≤_}
+use native.Mathlib.Omega.{arith}
+use native.Mathlib.Nat.{zero-add, add-zero}
+use mathlib.Core.Path.{_≡_, refl, sym, ap, ap₂, subst, _∙_}
+use mathlib.Core.Bool.{Bool, true, false, _&&_, not}
+use mathlib.Core.List.{List, [], _∷_, List·Memᴰ, List·Memᴰ·head, List·Memᴰ·tail}
+use borrow.Author.Tests.{eq-eqb, ne-eqb}
+use lib.Dec.{eqb}
+use lib.ListN.{length, getD}
+use Rattle.scheme.specs.Lists.{all}
+use Rattle.scheme.specs.Sorts.{o, _⇒_}
+use Rattle.scheme.specs.Types.{Ty, state, arrow, fits, allFit}
+use Rattle.scheme.specs.Flags.{bit}
+use Rattle.records.specs.Fields.{field, byte, word}
+use Rattle.records.specs.Records.{Record}
+use Rattle.casefile.specs.Kinds.{sort, type, payloads}
+use Rattle.casefile.specs.Tables.{words, membersAt, arrowFrom, typeFrom, typesOf, sortFrom, sortsOf}
+use Rattle.casefile.proofs.Growth.{grow-grown}
+use Rattle.casefile.proofs.TypeNumbers.{Shape, a-state, an-arrow}
+use Rattle.casefile.proofs.TypeTable.{count-payloads, type-shape, type-made}
+use Rattle.casefile.proofs.SortTable.{sort-below, sort-made}
+use Rattle.fits.specs.Fitted.{flag, says, arrowSays, Holds, ArrowFits, fitsAt, Fitted, Listed}
+
+-- a flag that is a bit says that bit
+pub bit-says : (b : Bool) (x : ℕ) → x ≡ bit b → not (eqb x 0) ≡ b
+unfolding bit
+bit-says true x e = ap (λ y. not (eqb y 0)) e
+bit-says false x e = ap (λ y. not (eqb y 0)) e
+
+-- The flags of the types before t.
+module _ (fit : List ℕ) (t sorts : ℕ) (rs : List Record) (rows : Fitted fit t sorts rs) where
+  says-fits : (s k : ℕ) → k < t → s ≤ sorts → says fit s k ≡ fitsAt rs k s
+  says-fits s k h l = bit-says (fitsAt rs k s) (flag fit k s) (rows k s h l)
+
+  members-say : (from : ℕ) (ms : List ℕ) → ((m : ℕ) → List·Memᴰ m ms → m < t) → from ≤ sorts → all (says fit from) ms ≡ allFit (membersAt (typesOf rs) ms) (getD (sortsOf rs) from o)
+  unfolding all membersAt allFit
+  members-say from [] h l = refl
+  members-say from (m ∷ ms) h l = ap₂ _&&_ (says-fits from m (h m (List·Memᴰ·head refl)) l) (members-say from ms (λ k j. h k (List·Memᴰ·tail j)) l)
+
+  -- they decide for an arrow of earlier numbers
+  arrow-says : (from to r : ℕ) (ms : List ℕ) → r < t → ((m : ℕ) → List·Memᴰ m ms → m < t) → from ≤ sorts → to ≤ sorts
+      → arrowSays fit from to (r ∷ ms) ≡ fits (arrow (membersAt (typesOf rs) ms) (getD (typesOf rs) r (state 0))) (getD (sortsOf rs) from o ⇒ getD (sortsOf rs) to o)
+  unfolding arrowSays fits
+  arrow-says from to r ms hr hms hf ht = ap₂ _&&_ (says-fits to r hr ht) (members-say from ms hms hf)
+
+state-from : (types : List Ty) (p : List ℕ) → length p ≡ 1 → typeFrom types p ≡ state (byte p 0)
+unfolding typeFrom
+state-from types p e = rw (eq-eqb (length p) 1 e) refl
+
+arrow-from : (types : List Ty) (p : List ℕ) (r : ℕ) (ms : List ℕ) → eqb (length p) 1 ≡ false → words p ≡ r ∷ ms → typeFrom types p ≡ arrow (membersAt types ms) (getD types r (state 0))
+unfolding typeFrom arrowFrom
+arrow-from types p r ms e f = rw (e, f) refl
+
+-- sort 0
+first-sort : (rs : List Record) → getD (sortsOf rs) 0 o ≡ o
+unfolding sortsOf
+first-sort rs = ap (λ l. getD l 0 o) (grow-grown sortFrom (o ∷ []) (payloads sort rs))
+
+module _ {file index : List ℕ} {types sorts : ℕ} {rs : List Record} (li : Listed file index types sorts rs) where
+  abbrev typePay : ℕ → List ℕ
+  typePay t = getD (payloads type rs) t []
+
+  type-counted : types ≡ length (payloads type rs)
+  type-counted = sym (li .types-there .counted) ∙ count-payloads type rs
+
+  sort-counted : sorts ≡ length (payloads sort rs)
+  sort-counted = sym (li .sorts-there .counted) ∙ count-payloads sort rs
+
+  -- a listed sort goes from one sort to another, by its record
+  sort-there : (s place from to : ℕ) → 0 < s → s ≤ sorts → place ≡ getD index (s - 1) 0 → from ≡ word file place → to ≡ word file (place + 2)
+      → (getD (sortsOf rs) s o ≡ getD (sortsOf rs) from o ⇒ getD (sortsOf rs) to o) × (from ≤ sorts) × (to ≤ sorts)
+  unfolding sortFrom
+  sort-there s place from to h l ep ef et =
+      let i = s - 1 in
+      let hi : i < sorts = omega arith in
+      let hc : i < length (payloads sort rs) = omega (arith, sort-counted) in
+      let next : suc i ≡ s = omega arith in
+      let (four, x, y) = sort-below (li .passed) (li .sort-bytes) i hc in
+      let here : place ≡ getD index (0 + i) 0 = ep ∙ ap (λ k. getD index k 0) (sym (zero-add i)) in
+      let pay = getD (payloads sort rs) i [] in
+      let from-is : from ≡ word pay 0 = ef ∙ ap (field 2 file) (here ∙ sym (add-zero (getD index (0 + i) 0))) ∙ li .sorts-there .field-there i hi 2 0 (omega arith) in
+      let to-is : to ≡ word pay 2 = et ∙ ap (λ k. field 2 file (k + 2)) here ∙ li .sorts-there .field-there i hi 2 2 (omega arith) in (
+        ap (λ k. getD (sortsOf rs) k o) (sym next) ∙ sort-made (li .passed) (li .sort-bytes) i hc
+            ∙ ap₂ (λ (a b : ℕ). getD (sortsOf rs) a o ⇒ getD (sortsOf rs) b o) (sym from-is) (sym to-is),
+        omega arith,
+        omega arith,
+      )
+
+  module _ {t place : ℕ} (h : t < types) (ep : place ≡ getD index (1120 + t) 0) where
+    pub type-behind : 4 ≤ place
+    type-behind = subst (λ k. 4 ≤ k) (sym ep) (li .types-there .behind-header t h)
+
+    made : getD (typesOf rs) t (state 0) ≡ typeFrom (typesOf rs) (typePay t)
+    made = type-made (li .passed) (li .type-bytes) t (omega (arith, type-counted))
+
+    payload-there : Holds file place (typePay t)
+    payload-there w at l = ap (λ k. field w file (k + at)) ep ∙ li .types-there .field-there t h w at l
+
+    module _ {len : ℕ} (el : len ≡ word file (place - 4)) where
+      length-is : length (typePay t) ≡ len
+      length-is = let b = type-behind in sym (el ∙ li .types-there .length-there t (place - 4) h (omega (arith, ep)))
+
+      -- a state fits sort 0 alone
+      pub state-row : {r : ℕ} (s : ℕ) → s ≤ sorts → len ≡ 1 → r ≡ bit (eqb s 0) → r ≡ bit (fitsAt rs t s)
+      unfolding fits
+      state-row s l one e = e ∙ ap bit (sym (ap₂ fits (made ∙ state-from (typesOf rs) (typePay t) (length-is ∙ one)) refl ∙ by s l))
+        where
+          by : (s : ℕ) → s ≤ sorts → fits (state (byte (typePay t) 0)) (getD (sortsOf rs) s o) ≡ eqb s 0
+          by zero l = ap (fits (state (byte (typePay t) 0))) (first-sort rs)
+          by (suc s) l = ap (fits (state (byte (typePay t) 0))) (sort-there (suc s) (getD index (suc s - 1) 0) (word file (getD index (suc s - 1) 0)) (word file (getD index (suc s - 1) 0 + 2)) (omega arith) l refl refl refl .0)
+              ∙ sym (ne-eqb (suc s) 0 (λ z. omega arith))
+
+      -- an arrow is made of earlier types
+      pub record Arrow : Type 0 where
+        pub result : ℕ
+        pub parts : List ℕ
+        pub numbers : words (typePay t) ≡ result ∷ parts
+        pub result-before : result < t
+        pub parts-before : (m : ℕ) → List·Memᴰ m parts → m < t
+        pub is-arrow : getD (typesOf rs) t (state 0) ≡ arrow (membersAt (typesOf rs) parts) (getD (typesOf rs) result (state 0))
+
+      arrow-there : (len ≡ 1 → ⊥) → Arrow
+      arrow-there ne = by (type-shape (li .passed) (li .type-bytes) t (omega (arith, type-counted)))
+        where
+          by : Shape t (typePay t) → Arrow
+          by (a-state q e) = absurd (ne (sym length-is ∙ ap length e))
+          by (an-arrow r ms e f hr hms asc ps) = record { result = r; parts = ms; numbers = f; result-before = hr; parts-before = hms; is-arrow = made ∙ arrow-from (typesOf rs) (typePay t) r ms e f }
+
+      -- it does not fit sort 0
+      pub arrow-tree : (s : ℕ) → (len ≡ 1 → ⊥) → s ≡ 0 → 0 ≡ bit (fitsAt rs t s)
+      unfolding fits bit
+      arrow-tree s ne z = let a = arrow-there ne in sym (ap bit (ap₂ fits (a .is-arrow) (ap (λ k. getD (sortsOf rs) k o) z ∙ first-sort rs)))
+
+      -- it fits another sort as its numbers say
+      pub arrow-row : (fit : List ℕ) {r : ℕ} (s start from to : ℕ) → Fitted fit t sorts rs → s ≤ sorts → (len ≡ 1 → ⊥) → (s ≡ 0 → ⊥)
+          → start ≡ getD index (s - 1) 0 → from ≡ word file start → to ≡ word file (start + 2) → place < 65536 → len < 65536
+          → ArrowFits file fit place len from to r → r ≡ bit (fitsAt rs t s)
+      arrow-row fit s start from to rows l ne nz es ef et hp hl answer =
+          let a = arrow-there ne in
+          let (is-sort, hf, ht) = sort-there s start from to (omega arith) l es ef et in
+          answer hp hl (typePay t) payload-there length-is
+          ∙ ap bit (ap (arrowSays fit from to) (a .numbers) ∙ arrow-says fit t sorts rs rows from to (a .result) (a .parts) (a .result-before) (a .parts-before) hf ht
+          ∙ sym (ap₂ fits (a .is-arrow) is-sort))

@@ -1,0 +1,54 @@
+-- `fill_fits` meets its contract. The invariant: the rows before t are there.
+use Prim.Native.Nat.{_-_, _≤_}
+use mathlib.Core.List.{List}
+use native.Mathlib.Omega.{arith}
+use borrow.Author.Needs.{needs}
+use Rattle.records.specs.Records.{Record}
+use Rattle.fits.specs.Fitted.{Fitted, Listed}
+use Rattle.fits.proofs.fill_fits.Statement.{statement}
+use Rattle.fits.proofs.fill_fits.Tie as tie
+
+abbrev Inv-loop : tie.InvT-loop
+Inv-loop file index types sorts fit₀ t₀ fit t = (t ≤ types) × ((rs : List Record) → Listed file index types sorts rs → Fitted fit t sorts rs)
+
+abbrev μ-loop : tie.MeasureT-loop
+μ-loop file index types sorts fit₀ t₀ fit t = types - t
+
+returns : tie.Need-returns Inv-loop μ-loop
+returns c rs li = absurd (omega arith)
+
+returns-2 : tie.Need-returns-2 Inv-loop μ-loop
+returns-2 c rs li = absurd (omega arith)
+
+loop-holds : tie.Need-loop-holds Inv-loop μ-loop
+loop-holds c = (omega arith, λ rs li u s hu hs. absurd (omega arith))
+
+fill-row-requires : tie.Need-fill-row-requires Inv-loop μ-loop
+fill-row-requires c κs = search needs
+
+add-t : tie.Need-add-t Inv-loop μ-loop
+add-t c = omega arith
+
+loop-less : tie.Need-loop-less Inv-loop μ-loop
+loop-less c = omega arith
+
+loop-again : tie.Need-loop-again Inv-loop μ-loop
+loop-again c = (omega arith, λ rs li. c .fill-row .ensures _ rs li (omega arith) (c .before .before .before .loop .inv .1 rs li))
+
+returns-3 : tie.Need-returns-3 Inv-loop μ-loop
+returns-3 c rs li u s hu hs = c .before .loop .inv .1 rs li u s (omega arith) hs
+
+pub fill-fits-spec : {M : Type 1} → statement M
+fill-fits-spec =
+    tie.close
+    (tie.spec
+    Inv-loop
+    μ-loop
+    returns
+    returns-2
+    loop-holds
+    fill-row-requires
+    add-t
+    loop-less
+    loop-again
+    returns-3)
