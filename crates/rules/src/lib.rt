@@ -1,0 +1,1 @@
+// The bodies of all rules of a file.
