@@ -1,24 +1,24 @@
 -- One node more: the tables hold the terms from it on, or the body is not accepted.
-use Prim.Native.Nat.{ℕ, zero, suc, _+_, _*_, _-_, _/_, _<_, _≤_, max}
-use mathlib.Core.Path.{_≡_, refl, sym, ap, ap₂, subst, _∙_}
-use mathlib.Core.Bool.{Bool, true, false, _&&_}
+use Prim.Native.Nat.{ℕ, zero, suc, _+_, _*_, _/_, _<_, _≤_}
+use mathlib.Core.Path.{_≡_, refl, sym, ap, subst, _∙_}
+use mathlib.Core.Bool.{Bool, true, false}
 use mathlib.Core.List.{List, [], _∷_}
-use mathlib.Core.Option.{Option, none, some}
+use mathlib.Core.Option.{some}
 use native.Mathlib.Omega.{arith}
-use native.Mathlib.Nat.{le-of-suc-le-suc, not-suc-le-zero}
+use native.Mathlib.Nat.{le-of-suc-le-suc}
 use borrow.Author.Tests.{le-leb, leb-true, leb-false}
 use lib.Dec.{T, leb, leb→le}
-use lib.ListN.{length, getD, set, take, drop, length-set}
+use lib.ListN.{length, getD, drop, length-set}
 use lib.Seq.{getD-set-same, getD-set-other, drop-set-lt}
-use Rattle.scheme.specs.Sorts.{Sort, o, _⇒_}
+use Rattle.scheme.specs.Sorts.{Sort}
 use Rattle.scheme.specs.Sorting.{sortOf, sortAfter}
-use Rattle.scheme.specs.Terms.{Head, Term, node, Terms, []ᵗ, _∷ᵗ_, countᵗ, nodes, nodesAll}
+use Rattle.scheme.specs.Terms.{Head, Terms, []ᵗ, _∷ᵗ_, countᵗ, nodes, nodesAll}
 use Rattle.scheme.specs.Prefix.{Node, takeᵗ, dropᵗ, terms, complete, depth, deepest}
 use Rattle.scheme.proofs.Lists.{and-left, and-right, and-both, true→T}
 use Rattle.records.specs.Fields.{field}
 use Rattle.casefile.specs.Tables.{headOf, nodesOf, firstTerm}
 use Rattle.bodies.specs.Tables.{Stored}
-use Rattle.bodies.specs.Sorted.{Code, Coded}
+use Rattle.bodies.specs.Sorted.{Code}
 use Rattle.bodies.specs.Bodies.{Held, Fits, ArgumentsFit, Goods, Held-from, headsBy, Setting, cellAt, HeadCode, NodeRead}
 use Rattle.bodies.specs.declared.Arguments.{Arguments}
 use Rattle.bodies.proofs.Codes.{code-small}

@@ -1,6 +1,6 @@
 -- Sorts by code: the code of a listed sort is its number; constructors' sorts, one after another; a sort with an argument off.
 use Prim.Native.Nat.{ℕ, zero, suc, _+_, _-_, _<_, _≤_}
-use mathlib.Core.Path.{_≡_, refl, sym, ap, subst, _∙_}
+use mathlib.Core.Path.{_≡_, refl, sym, ap, _∙_}
 use mathlib.Core.Bool.{Bool, true, false, _&&_}
 use mathlib.Core.List.{List, [], _∷_}
 use native.Mathlib.Omega.{arith}
@@ -9,7 +9,14 @@ use lib.Dec.{eqb}
 use lib.ListN.{length, getD}
 use Rattle.scheme.specs.Sorts.{Sort, o, _⇒_, treeSort}
 use Rattle.scheme.proofs.Lists.{and-true}
-use Rattle.bodies.specs.Sorted.{SortArrays, Code, listed, unlisted, TreeCodes, Coded, Off, misfit, off, ArrowTo, NextTree}
+use Rattle.bodies.specs.Sorted.{SortArrays, Code, listed, unlisted, TreeCodes, Coded, Off, misfit, off, ArrowTo}
+
+-- two tests, one after the other
+pub both-no : (a n : ℕ) (t : Bool) → (a ≡ n → ⊥) → false ≡ (eqb a n && t)
+both-no a n t h = let e = ne-eqb a n h in rw e refl
+
+pub both-last : (a n : ℕ) (t : Bool) → a ≡ n → t ≡ (eqb a n && t)
+both-last a n t h = let e = eq-eqb a n h in rw e refl
 
 -- what the test for an arrow says
 pub arrow-yes : (a b to : ℕ) (t : Bool) → t ≡ (eqb a 0 && eqb b to) → t ≡ true → (a ≡ 0) × (b ≡ to)

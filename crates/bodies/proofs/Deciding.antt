@@ -1,23 +1,23 @@
 -- From the tables of a body to the verdict on it.
-use Prim.Native.Nat.{ℕ, zero, suc, _+_, _/_, _<_, _≤_}
+use Prim.Native.Nat.{ℕ, _/_, _<_, _≤_}
 use mathlib.Core.Path.{_≡_, refl, sym, ap, subst, _∙_}
 use mathlib.Core.Bool.{Bool, true, false, _&&_, not}
 use mathlib.Core.List.{List, [], _∷_, map}
 use mathlib.Core.Option.{Option, none, some}
 use native.Mathlib.Omega.{arith}
 use borrow.Author.Tests.{le-leb, leb-true, eqb-true, eqb-false, eq-eqb}
-use lib.Dec.{T, leb, eqb}
-use lib.ListN.{length, getD, drop}
+use lib.Dec.{leb, eqb}
+use lib.ListN.{length, getD}
 use Rattle.scheme.specs.Lists.{found}
 use Rattle.scheme.specs.Sorts.{Sort, o, sameSort}
-use Rattle.scheme.specs.Sorting.{sortOf, headSort}
-use Rattle.scheme.specs.Terms.{Head, Term, Terms, []ᵗ, _∷ᵗ_, countᵗ, nodes}
-use Rattle.scheme.specs.Prefix.{Node, terms, complete, depth}
+use Rattle.scheme.specs.Sorting.{sortOf}
+use Rattle.scheme.specs.Terms.{Head, Terms, []ᵗ, _∷ᵗ_, countᵗ}
+use Rattle.scheme.specs.Prefix.{terms, complete, depth}
 use Rattle.scheme.proofs.Lists.{and-true, T→true, true→T}
 use Rattle.casefile.specs.Tables.{nodesOf, firstTerm, bodyOf}
 use Rattle.casefile.specs.Refusals.{wrongBody}
-use Rattle.bodies.specs.Sorted.{SortArrays, Code}
-use Rattle.bodies.specs.Bodies.{Held, Held-from, Goods, headsBy, Setting, Scanned, BodyDecided}
+use Rattle.bodies.specs.Sorted.{SortArrays}
+use Rattle.bodies.specs.Bodies.{Held, Goods, headsBy, Setting, Scanned, BodyDecided}
 use Rattle.bodies.proofs.Codes.{code-listed, listed-code}
 use Rattle.bodies.proofs.Loop.{same-true, same-refl}
 use Rattle.bodies.proofs.Nodes.{nodes-length}
@@ -140,7 +140,7 @@ module _ {p froms tos trees arities signatures : List ℕ} {own : ℕ} where
       nodes-some : 0 < length (nodesOf p)
       nodes-some = let e = nodes-length p in omega arith
 
-      pub decide-ends : (e : ℕ) → e ≡ getD ends 0 0 → (e ≡ length p / 4 → ⊥) → BodyDecided p froms tos trees arities signatures own before ends false
+      decide-ends : (e : ℕ) → e ≡ getD ends 0 0 → (e ≡ length p / 4 → ⊥) → BodyDecided p froms tos trees arities signatures own before ends false
       decide-ends e ee ne = record {
         long = s .long;
         rest = s .rest;
@@ -162,10 +162,17 @@ module _ {p froms tos trees arities signatures : List ℕ} {own : ℕ} where
           refused p own sorts counts numbers
           (verdict-codes (headsBy sorts counts numbers own) (w .coded .table) ends codes depths nodes-some (complete (nodesOf p)) (terms (nodesOf p)) (h .held) (λ f. eqb-false code 0 eb (ec ∙ f)))
 
-      pub decide-last : (e code : ℕ) → e ≡ getD ends 0 0 → e ≡ length p / 4 → code ≡ getD codes 0 0 → BodyDecided p froms tos trees arities signatures own before ends (eqb code 0)
+      decide-last : (e code : ℕ) → e ≡ getD ends 0 0 → e ≡ length p / 4 → code ≡ getD codes 0 0 → BodyDecided p froms tos trees arities signatures own before ends (eqb code 0)
       decide-last e code ee en ec = record {
         long = s .long;
         rest = s .rest;
         decided = λ sorts counts numbers w l m. last-cases code (eqb code 0) refl ec (sym ee ∙ en ∙ sym (nodes-length p)) sorts counts numbers w m;
         ends-are = λ sorts counts numbers w l m f i k. let q = nodes-length p in s .holds sorts counts numbers w m y .ends-are i (omega arith) (omega arith);
       }
+
+      tree-cases : (x : Bool) → eqb (getD ends 0 0) (length p / 4) ≡ x → BodyDecided p froms tos trees arities signatures own before ends (x && eqb (getD codes 0 0) 0)
+      tree-cases true e = decide-last (getD ends 0 0) (getD codes 0 0) refl (eqb-true (getD ends 0 0) (length p / 4) e) refl
+      tree-cases false e = decide-ends (getD ends 0 0) refl (eqb-false (getD ends 0 0) (length p / 4) e)
+
+      pub decide-tree : (b : Bool) → b ≡ (eqb (getD ends 0 0) (length p / 4) && eqb (getD codes 0 0) 0) → BodyDecided p froms tos trees arities signatures own before ends b
+      decide-tree b e = subst (λ x. BodyDecided p froms tos trees arities signatures own before ends x) (sym e) (tree-cases (eqb (getD ends 0 0) (length p / 4)) refl)

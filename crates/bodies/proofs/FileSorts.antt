@@ -1,15 +1,15 @@
 -- The sorts of a file, by arrays that hold the two numbers of each sort record.
-use Prim.Native.Nat.{ℕ, zero, suc, _+_, _<_, _≤_}
-use mathlib.Core.Path.{_≡_, refl, sym, ap, ap₂, subst, _∙_}
+use Prim.Native.Nat.{ℕ, zero, suc, _<_}
+use mathlib.Core.Path.{_≡_, sym, ap, ap₂, _∙_}
 use mathlib.Core.List.{List, [], _∷_}
 use native.Mathlib.Omega.{arith}
 use native.Mathlib.Nat.{le-of-suc-le-suc}
 use lib.ListN.{length, getD}
-use Rattle.scheme.specs.Sorts.{Sort, o, _⇒_}
+use Rattle.scheme.specs.Sorts.{o, _⇒_}
 use Rattle.records.specs.Fields.{word}
 use Rattle.records.specs.Records.{Record}
 use Rattle.records.proofs.Fields.{Bytes}
-use Rattle.casefile.specs.Kinds.{Kind, sort, payloads}
+use Rattle.casefile.specs.Kinds.{sort, payloads}
 use Rattle.casefile.specs.Tables.{sortFrom, sortsOf}
 use Rattle.casefile.proofs.Growth.{grow-grown, grow-length}
 use Rattle.casefile.proofs.Passed.{Passed}

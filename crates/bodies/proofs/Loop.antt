@@ -1,18 +1,17 @@
 -- The arguments of a node, one after another: what is left of them leads to what all of them come to.
 use Prim.Native.Nat.{ℕ, zero, suc, _+_, _-_, _<_, _≤_, max}
-use mathlib.Core.Path.{_≡_, refl, sym, ap, ap₂, subst, _∙_}
+use mathlib.Core.Path.{_≡_, refl, sym, ap, ap₂, _∙_}
 use mathlib.Core.Bool.{Bool, true, false}
 use mathlib.Core.List.{List}
 use mathlib.Core.Option.{Option, none, some}
 use native.Mathlib.Omega.{arith}
-use lib.Dec.{T}
-use lib.ListN.{length, getD}
-use Rattle.scheme.specs.Lists.{if_then_else_, found}
+use lib.ListN.{getD}
+use Rattle.scheme.specs.Lists.{found}
 use Rattle.scheme.specs.Sorts.{Sort, o, _⇒_, sameSort}
 use Rattle.scheme.specs.Sorting.{sortOf, sortAfter}
-use Rattle.scheme.specs.Terms.{Head, Term, node, Terms, []ᵗ, _∷ᵗ_, countᵗ, nodes, nodesAll}
+use Rattle.scheme.specs.Terms.{Head, Term, Terms, []ᵗ, _∷ᵗ_, countᵗ, nodes, nodesAll}
 use Rattle.scheme.specs.Prefix.{takeᵗ, depth, deepest}
-use Rattle.scheme.proofs.Lists.{and-true, T→true}
+use Rattle.scheme.proofs.Lists.{and-true}
 use Rattle.bodies.specs.Sorted.{Code, Coded, Off, misfit, off, Applied}
 use Rattle.bodies.specs.Bodies.{Held, Fits, ArgumentsFit}
 use Rattle.bodies.specs.declared.Arguments.{Arguments}

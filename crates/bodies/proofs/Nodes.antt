@@ -1,7 +1,7 @@
 -- The nodes of a body by number, and the sorts of their heads.
-use Prim.Native.Nat.{ℕ, zero, suc, _+_, _*_, _-_, _/_, _<_, _≤_}
-use mathlib.Core.Path.{_≡_, refl, sym, ap, ap₂, subst, _∙_}
-use mathlib.Core.Bool.{Bool, true, false, _||_}
+use Prim.Native.Nat.{ℕ, zero, suc, _+_, _*_, _/_, _<_, _≤_}
+use mathlib.Core.Path.{_≡_, refl, sym, ap, subst, _∙_}
+use mathlib.Core.Bool.{Bool, false, _||_}
 use mathlib.Core.List.{List, [], _∷_, map}
 use native.Mathlib.Omega.{arith}
 use native.Mathlib.Nat.{le-of-suc-le-suc}
@@ -10,16 +10,15 @@ use lib.Dec.{leb, ltb}
 use lib.ListN.{length, getD, take, drop, length-map, List·getD-map}
 use lib.Seq.{drop-cons, getD-take}
 use Rattle.scheme.specs.Lists.{any}
-use Rattle.scheme.specs.Sorts.{Sort, o, arguments, treeSort}
+use Rattle.scheme.specs.Sorts.{Sort, o, arguments}
 use Rattle.scheme.specs.Sorting.{headSort}
-use Rattle.scheme.specs.Terms.{Head, con, nt, par}
 use Rattle.scheme.specs.Prefix.{Node}
 use Rattle.scheme.proofs.Lists.{or-false}
 use Rattle.records.specs.Fields.{field}
 use Rattle.casefile.specs.Tables.{Cell, cellsOf, headOf, nodesOf}
 use Rattle.casefile.specs.Refusals.{wrongCell}
-use Rattle.bodies.specs.Sorted.{SortArrays, Code, listed, Coded, ParameterSort}
-use Rattle.bodies.specs.Bodies.{headsBy, Setting, cellAt, HeadCode}
+use Rattle.bodies.specs.Sorted.{Code, listed, ParameterSort}
+use Rattle.bodies.specs.Bodies.{headsBy, Setting, cellAt}
 
 -- a field behind four bytes
 field-four : (w : ℕ) (t a b k : ℕ) (l : List ℕ) (j i : ℕ) → j ≡ 4 + i → field w (t ∷ a ∷ b ∷ k ∷ l) j ≡ field w l i

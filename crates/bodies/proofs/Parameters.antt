@@ -1,10 +1,10 @@
 -- The sorts of parameters, along the numbers of a nonterminal's sort.
-use Prim.Native.Nat.{ℕ, zero, suc, _+_, _-_, _<_, _≤_}
-use mathlib.Core.Path.{_≡_, refl, sym, ap, subst, _∙_}
-use mathlib.Core.List.{List, [], _∷_}
+use Prim.Native.Nat.{ℕ, zero, suc, _-_, _<_}
+use mathlib.Core.Path.{_≡_, refl, ap, _∙_}
+use mathlib.Core.List.{List, _∷_}
 use native.Mathlib.Omega.{arith}
 use lib.ListN.{length, getD}
-use Rattle.scheme.specs.Sorts.{Sort, o, _⇒_, arguments}
+use Rattle.scheme.specs.Sorts.{Sort, o, arguments}
 use Rattle.bodies.specs.Sorted.{SortArrays, ParameterSort}
 
 -- a sort that has arguments is listed with the first one's number and that of the rest

@@ -1,13 +1,13 @@
 -- The pass over a body's nodes, the last one first.
-use Prim.Native.Nat.{ℕ, zero, suc, _+_, _-_, _/_, _<_, _≤_}
-use mathlib.Core.Path.{_≡_, refl, sym, ap, subst, _∙_}
+use Prim.Native.Nat.{ℕ, suc, _-_, _/_, _<_, _≤_}
+use mathlib.Core.Path.{_≡_, refl, sym, subst, _∙_}
 use mathlib.Core.Bool.{Bool, true, false}
 use mathlib.Core.List.{List, []}
 use native.Mathlib.Omega.{arith}
 use lib.Dec.{T}
-use lib.ListN.{length, getD, drop, drop-of-length-le}
+use lib.ListN.{length, drop, drop-of-length-le}
 use Rattle.scheme.specs.Sorts.{Sort}
-use Rattle.scheme.specs.Terms.{Head, []ᵗ}
+use Rattle.scheme.specs.Terms.{Head}
 use Rattle.scheme.specs.Prefix.{Node, terms, complete}
 use Rattle.casefile.specs.Tables.{nodesOf}
 use Rattle.bodies.specs.Bodies.{Held, Held-from, headsBy, Setting, NodeRead, Scanned}

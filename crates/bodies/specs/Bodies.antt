@@ -9,12 +9,12 @@ use lib.ListN.{length, getD, take, drop}
 use Rattle.scheme.specs.Lists.{any}
 use Rattle.scheme.specs.Sorts.{Sort, o, arguments}
 use Rattle.scheme.specs.Sorting.{headSort, sortOf, sortAfter}
-use Rattle.scheme.specs.Terms.{Head, Term, Terms, []ᵗ, _∷ᵗ_, countᵗ, nodes, nodesAll}
+use Rattle.scheme.specs.Terms.{Head, Terms, []ᵗ, _∷ᵗ_, countᵗ, nodes, nodesAll}
 use Rattle.scheme.specs.Prefix.{Node, takeᵗ, terms, complete, depth, deepest}
 use Rattle.records.specs.Fields.{field}
 use Rattle.casefile.specs.Tables.{Cell, cellsOf, headOf, nodesOf, firstTerm}
 use Rattle.casefile.specs.Refusals.{wrongCell, wrongBody}
-use Rattle.bodies.specs.Sorted.{SortArrays, Code, Coded}
+use Rattle.bodies.specs.Sorted.{Code, Coded}
 use Rattle.bodies.specs.declared.Arguments.{Arguments}
 
 -- the tables hold terms one after another from node `at` up to node n: where each ends, the code of its sort, its depth

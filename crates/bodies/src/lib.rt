@@ -277,6 +277,17 @@ fn scan(
     true
 }
 
+// Do the tables hold one term of sort o, of n nodes?
+fn one_tree(ends: &[u16], codes: &[u16], n: usize) -> bool
+    ensures { λ r. ⌜ r ≡ (eqb (getD (now (ends .entry)) 0 0) n && eqb (getD (now (codes .entry)) 0 0) 0) ⌝ }
+{
+    let end = entry_at(ends, 0);
+    if end != n {
+        return false;
+    }
+    entry_at(codes, 0) == 0
+}
+
 // Is the body one term of sort o within 64 levels? Where it is, `ends` has for each node the number of the node behind its subterm.
 pub fn body_fits(
     p: &[u8],
@@ -313,9 +324,5 @@ pub fn body_fits(
     ) {
         return false;
     }
-    let end = entry_at(ends, 0);
-    if end != n {
-        return false;
-    }
-    entry_at(&codes, 0) == 0
+    one_tree(ends, &codes, n)
 }

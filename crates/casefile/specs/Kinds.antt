@@ -38,3 +38,7 @@ payloads k rs = map (λ (r : Record). r .payload) (ofKind k rs)
 -- how many there are
 unfoldable pub count : Kind → List Record → ℕ
 count k rs = length (ofKind k rs)
+
+-- the place of record number i of a kind
+abbrev pub placeOf : Kind → List Record → ℕ → ℕ
+placeOf k rs i = getD (map (λ (r : Record). r .place) (ofKind k rs)) i 0

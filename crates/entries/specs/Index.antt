@@ -5,7 +5,7 @@ use mathlib.Core.List.{List, []}
 use lib.ListN.{length, getD}
 use Rattle.records.specs.Fields.{field, word}
 use Rattle.records.specs.Records.{Record}
-use Rattle.casefile.specs.Kinds.{Kind, sort, constructor, nonterminal, rule, states, transition, type, binding, path, payloads, count}
+use Rattle.casefile.specs.Kinds.{Kind, sort, constructor, nonterminal, rule, states, transition, type, binding, path, payloads, count, placeOf}
 
 -- where the entries of a kind begin in the index: behind as many as each kind before may have
 abbrev pub base : Kind → ℕ
@@ -19,10 +19,11 @@ base binding = 2144
 base states = 3168
 base path = 3169
 
--- after the records rs, the index holds n entries of kind k: the offset of each payload in the file, whose length stands
--- four bytes before it
+-- after the records rs, the index holds n entries of kind k: the offset of each payload in the file, whose record
+-- begins four bytes before it with its length
 pub record Indexed (file index : List ℕ) (k : Kind) (n : ℕ) (rs : List Record) : Type 0 where
   pub counted : count k rs ≡ n
   pub behind-header : (i : ℕ) → i < n → 4 ≤ getD index (base k + i) 0
+  pub place-there : (i : ℕ) → i < n → placeOf k rs i + 4 ≡ getD index (base k + i) 0
   pub length-there : (i : ℕ) (at : ℕ) → i < n → at + 4 ≡ getD index (base k + i) 0 → word file at ≡ length (getD (payloads k rs) i [])
   pub field-there : (i : ℕ) → i < n → (w at : ℕ) → at + w ≤ length (getD (payloads k rs) i []) → field w file (getD index (base k + i) 0 + at) ≡ field w (getD (payloads k rs) i []) at

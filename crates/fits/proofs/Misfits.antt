@@ -15,11 +15,11 @@ use Rattle.scheme.specs.Types.{Ty, state, fits}
 use Rattle.scheme.specs.Flags.{bit}
 use Rattle.records.specs.Fields.{field, word}
 use Rattle.records.specs.Records.{Record}
-use Rattle.casefile.specs.Kinds.{nonterminal, binding, ofKind, payloads, count}
+use Rattle.casefile.specs.Kinds.{nonterminal, binding, ofKind, payloads, count, placeOf}
 use Rattle.casefile.specs.Tables.{typesOf, sortsOf, signaturesOf, bindingsOf}
 use Rattle.casefile.specs.Refusals.{Test, refuse_at_when_, first, wrongLength, misfits}
 use Rattle.casefile.proofs.TypeTable.{count-payloads}
-use Rattle.fits.specs.Fitted.{flag, bindingFits, Offered, FirstMisfit, FindsMisfit, placeOf}
+use Rattle.fits.specs.Fitted.{flag, bindingFits, Offered, FirstMisfit, FindsMisfit}
 use Rattle.fits.proofs.Rows.{bit-says}
 
 getD-map-in : {A B : Type 0} (f : A → B) (l : List A) (n : ℕ) (d : A) (e : B) → n < length l → getD (map f l) n e ≡ f (getD l n d)

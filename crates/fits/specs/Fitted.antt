@@ -99,7 +99,3 @@ pub record FirstMisfit (rs : List Record) (bindings r : ℕ) : Type 0 where
 abbrev pub FindsMisfit : List ℕ → List ℕ → List ℕ → ℕ → ℕ → Type 0
 FindsMisfit file index fit bindings r =
     (nonterminals types sorts : ℕ) (rs : List Record) → Offered file index fit bindings nonterminals types sorts rs → FirstMisfit rs bindings r
-
--- the place in the file of entry i of a kind
-abbrev pub placeOf : Kind → List Record → ℕ → ℕ
-placeOf k rs i = getD (map (λ (r : Record). r .place) (ofKind k rs)) i 0

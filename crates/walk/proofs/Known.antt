@@ -6,19 +6,20 @@ use native.Mathlib.Decide.{ℕ-discrete, decLt}
 use mathlib.Core.Path.{_≡_, refl, sym, ap, ap₂, subst, _∙_}
 use mathlib.Core.Logic.{_⊎_, inl, inr, _≢_}
 use mathlib.Core.Bool.{Bool, true, false, true≢false}
-use mathlib.Core.List.{List, [], _∷_, _++_}
+use mathlib.Core.List.{List, [], _∷_, _++_, map, map-append, append-nil}
 use mathlib.Core.Option.{some}
 use borrow.Author.Tests.{eq-eqb, ne-eqb, eqb-true, le-ltb, lt-ltb}
 use lib.Dec.{eqb, ltb}
-use lib.ListN.{length, getD, take, drop, set, length-set, length-append, List·getD-append}
+use lib.ListN.{length, getD, take, drop, set, length-set, length-map, length-append, List·getD-append}
 use lib.Seq.{getD-at, getD-set-same, getD-set-other, getD-append-seam, getD-take, getD-drop}
-use Rattle.scheme.specs.Lists.{if_then_else_}
+use Rattle.scheme.specs.Lists.{if_then_else_, keepIf, select}
+use Rattle.scheme.proofs.Lists.{select-append}
 use Rattle.scheme.specs.Sorts.{Sort, o, _⇒_, arguments}
 use Rattle.records.specs.Fields.{field, word}
 use Rattle.records.specs.Records.{Record, whole, recordAt}
 use Rattle.records.proofs.Fields.{field-part}
 use Rattle.records.proofs.Reading.{payload-length, whole-end}
-use Rattle.casefile.specs.Kinds.{Kind, sort, constructor, nonterminal, rule, states, transition, type, binding, path, number, kindOf, payloads, count}
+use Rattle.casefile.specs.Kinds.{Kind, sort, constructor, nonterminal, rule, states, transition, type, binding, path, number, kindOf, ofKind, payloads, count, placeOf}
 use Rattle.casefile.specs.Tables.{grow, sortFrom, sortsOf}
 use Rattle.casefile.proofs.Passed.{payloads-more, payloads-other, kindOf-number}
 use Rattle.casefile.proofs.Growth.{grow-append, grow-length}
@@ -46,6 +47,19 @@ block path i h = simp (le-ltb (3169 + i) 64 (omega arith), le-ltb (3169 + i) 96 
 apart : (k k′ : Kind) (i j : ℕ) → i < room k → j < room k′ → (number k ≡ number k′ → ⊥) → base k + i ≢ base k′ + j
 apart k k′ i j h h′ ne e = ne (sym (block k i h) ∙ ap blockOf e ∙ block k′ j h′)
 
+-- the places of records, with one record more
+place-other : (k : Kind) (rs : List Record) (r : Record) → eqb (r .kind) (number k) ≡ false → (i : ℕ) → placeOf k (rs ++ (r ∷ [])) i ≡ placeOf k rs i
+unfolding ofKind select keepIf
+place-other k rs r e i = rw (select-append, e, append-nil) refl
+
+places-more : (k : Kind) (rs : List Record) (r : Record) → eqb (r .kind) (number k) ≡ true → map (λ (r : Record). r .place) (ofKind k (rs ++ (r ∷ []))) ≡ map (λ (r : Record). r .place) (ofKind k rs) ++ (r .place ∷ [])
+unfolding ofKind select keepIf
+places-more k rs r e = rw (select-append, e) (map-append (λ (r : Record). r .place) (ofKind k rs) (r ∷ []))
+
+places-many : (k : Kind) (rs : List Record) → length (map (λ (r : Record). r .place) (ofKind k rs)) ≡ count k rs
+unfolding count
+places-many k rs = length-map (ofKind k rs) (λ (r : Record). r .place)
+
 -- the entries of a kind stay where another place of the index is written
 module _ (file index : List ℕ) (rs : List Record) (r : Record) (k : Kind) (n : ℕ) (old : Indexed file index k n rs) where
   -- the record is of another kind
@@ -55,6 +69,7 @@ module _ (file index : List ℕ) (rs : List Record) (r : Record) (k : Kind) (n :
       record {
         counted = count-payloads k (rs ++ (r ∷ [])) ∙ ap length same ∙ sym (count-payloads k rs) ∙ old .counted;
         behind-header = λ i h. rw (getD-set-other index place (base k + i) start 0 (away i h)) (old .behind-header i h);
+        place-there = λ i h. ap (_+ 4) (place-other k rs r e i) ∙ old .place-there i h ∙ sym (getD-set-other index place (base k + i) start 0 (away i h));
         length-there = λ i at h f. rw same (old .length-there i at h (f ∙ getD-set-other index place (base k + i) start 0 (away i h)));
         field-there = λ i h w at l. rw (getD-set-other index place (base k + i) start 0 (away i h), same) (old .field-there i h w at (rw same at l));
       }
@@ -103,6 +118,20 @@ module _ (file index : List ℕ) (rs : List Record) (r : Record) (k : Kind) (n :
         go (inl l) = rw (old-place i l, old-payload i l) (olds i l)
         go (inr f) = rw f (rw (new-place, new-payload) new)
 
+    old-where : (i : ℕ) → i < n → placeOf k (rs ++ (r ∷ [])) i ≡ placeOf k rs i
+    old-where i h = ap (λ l. getD l i 0) (places-more k rs r e) ∙ List·getD-append (map (λ (r : Record). r .place) (ofKind k rs)) (r .place ∷ []) 0 i (let a = places-many k rs in let b = old .counted in omega arith)
+
+    new-where : placeOf k (rs ++ (r ∷ [])) n ≡ at
+    unfolding recordAt
+    new-where = ap (λ l. getD l n 0) (places-more k rs r e) ∙ getD-at (map (λ (r : Record). r .place) (ofKind k rs)) (r .place) [] 0 n (places-many k rs ∙ old .counted) ∙ ap (λ (z : Record). z .place) is-record
+
+    where-all : (i : ℕ) → i < suc n → placeOf k (rs ++ (r ∷ [])) i + 4 ≡ getD index′ (base k + i) 0
+    where-all i h = go (last-or i h)
+      where
+        go : (i < n) ⊎ (i ≡ n) → placeOf k (rs ++ (r ∷ [])) i + 4 ≡ getD index′ (base k + i) 0
+        go (inl l) = ap (_+ 4) (old-where i l) ∙ old .place-there i l ∙ sym (old-place i l)
+        go (inr f) = rw f (ap (_+ 4) new-where ∙ sym new-place)
+
     new-length : (a : ℕ) → a + 4 ≡ at + 4 → word file a ≡ length (recordAt file at .payload)
     new-length a f = let same : a ≡ at = omega arith in ap (word file) same ∙ sym (payload-length file at fits)
 
@@ -116,6 +145,7 @@ module _ (file index : List ℕ) (rs : List Record) (r : Record) (k : Kind) (n :
         record {
           counted = count-payloads k (rs ++ (r ∷ [])) ∙ ap length all-payloads ∙ length-append (payloads k rs) (r .payload ∷ []) ∙ omega (arith, so-many);
           behind-header = each (λ a p. 4 ≤ a) (λ i h. old .behind-header i h) (omega arith);
+          place-there = where-all;
           length-there = λ i a h. each (λ b p. a + 4 ≡ b → word file a ≡ length p) (λ j l. old .length-there j a l) (new-length a) i h;
           field-there = each (λ b p. (w off : ℕ) → off + w ≤ length p → field w file (b + off) ≡ field w p off) (λ i h. old .field-there i h) new-field;
         }

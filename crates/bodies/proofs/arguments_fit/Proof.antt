@@ -1,6 +1,5 @@
 -- `arguments_fit` meets its contract: what is left of the arguments leads to what all of them come to.
 use native.Mathlib.Omega.{arith}
-use mathlib.Core.Path.{ap, _∙_}
 use Rattle.bodies.proofs.Loop.{Leads, leads-start, leads-end, leads-short, leads-misfit, leads-next}
 use borrow.Author.Needs.{needs}
 use Rattle.bodies.proofs.arguments_fit.Statement.{statement}

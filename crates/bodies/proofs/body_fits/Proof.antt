@@ -1,6 +1,6 @@
 -- `body_fits` meets its contract.
 use borrow.Author.Tests.{not-true, not-false}
-use Rattle.bodies.proofs.Deciding.{decide-long, decide-empty, decide-fails, decide-ends, decide-last}
+use Rattle.bodies.proofs.Deciding.{decide-long, decide-empty, decide-fails, decide-tree}
 use borrow.Author.Needs.{needs}
 use Rattle.bodies.proofs.body_fits.Statement.{statement}
 use Rattle.bodies.proofs.body_fits.Tie as tie
@@ -26,26 +26,17 @@ same-length c = search needs
 returns-3 : tie.Need-returns-3
 returns-3 c = decide-fails (c .before .before .before .before .before .scan .ensures) (not-true _ (c .if3 .taken))
 
-entry-at-requires : tie.Need-entry-at-requires
-entry-at-requires c κs = search needs
+slice-aggregate-one-tree : tie.Need-slice-aggregate-one-tree
+slice-aggregate-one-tree c = search needs
+
+one-tree-requires : tie.Need-one-tree-requires
+one-tree-requires c κs = search needs
 
 same-length-2 : tie.Need-same-length-2
 same-length-2 c = search needs
 
 returns-4 : tie.Need-returns-4
-returns-4 c = decide-ends (c .before .before .before .before .before .before .before .before .scan .ensures) (not-false _ (c .before .before .before .if3 .left)) (c .before .before .before .before .before .before .before .before .before .before .before .before .if2 .left) _ (c .before .entry-at .ensures .value) (c .if4 .taken)
-
-slice-aggregate-entry-at : tie.Need-slice-aggregate-entry-at
-slice-aggregate-entry-at c = search needs
-
-entry-at-requires-2 : tie.Need-entry-at-requires-2
-entry-at-requires-2 c κs = search needs
-
-same-length-3 : tie.Need-same-length-3
-same-length-3 c = search needs
-
-returns-5 : tie.Need-returns-5
-returns-5 c = decide-last (c .before .before .before .before .before .before .before .before .before .before .scan .ensures) (not-false _ (c .before .before .before .before .before .if3 .left)) (c .before .before .before .before .before .before .before .before .before .before .before .before .before .before .if2 .left) _ _ (c .before .before .before .entry-at .ensures .value) (c .before .before .if4 .left) (c .entry-at2 .ensures .value)
+returns-4 c = decide-tree (c .before .before .before .before .before .before .before .before .scan .ensures) (not-false _ (c .before .before .before .if3 .left)) (c .before .before .before .before .before .before .before .before .before .before .before .before .if2 .left) _ (c .one-tree .ensures)
 
 pub body-fits-spec : {M : Type 1} → statement M
 body-fits-spec =
@@ -58,10 +49,7 @@ body-fits-spec =
     scan-requires
     same-length
     returns-3
-    entry-at-requires
+    slice-aggregate-one-tree
+    one-tree-requires
     same-length-2
-    returns-4
-    slice-aggregate-entry-at
-    entry-at-requires-2
-    same-length-3
-    returns-5)
+    returns-4)
