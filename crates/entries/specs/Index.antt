@@ -5,6 +5,7 @@ use mathlib.Core.List.{List, []}
 use lib.ListN.{length, getD}
 use Rattle.records.specs.Fields.{field, word}
 use Rattle.records.specs.Records.{Record}
+use Rattle.records.specs.Reading.{partOf}
 use Rattle.casefile.specs.Kinds.{Kind, sort, constructor, nonterminal, rule, states, transition, type, binding, path, payloads, count, placeOf}
 
 -- where the entries of a kind begin in the index: behind as many as each kind before may have
@@ -26,4 +27,5 @@ pub record Indexed (file index : List ℕ) (k : Kind) (n : ℕ) (rs : List Recor
   pub behind-header : (i : ℕ) → i < n → 4 ≤ getD index (base k + i) 0
   pub place-there : (i : ℕ) → i < n → placeOf k rs i + 4 ≡ getD index (base k + i) 0
   pub length-there : (i : ℕ) (at : ℕ) → i < n → at + 4 ≡ getD index (base k + i) 0 → word file at ≡ length (getD (payloads k rs) i [])
+  pub payload-there : (i : ℕ) → i < n → partOf file (getD index (base k + i) 0) (length (getD (payloads k rs) i [])) ≡ getD (payloads k rs) i []
   pub field-there : (i : ℕ) → i < n → (w at : ℕ) → at + w ≤ length (getD (payloads k rs) i []) → field w file (getD index (base k + i) 0 + at) ≡ field w (getD (payloads k rs) i []) at

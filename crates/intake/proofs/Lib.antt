@@ -1,3 +1,4 @@
 pub mod Whole
 pub mod Contents
 pub mod Evidence
+pub mod Taking

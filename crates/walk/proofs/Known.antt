@@ -18,7 +18,8 @@ use Rattle.scheme.specs.Sorts.{Sort, o, _⇒_, arguments}
 use Rattle.records.specs.Fields.{field, word}
 use Rattle.records.specs.Records.{Record, whole, recordAt}
 use Rattle.records.proofs.Fields.{field-part}
-use Rattle.records.proofs.Reading.{payload-length, whole-end}
+use Rattle.records.specs.Reading.{partOf}
+use Rattle.records.proofs.Reading.{payload-length, whole-end, part-of}
 use Rattle.casefile.specs.Kinds.{Kind, sort, constructor, nonterminal, rule, states, transition, type, binding, path, number, kindOf, ofKind, payloads, count, placeOf}
 use Rattle.casefile.specs.Tables.{grow, sortFrom, sortsOf}
 use Rattle.casefile.proofs.Passed.{payloads-more, payloads-other, kindOf-number}
@@ -71,6 +72,7 @@ module _ (file index : List ℕ) (rs : List Record) (r : Record) (k : Kind) (n :
         behind-header = λ i h. rw (getD-set-other index place (base k + i) start 0 (away i h)) (old .behind-header i h);
         place-there = λ i h. ap (_+ 4) (place-other k rs r e i) ∙ old .place-there i h ∙ sym (getD-set-other index place (base k + i) start 0 (away i h));
         length-there = λ i at h f. rw same (old .length-there i at h (f ∙ getD-set-other index place (base k + i) start 0 (away i h)));
+        payload-there = λ i h. rw (getD-set-other index place (base k + i) start 0 (away i h), same) (old .payload-there i h);
         field-there = λ i h w at l. rw (getD-set-other index place (base k + i) start 0 (away i h), same) (old .field-there i h w at (rw same at l));
       }
 
@@ -139,6 +141,10 @@ module _ (file index : List ℕ) (rs : List Record) (r : Record) (k : Kind) (n :
     unfolding recordAt
     new-field w off h = sym (field-part w file (at + 4) (word file at) off (subst (λ m. off + w ≤ m) (payload-length file at fits) h))
 
+    new-part : partOf file (at + 4) (length (recordAt file at .payload)) ≡ recordAt file at .payload
+    unfolding recordAt
+    new-part = ap (partOf file (at + 4)) (payload-length file at fits) ∙ part-of file (at + 4) (word file at) (whole-end file at fits)
+
     pub same-kind : Indexed file (set index (base k + n) start) k (suc n) (rs ++ (r ∷ []))
     unfolding index′
     same-kind =
@@ -147,6 +153,7 @@ module _ (file index : List ℕ) (rs : List Record) (r : Record) (k : Kind) (n :
           behind-header = each (λ a p. 4 ≤ a) (λ i h. old .behind-header i h) (omega arith);
           place-there = where-all;
           length-there = λ i a h. each (λ b p. a + 4 ≡ b → word file a ≡ length p) (λ j l. old .length-there j a l) (new-length a) i h;
+          payload-there = each (λ b p. partOf file b (length p) ≡ p) (λ i h. old .payload-there i h) new-part;
           field-there = each (λ b p. (w off : ℕ) → off + w ≤ length p → field w file (b + off) ≡ field w p off) (λ i h. old .field-there i h) new-field;
         }
 

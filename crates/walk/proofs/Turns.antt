@@ -63,6 +63,7 @@ none-indexed file index k n e =
       behind-header = λ i h. absurd (omega arith);
       place-there = λ i h. absurd (omega arith);
       length-there = λ i a h f. absurd (omega arith);
+      payload-there = λ i h. absurd (omega arith);
       field-there = λ i h w a l. absurd (omega arith);
     }
 

@@ -1,0 +1,60 @@
+-- From the walk and the tests over the whole file to the case of the definitions.
+use Prim.Native.Nat.{ℕ, _<_, _≤_}
+use native.Mathlib.Omega.{arith}
+use mathlib.Core.Path.{_≡_, refl, sym, ap, _∙_}
+use mathlib.Core.Bool.{Bool, true, false}
+use mathlib.Core.List.{List, [], _∷_}
+use mathlib.Core.Option.{Option, none, some}
+use borrow.Author.Tests.{lt-ltb, le-ltb}
+use lib.ListN.{length, getD}
+use Rattle.scheme.specs.Lists.{if_then_else_}
+use Rattle.records.specs.Records.{Record, recordsOf, listed}
+use Rattle.casefile.specs.Kinds.{Kind, payloads, count}
+use Rattle.casefile.specs.Refusals.{Refusal, tooLong, refuseWhole}
+use Rattle.casefile.specs.Cases.{refusedCase, bindingCase, pathCase, unlessRefused, acceptedCase, caseFrom, caseOf}
+use Rattle.casefile.proofs.TypeTable.{count-payloads}
+use Rattle.walk.specs.Walking.{AllRead, WalkEnds}
+use Rattle.walk.specs.declared.Walked.{Walked}
+use Rattle.walk.specs.declared.Walked.the-variants as walked
+use Rattle.intake.specs.declared.Case.{Case}
+use Rattle.intake.specs.declared.Case.the-variants as is
+use Rattle.intake.specs.Intake.{caseAs, Tables, Leaves, Taken, WholeEnds}
+
+module _ (file : List ℕ) (flags : ℕ) (index lens counts : List ℕ) where
+  -- 1
+  pub taken-long : 60000 < length file → Taken file flags index lens counts (is.Refused 1 0)
+  unfolding caseAs Leaves caseOf tooLong
+  taken-long h = record { is-case = sym (simp (lt-ltb 60000 (length file) h)); tables = tt }
+
+  module _ (short : length file ≤ 60000) where
+    case-is : caseOf file flags ≡ caseFrom flags (recordsOf file) []
+    unfolding caseOf tooLong
+    case-is = simp (le-ltb 60000 (length file) short)
+
+    -- 2 to 7
+    pub taken-refused : (n p : ℕ) (w : Walked) → w ≡ walked.Refused n p → WalkEnds file index lens counts w → Taken file flags index lens counts (is.Refused n p)
+    unfolding WalkEnds caseAs Leaves
+    taken-refused n p w e h = record { is-case = sym (case-is ∙ (let k : WalkEnds file index lens counts (walked.Refused n p) = rw e at h in k flags)); tables = tt }
+
+    -- 8 to 12, or none
+    pub taken-whole : (w : Walked) → w ≡ walked.Read → WalkEnds file index lens counts w → (r : Case) → WholeEnds (listed (recordsOf file)) flags r → Taken file flags index lens counts r
+    unfolding WalkEnds WholeEnds caseAs Leaves unlessRefused acceptedCase
+    taken-whole w e h r ends = by r ends
+      where
+        all : AllRead file index lens counts
+        all = rw e at h
+
+        rs : List Record
+        rs = listed (recordsOf file)
+
+        tables : Tables file index lens counts
+        tables = record { passed = all .passed; known = all .known }
+
+        by : (r : Case) → WholeEnds (listed (recordsOf file)) flags r → Taken file flags index lens counts r
+        by (is.Refused n p) f = record { is-case = sym (case-is ∙ all .left flags ∙ ap (λ z. unlessRefused z (acceptedCase rs (payloads Kind.path rs))) f); tables = tt }
+        by is.Bindings (f, g) = record { is-case = sym (case-is ∙ all .left flags ∙ ap (λ z. unlessRefused z (acceptedCase rs (payloads Kind.path rs))) f ∙ ap (acceptedCase rs) g); tables = tables }
+        by is.Path (f, g) = record { is-case = sym (case-is ∙ all .left flags ∙ ap (λ z. unlessRefused z (acceptedCase rs (payloads Kind.path rs))) f ∙ first-path (payloads Kind.path rs) (let a = count-payloads Kind.path rs in omega arith)); tables = tables }
+          where
+            first-path : (l : List (List ℕ)) → 0 < length l → acceptedCase rs l ≡ pathCase rs (getD l 0 [])
+            first-path [] h = absurd (omega arith)
+            first-path (x ∷ l) h = refl
