@@ -2,3 +2,4 @@ pub mod Whole
 pub mod Contents
 pub mod Evidence
 pub mod Taking
+pub mod Planning

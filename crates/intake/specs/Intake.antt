@@ -5,19 +5,22 @@ use mathlib.Core.Bool.{Bool, true, false, _||_, not}
 use mathlib.Core.List.{List, []}
 use mathlib.Core.Option.{none, some}
 use lib.Dec.{eqb}
-use lib.ListN.{getD}
+use lib.ListN.{length, getD}
 use Rattle.records.specs.Records.{Record, recordsOf, listed}
 use Rattle.casefile.specs.Kinds.{Kind, ofKind, payloads, count}
 use Rattle.casefile.specs.Tables.{aritiesOf, signaturesOf}
 use Rattle.casefile.specs.Refusals.{first, wrongStart, wrongBodies, refuseWhole}
 use Rattle.entries.specs.Index.{Indexed}
 use Rattle.fits.specs.Fitted.{FirstMisfit}
+use Rattle.rules.specs.Rules.{nodesIn}
 use Rattle.casefile.specs.Cases.{refusedCase, bindingCase, pathCase, caseOf}
 use Rattle.casefile.specs.Cases
 use Rattle.casefile.proofs.Passed.{Passed}
 use Rattle.walk.specs.Known.{Known}
 use Rattle.intake.specs.declared.Case.{Case}
 use Rattle.intake.specs.declared.Case.the-variants.{Refused, Bindings, Path}
+use Rattle.intake.specs.declared.Plan.{Plan}
+use Rattle.intake.specs.declared.Plan.the-variants.{Fine, Refused as Wrong}
 
 -- each answer as a case of the definitions: the paper's number and place, or the records of the file
 unfoldable pub caseAs : List ℕ → Case → Cases.Case
@@ -62,3 +65,20 @@ abbrev pub FindsFirst : List ℕ → List ℕ → ℕ → ℕ → ℕ → ℕ �
 FindsFirst file index types sorts bindings r =
     (rs : List Record) → Passed rs → Indexed file index Kind.type types rs → Indexed file index Kind.sort sorts rs → Indexed file index Kind.binding bindings rs
     → (n : ℕ) → Indexed file index Kind.nonterminal n rs → types ≤ 1024 → sorts ≤ 64 → bindings ≤ 1024 → FirstMisfit rs bindings r
+
+-- what the tests of the plan come to, for any number of flags
+unfoldable pub PlanEnds : List Record → Plan → Type 0
+PlanEnds rs Fine = PlanFine rs
+PlanEnds rs (Wrong n p) = (flags : ℕ) → refuseWhole rs flags ≡ some (record { number = n; place = p })
+
+-- 8 and 9, where the table of ends has room
+abbrev pub TestsPlan : List ℕ → List ℕ → List ℕ → List ℕ → Plan → Type 0
+TestsPlan file index counts ends r = (lens : List ℕ) (rs : List Record) → Known file index lens counts rs → Passed rs → nodesIn (payloads Kind.rule rs) ≤ length ends → PlanEnds rs r
+
+-- 8 to 12
+abbrev pub TestsWhole : List ℕ → List ℕ → List ℕ → ℕ → List ℕ → Case → Type 0
+TestsWhole file index counts flags ends r = (lens : List ℕ) (rs : List Record) → Known file index lens counts rs → Passed rs → nodesIn (payloads Kind.rule rs) ≤ length ends → WholeEnds rs flags r
+
+-- the promise of the intake, for tables of the right sizes
+abbrev pub Examines : List ℕ → ℕ → List ℕ → List ℕ → List ℕ → List ℕ → List ℕ → List ℕ → List ℕ → Case → Type 0
+Examines file flags index lens counts ends index′ lens′ counts′ r = length index ≡ 3170 → length lens ≡ 65 → length counts ≡ 10 → 15000 ≤ length ends → Taken file flags index′ lens′ counts′ r

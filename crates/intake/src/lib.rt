@@ -3,22 +3,31 @@ use records::word_at;
 use entries::place_at;
 use fits::fill_fits;
 use fits::first_misfit;
+use rules::first_wrong_body;
+use walk::Walked;
 ghost use mathlib.Core.Path.{_≡_};
 ghost use mathlib.Core.Bool.{Bool, _||_, not};
 ghost use mathlib.Core.List.{List};
 ghost use Prim.Native.Nat.{ℕ, _+_, _≤_};
 ghost use lib.Dec.{eqb};
-ghost use lib.ListN.{getD};
+ghost use lib.ListN.{length, getD};
 ghost use Rattle.records.specs.Records.{Record};
 ghost use Rattle.casefile.specs.Kinds.{Kind, count};
 ghost use Rattle.walk.specs.Known.{Known};
-ghost use Rattle.intake.specs.Intake.{TestsEvidence, FindsFirst};
+ghost use Rattle.intake.specs.Intake.{Examines, TestsPlan, TestsEvidence, FindsFirst, TestsWhole, caseAs};
+ghost use Rattle.casefile.specs.Cases.{caseOf};
 
 // What a file is.
 pub enum Case {
     Refused { number: usize, place: usize },
     Bindings,
     Path,
+}
+
+// What the tests of the plan come to.
+pub enum Plan {
+    Fine,
+    Refused { number: usize, place: usize },
 }
 
 // The place of the record whose payload's offset is entry i of the index.
@@ -85,4 +94,88 @@ fn test_evidence(file: &[u8], index: &[u16], counts: &[u16], flags: usize, fit: 
         };
     }
     Case::Bindings
+}
+
+// The tests of the plan, 8 and 9; `ends` gets the ends of the subterms of all bodies.
+fn test_plan(file: &[u8], index: &[u16], counts: &[u16], ends: &mut [u16]) -> Plan
+    ensures { λ r. ⌜ TestsPlan (now (file .entry)) (now (index .entry)) (now (counts .entry)) (now (ends .entry)) r ⌝ }
+{
+    if counts_wrong(counts) {
+        return Plan::Refused {
+            number: 8,
+            place: 0,
+        };
+    }
+    let start = place_at(index, 96);
+    if word_at(file, start) != 0 {
+        let place = place_of(index, 96);
+        return Plan::Refused { number: 9, place };
+    }
+    let sorts = place_at(counts, 1);
+    let constructors = place_at(counts, 2);
+    let rules = place_at(counts, 4);
+    let f = first_wrong_body(file, index, sorts, constructors, rules, rules, ends);
+    if f < rules {
+        let place = place_of(index, 352 + f);
+        return Plan::Refused { number: 9, place };
+    }
+    Plan::Fine
+}
+
+// The tests over the whole file, 8 to 12.
+fn test_whole(file: &[u8], index: &[u16], counts: &[u16], flags: usize, ends: &mut [u16], fit: &mut [u8; 66560]) -> Case
+    ensures { λ r. ⌜ TestsWhole (now (file .entry)) (now (index .entry)) (now (counts .entry)) flags (now (ends .entry)) r ⌝ }
+{
+    let plan = test_plan(file, index, counts, ends);
+    match plan {
+        Plan::Refused { number, place } => Case::Refused { number, place },
+        Plan::Fine => test_evidence(file, index, counts, flags, fit),
+    }
+}
+
+// What a file is, for so many lent flags, with its tables: the index of its entries, the argument counts of its sorts, the
+// counts of its kinds, and the ends of the subterms of its bodies. What the tables held before does not matter.
+pub fn examine(
+    file: &[u8],
+    flags: usize,
+    index: &mut [u16],
+    lens: &mut [u16],
+    counts: &mut [u16],
+    ends: &mut [u16],
+    fit: &mut [u8; 66560],
+) -> Case
+    ensures { λ r. ⌜ Examines (now (file .entry)) flags (now (index .entry)) (now (lens .entry)) (now (counts .entry)) (now (ends .entry)) (now (index .exit)) (now (lens .exit)) (now (counts .exit)) r ⌝ }
+{
+    if 60000 < file.len() {
+        return Case::Refused {
+            number: 1,
+            place: 0,
+        };
+    }
+    let walked = walk::walk(file, index, lens, counts);
+    match walked {
+        Walked::Refused { number, place } => Case::Refused { number, place },
+        Walked::Read => test_whole(file, index, counts, flags, ends, fit),
+    }
+}
+
+// What a file is, with the flags that are lent; they are left as they are.
+pub fn case_of(file: &[u8], flags: &mut [u8]) -> Case
+    ensures case { λ r. ⌜ caseAs (now (file .entry)) r ≡ caseOf (now (file .entry)) (length (now (flags .entry))) ⌝ }
+    ensures flags { λ _. ⌜ now (flags .exit) ≡ now (flags .entry) ⌝ }
+{
+    let mut index = [0u16; 3170];
+    let mut lens = [0u16; 65];
+    let mut counts = [0u16; 10];
+    let mut ends = [0u16; 15000];
+    let mut fit = [0u8; 66560];
+    examine(
+        file,
+        flags.len(),
+        &mut index,
+        &mut lens,
+        &mut counts,
+        &mut ends,
+        &mut fit,
+    )
 }

@@ -1,0 +1,82 @@
+-- `read_rule` meets its contract.
+use native.Mathlib.Omega.{arith}
+use mathlib.Core.Path.{sym}
+use lib.Seq.{length-take-le}
+use borrow.Author.Tests.{not-true, not-false}
+use Rattle.rules.proofs.OneRule.{rule-none, rule-header, rule-long, rule-room, rule-wrong, rule-right}
+use borrow.Author.Needs.{needs}
+use Rattle.rules.proofs.read_rule.Statement.{statement}
+use Rattle.rules.proofs.read_rule.Tie as tie
+
+returns : tie.Need-returns
+returns c = rule-none (c .if1 .taken)
+
+add-place-at : tie.Need-add-place-at
+add-place-at c = search needs
+
+place-at-requires : tie.Need-place-at-requires
+place-at-requires c κs = search needs
+
+returns-2 : tie.Need-returns-2
+returns-2 c = rule-header _ (c .before .place-at .ensures .value) (c .if2 .taken)
+
+word-at-requires : tie.Need-word-at-requires
+word-at-requires c κs = search needs
+
+returns-3 : tie.Need-returns-3
+returns-3 c = rule-long _ (c .before .before .before .place-at .ensures .value) _ (c .before .word-at .ensures .value) (c .if3 .taken)
+
+returns-4 : tie.Need-returns-4
+returns-4 c = rule-room _ (c .before .before .before .before .place-at .ensures .value) _ (c .before .before .word-at .ensures .value) (c .if4 .taken)
+
+slice-aggregate-copy : tie.Need-slice-aggregate-copy
+slice-aggregate-copy c = search needs
+
+copy-requires : tie.Need-copy-requires
+copy-requires c κs = search needs
+
+entry-at-requires : tie.Need-entry-at-requires
+entry-at-requires c κs = search needs
+
+array-share-prefix-p : tie.Need-array-share-prefix-p
+array-share-prefix-p c = search needs
+
+slice-aggregate-body-fits : tie.Need-slice-aggregate-body-fits
+slice-aggregate-body-fits c = sym (length-take-le _ (c .before .before .before .copy .last .1 .1 .1 .0) (omega (arith, c .before .before .before .copy .ensures .long)))
+
+body-fits-requires : tie.Need-body-fits-requires
+body-fits-requires c κs = search needs
+
+same-length : tie.Need-same-length
+same-length c = search needs
+
+returns-5 : tie.Need-returns-5
+returns-5 c = rule-wrong _ (c .before .before .before .before .before .before .before .before .before .before .before .before .before .before .place-at .ensures .value) _ (c .before .before .before .before .before .before .before .before .before .before .before .before .word-at .ensures .value) (c .before .before .before .before .before .before .before .before .before .before .before .before .before .before .place-at .ensures .bound) (c .before .before .before .before .before .before .before .before .before .before .before .if3 .left) _ _ (c .before .before .before .before .before .before .before .before .copy .ensures) (search needs) _ (c .before .before .before .before .before .before .entry-at .ensures .value) _ _ (c .before .before .before .body-fits .ensures) (not-true _ (c .if5 .taken))
+
+same-length-2 : tie.Need-same-length-2
+same-length-2 c = search needs
+
+returns-6 : tie.Need-returns-6
+returns-6 c = rule-right _ (c .before .before .before .before .before .before .before .before .before .before .before .before .before .before .place-at .ensures .value) _ (c .before .before .before .before .before .before .before .before .before .before .before .before .word-at .ensures .value) (c .before .before .before .before .before .before .before .before .before .before .before .before .before .before .place-at .ensures .bound) (c .before .before .before .before .before .before .before .before .before .before .before .if3 .left) _ _ (c .before .before .before .before .before .before .before .before .copy .ensures) (search needs) _ (c .before .before .before .before .before .before .entry-at .ensures .value) _ _ (c .before .before .before .body-fits .ensures) (not-false _ (c .if5 .left)) (c .before .before .before .before .before .before .before .before .before .before .if4 .left)
+
+pub read-rule-spec : {M : Type 1} → statement M
+read-rule-spec =
+    tie.close
+    (tie.spec
+    returns
+    add-place-at
+    place-at-requires
+    returns-2
+    word-at-requires
+    returns-3
+    returns-4
+    slice-aggregate-copy
+    copy-requires
+    entry-at-requires
+    array-share-prefix-p
+    slice-aggregate-body-fits
+    body-fits-requires
+    same-length
+    returns-5
+    same-length-2
+    returns-6)
