@@ -13,12 +13,13 @@ use Rattle.casefile.specs.Kinds.{Kind, payloads, count}
 use Rattle.casefile.specs.Refusals.{Refusal, tooLong, refuseWhole}
 use Rattle.casefile.specs.Cases.{refusedCase, bindingCase, pathCase, unlessRefused, acceptedCase, caseFrom, caseOf}
 use Rattle.casefile.proofs.TypeTable.{count-payloads}
+use Rattle.rules.proofs.Room.{room-enough}
 use Rattle.walk.specs.Walking.{AllRead, WalkEnds}
 use Rattle.walk.specs.declared.Walked.{Walked}
 use Rattle.walk.specs.declared.Walked.the-variants as walked
 use Rattle.intake.specs.declared.Case.{Case}
 use Rattle.intake.specs.declared.Case.the-variants as is
-use Rattle.intake.specs.Intake.{caseAs, Tables, Leaves, Taken, WholeEnds}
+use Rattle.intake.specs.Intake.{caseAs, Tables, Leaves, Taken, WholeEnds, TestsWhole}
 
 module _ (file : List ℕ) (flags : ℕ) (index lens counts : List ℕ) where
   -- 1
@@ -37,9 +38,9 @@ module _ (file : List ℕ) (flags : ℕ) (index lens counts : List ℕ) where
     taken-refused n p w e h = record { is-case = sym (case-is ∙ (let k : WalkEnds file index lens counts (walked.Refused n p) = rw e at h in k flags)); tables = tt }
 
     -- 8 to 12, or none
-    pub taken-whole : (w : Walked) → w ≡ walked.Read → WalkEnds file index lens counts w → (r : Case) → WholeEnds (listed (recordsOf file)) flags r → Taken file flags index lens counts r
+    pub taken-whole : (w : Walked) → w ≡ walked.Read → WalkEnds file index lens counts w → (ends : List ℕ) → 15000 ≤ length ends → (r : Case) → TestsWhole file index counts flags ends r → Taken file flags index lens counts r
     unfolding WalkEnds WholeEnds caseAs Leaves unlessRefused acceptedCase
-    taken-whole w e h r ends = by r ends
+    taken-whole w e h ends room r tests = by r (tests lens rs (all .known) (all .passed) (room-enough file ends short room))
       where
         all : AllRead file index lens counts
         all = rw e at h

@@ -1,3 +1,10 @@
+use Prim.Native.Nat.{ℕ, _+_, _-_, _<_, _≤_}
+use mathlib.Core.Path.{_≡_, refl, sym, ap, subst, _∙_}
+use mathlib.Core.Logic.{⊎-elim}
+use mathlib.Core.List.{List}
+use native.Mathlib.Omega.{arith}
+use lib.ListN.{length, drop}
+use Rattle.intake.proofs.Taking.{taken-long, taken-refused, taken-whole}
 use borrow.Author.Needs.{needs}
 use Rattle.intake.proofs.examine.Statement.{statement}
 use Rattle.intake.proofs.examine.Tie as tie
@@ -6,61 +13,47 @@ use Rattle.intake.proofs.examine.Lts as lts
 use Rattle.intake.proofs.test_whole.Reads as test-whole-reads
 use Rattle.walk.proofs.walk.Reads as walk-reads
 
--- src/lib.rt:150:9
 returns : tie.Need-returns
-returns c = ?
+returns c = λ hi hl hc he. taken-long _ _ _ _ _ (c .if1 .taken)
 
--- src/lib.rt:155:9
 walk-requires : tie.Need-walk-requires
 walk-requires c κs = search needs
 
--- src/lib.rt:157:27
 enum-known-walked : tie.Need-enum-known-walked
 enum-known-walked c = search needs
 
--- src/lib.rt:158:42
 enum-told : tie.Need-enum-told
 enum-told c = search needs
 
--- src/lib.rt:158:25
 test-whole-requires : tie.Need-test-whole-requires
 test-whole-requires c κs = search needs
 
--- src/lib.rt:138:1
 same-length : tie.Need-same-length
 same-length c = search needs
 
--- src/lib.rt:138:1
 same-length-2 : tie.Need-same-length-2
 same-length-2 c = search needs
 
--- src/lib.rt:138:1
 same-length-3 : tie.Need-same-length-3
 same-length-3 c = search needs
 
--- src/lib.rt:138:1
 returns-2 : tie.Need-returns-2
-returns-2 c = ?
+returns-2 c = λ hi hl hc he. taken-refused _ _ _ _ _ (c .before .before .before .before .before .before .before .before .before .before .before .before .before .if1 .left) _ _ _ (c .before .walked .given .1) (c .before .before .before .before .before .before .before .before .before .walk .ensures hi hl hc (c .before .before .before .before .before .before .before .before .before .before .before .before .before .if1 .left))
 
--- src/lib.rt:138:1
 same-length-4 : tie.Need-same-length-4
 same-length-4 c = search needs
 
--- src/lib.rt:138:1
 same-length-5 : tie.Need-same-length-5
 same-length-5 c = search needs
 
--- src/lib.rt:138:1
 same-length-6 : tie.Need-same-length-6
 same-length-6 c = search needs
 
--- src/lib.rt:138:1
 same-length-7 : tie.Need-same-length-7
 same-length-7 c = search needs
 
--- src/lib.rt:138:1
 returns-3 : tie.Need-returns-3
-returns-3 c = ?
+returns-3 c = λ hi hl hc he. taken-whole _ _ _ _ _ (c .before .before .before .before .before .before .before .before .before .before .before .before .before .before .before .before .before .before .before .if1 .left) _ (c .before .before .before .before .before .before .before .enum-told .given .1) (c .before .before .before .before .before .before .before .before .before .before .before .before .before .before .before .walk .ensures hi hl hc (c .before .before .before .before .before .before .before .before .before .before .before .before .before .before .before .before .before .before .before .if1 .left)) (c .before .before .before .before .before .before .before .before .before .before .before .before .before .before .before .before .before .before .before .before .before .before .before .before .before .args .ends .now) he _ (c .before .before .test-whole .ensures)
 
 pub examine-spec : {M : Type 1} → statement M
 examine-spec =
