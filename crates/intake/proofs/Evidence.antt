@@ -60,10 +60,12 @@ module _ {file index counts lens : List ℕ} {rs : List Record} (flags : ℕ) (k
 
   pub evidence-path : 0 < paths → types + bindings ≤ 0 → WholeEnds rs flags is.Path
   unfolding WholeEnds
-  evidence-path hp hb =
-      (met-none rs flags (fine .counts-right) (fine .start-right) (fine .bodies-right)
-      (ap (λ b. b && ltb 0 (count path rs)) (le-ltb 0 (count type rs + count binding rs) (omega (arith, types-are, bindings-are))))
-      (none-unfit (omega arith)) (omega (arith, bindings-are)), omega (arith, paths-are))
+  evidence-path hp hb = (
+    met-none rs flags (fine .counts-right) (fine .start-right) (fine .bodies-right)
+        (ap (λ b. b && ltb 0 (count path rs)) (le-ltb 0 (count type rs + count binding rs) (omega (arith, types-are, bindings-are))))
+        (none-unfit (omega arith)) (omega (arith, bindings-are)),
+    omega (arith, paths-are),
+  )
 
   module _ (hp : paths ≤ 0) where
     no10 : wrong10 ≡ false
@@ -101,9 +103,10 @@ module _ {file index counts lens : List ℕ} {rs : List Record} (flags : ℕ) (k
 
       pub evidence-none : bindings ≤ b → bindings ≤ flags → WholeEnds rs flags is.Bindings
       unfolding WholeEnds
-      evidence-none h f =
-          (met-none rs flags (fine .counts-right) (fine .start-right) (fine .bodies-right) no10 (unfit-none h) (omega (arith, bindings-are)),
-          empty (payloads path rs) (let a = count-payloads path rs in omega (arith, paths-are)))
+      evidence-none h f = (
+        met-none rs flags (fine .counts-right) (fine .start-right) (fine .bodies-right) no10 (unfit-none h) (omega (arith, bindings-are)),
+        empty (payloads path rs) (let a = count-payloads path rs in omega (arith, paths-are)),
+      )
         where
           empty : (l : List (List ℕ)) → length l ≡ 0 → l ≡ []
           empty [] e = refl

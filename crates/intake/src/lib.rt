@@ -1,8 +1,8 @@
 // The intake of a file: it is refused by 1 to 12, or it is a binding case or a path case.
-use records::word_at;
 use entries::place_at;
 use fits::fill_fits;
 use fits::first_misfit;
+use records::word_at;
 use rules::first_wrong_body;
 use walk::Walked;
 ghost use mathlib.Core.Path.{_≡_};
@@ -58,7 +58,14 @@ fn counts_wrong(counts: &[u16]) -> bool
 }
 
 // The number of the first binding whose type does not fit its nonterminal's sort, or of all; the table is written anew.
-fn misfit(file: &[u8], index: &[u16], types: usize, sorts: usize, bindings: usize, fit: &mut [u8; 66560]) -> usize
+fn misfit(
+    file: &[u8],
+    index: &[u16],
+    types: usize,
+    sorts: usize,
+    bindings: usize,
+    fit: &mut [u8; 66560],
+) -> usize
     ensures { λ r. ⌜ FindsFirst (now (file .entry)) (now (index .entry)) types sorts bindings r ⌝ }
 {
     fill_fits(file, index, types, sorts, fit);
@@ -66,7 +73,13 @@ fn misfit(file: &[u8], index: &[u16], types: usize, sorts: usize, bindings: usiz
 }
 
 // The tests of the evidence, 10 to 12, for so many lent flags.
-fn test_evidence(file: &[u8], index: &[u16], counts: &[u16], flags: usize, fit: &mut [u8; 66560]) -> Case
+fn test_evidence(
+    file: &[u8],
+    index: &[u16],
+    counts: &[u16],
+    flags: usize,
+    fit: &mut [u8; 66560],
+) -> Case
     ensures { λ r. ⌜ TestsEvidence (now (file .entry)) (now (index .entry)) (now (counts .entry)) flags r ⌝ }
 {
     let sorts = place_at(counts, 1);
@@ -123,7 +136,14 @@ fn test_plan(file: &[u8], index: &[u16], counts: &[u16], ends: &mut [u16]) -> Pl
 }
 
 // The tests over the whole file, 8 to 12.
-fn test_whole(file: &[u8], index: &[u16], counts: &[u16], flags: usize, ends: &mut [u16], fit: &mut [u8; 66560]) -> Case
+fn test_whole(
+    file: &[u8],
+    index: &[u16],
+    counts: &[u16],
+    flags: usize,
+    ends: &mut [u16],
+    fit: &mut [u8; 66560],
+) -> Case
     ensures { λ r. ⌜ TestsWhole (now (file .entry)) (now (index .entry)) (now (counts .entry)) flags (now (ends .entry)) r ⌝ }
 {
     let plan = test_plan(file, index, counts, ends);

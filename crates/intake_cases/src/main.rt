@@ -89,7 +89,12 @@ fn one(i: usize) -> bool {
     let n = io::read_full(fd, &mut file);
     libc::close(fd);
     let mut flags = io::buffer();
-    judge(&name[..length], &file[..n], &mut flags, decimal(&text[..digits]));
+    judge(
+        &name[..length],
+        &file[..n],
+        &mut flags,
+        decimal(&text[..digits]),
+    );
     true
 }
 

@@ -43,7 +43,9 @@ slice-aggregate-tree-codes-2 : tie.Need-slice-aggregate-tree-codes-2
 slice-aggregate-tree-codes-2 c = search needs
 
 add-tree-codes : tie.Need-add-tree-codes
-add-tree-codes c = let l = c .before .before .before .before .before .before .before .before .before .before .before .before .before .before .before .within-limits .ensures .within (not-false _ (c .before .before .before .before .before .before .before .before .before .before .before .before .before .before .if1 .left)) .0 in omega arith
+add-tree-codes c =
+    let i = c .before .before .before .before .before .before .before .before .before .before .before .before .before .before in
+    omega (arith, i .before .within-limits .ensures .within (not-false _ (i .if1 .left)) .0)
 
 tree-codes-requires : tie.Need-tree-codes-requires
 tree-codes-requires c κs = search needs
@@ -71,8 +73,10 @@ same-length c = search needs
 
 returns-2 : tie.Need-returns-2
 returns-2 c =
-    finds _ _ _ _ _ _ _ _ _ _ _ _ _ _ _ (c .before .before .before .before .before .before .before .before .before .before .before .before .before .before .before .before .before .before .before .before .before .before .before .before .before .before .before .before .before .args .ends .now) _ _ (search needs) (search needs) (search needs) (search needs)
-    (c .before .before .before .before .before .before .before .before .before .before .before .before .before .before .before .before .before .before .before .before .before .before .fill .ensures) (c .before .before .before .before .before .before .before .before .before .before .before .before .before .before .before .before .before .before .before .fill2 .ensures) (c .before .before .before .before .before .before .before .before .before .before .before .before .before .before .before .before .fill3 .ensures) (c .before .before .before .before .before .before .before .before .before .before .before .before .before .fill4 .ensures) (c .before .before .before .before .before .before .before .before .before .tree-codes .ensures) (c .before .before .read-rules .ensures)
+    let t = c .before .before .before .before .before .before .before .before .before in
+    let q = t .before .before .before .before .before .before .before .before .before .before .before .before .before in
+    finds _ _ _ _ _ _ _ _ _ _ _ _ _ _ _ (q .before .before .before .before .before .before .before .args .ends .now) _ _ (search needs) (search needs) (search needs) (search needs)
+    (q .fill .ensures) (t .before .before .before .before .before .before .before .before .before .before .fill2 .ensures) (t .before .before .before .before .before .before .before .fill3 .ensures) (t .before .before .before .before .fill4 .ensures) (t .tree-codes .ensures) (c .before .before .read-rules .ensures)
 
 pub first-wrong-body-spec : {M : Type 1} → statement M
 first-wrong-body-spec =

@@ -51,13 +51,17 @@ same-length : tie.Need-same-length
 same-length c = search needs
 
 returns-5 : tie.Need-returns-5
-returns-5 c = rule-wrong _ (c .before .before .before .before .before .before .before .before .before .before .before .before .before .before .place-at .ensures .value) _ (c .before .before .before .before .before .before .before .before .before .before .before .before .word-at .ensures .value) (c .before .before .before .before .before .before .before .before .before .before .before .before .before .before .place-at .ensures .bound) (c .before .before .before .before .before .before .before .before .before .before .before .if3 .left) _ _ (c .before .before .before .before .before .before .before .before .copy .ensures) (search needs) _ (c .before .before .before .before .before .before .entry-at .ensures .value) _ _ (c .before .before .before .body-fits .ensures) (not-true _ (c .if5 .taken))
+returns-5 c =
+    let b = c .before .before .before .before .before .before .before .before .before .before .before in
+    rule-wrong _ (b .before .before .before .place-at .ensures .value) _ (b .before .word-at .ensures .value) (b .before .before .before .place-at .ensures .bound) (b .if3 .left) _ _ (c .before .before .before .before .before .before .before .before .copy .ensures) (search needs) _ (c .before .before .before .before .before .before .entry-at .ensures .value) _ _ (c .before .before .before .body-fits .ensures) (not-true _ (c .if5 .taken))
 
 same-length-2 : tie.Need-same-length-2
 same-length-2 c = search needs
 
 returns-6 : tie.Need-returns-6
-returns-6 c = rule-right _ (c .before .before .before .before .before .before .before .before .before .before .before .before .before .before .place-at .ensures .value) _ (c .before .before .before .before .before .before .before .before .before .before .before .before .word-at .ensures .value) (c .before .before .before .before .before .before .before .before .before .before .before .before .before .before .place-at .ensures .bound) (c .before .before .before .before .before .before .before .before .before .before .before .if3 .left) _ _ (c .before .before .before .before .before .before .before .before .copy .ensures) (search needs) _ (c .before .before .before .before .before .before .entry-at .ensures .value) _ _ (c .before .before .before .body-fits .ensures) (not-false _ (c .if5 .left)) (c .before .before .before .before .before .before .before .before .before .before .if4 .left)
+returns-6 c =
+    let b = c .before .before .before .before .before .before .before .before .before .before .before in
+    rule-right _ (b .before .before .before .place-at .ensures .value) _ (b .before .word-at .ensures .value) (b .before .before .before .place-at .ensures .bound) (b .if3 .left) _ _ (c .before .before .before .before .before .before .before .before .copy .ensures) (search needs) _ (c .before .before .before .before .before .before .entry-at .ensures .value) _ _ (c .before .before .before .body-fits .ensures) (not-false _ (c .if5 .left)) (c .before .before .before .before .before .before .before .before .before .before .if4 .left)
 
 pub read-rule-spec : {M : Type 1} → statement M
 read-rule-spec =

@@ -32,13 +32,23 @@ read-rule-requires : tie.Need-read-rule-requires Inv-loop μ-loop
 read-rule-requires c κs = search needs
 
 same-length : tie.Need-same-length Inv-loop μ-loop
-same-length c = (changed-put (c .before .before .before .before .before .before .loop .ends) (c .before .before .before .read-rule .last .1 .1 .1 .1 .1 .1 .1 .1 .0) (c .before .before .before .before .before .before .loop .at) (c .before .before .before .before .before .before .loop .inv .1 .inside) (c .before .before .before .read-rule .ensures .long)) .long ∙ c .before .before .before .before .before .before .loop .inv .1 .long
+same-length c =
+    let l = c .before .before .before .before .before .before .loop in
+    let r = c .before .before .before .read-rule in
+    (changed-put (l .ends) (r .last .1 .1 .1 .1 .1 .1 .1 .1 .0) (l .at) (l .inv .1 .inside) (r .ensures .long)) .long ∙ l .inv .1 .long
 
 returns : tie.Need-returns Inv-loop μ-loop
-returns c = going-stop _ _ _ _ _ _ _ _ _ (c .before .before .before .before .before .before .loop .f) (c .before .before .before .before .before .before .loop .at) (c .before .before .before .before .before .before .loop .ends) _ (c .before .before .before .read-rule .last .1 .1 .1 .1 .1 .1 .1 .1 .0) _ _ (c .before .before .before .before .before .before .loop .inv .1) (c .before .before .before .before .before .loop-test .taken) (part-size (c .before .before .before .before .before .before .loop .ends) (c .before .before .before .before .before .before .loop .at)) (c .before .before .before .read-rule .ensures) (changed-put (c .before .before .before .before .before .before .loop .ends) (c .before .before .before .read-rule .last .1 .1 .1 .1 .1 .1 .1 .1 .0) (c .before .before .before .before .before .before .loop .at) (c .before .before .before .before .before .before .loop .inv .1 .inside) (c .before .before .before .read-rule .ensures .long)) (c .if1 .taken)
+returns c =
+    let l = c .before .before .before .before .before .before .loop in
+    let r = c .before .before .before .read-rule in
+    going-stop _ _ _ _ _ _ _ _ _ (l .f) (l .at) (l .ends) _ (r .last .1 .1 .1 .1 .1 .1 .1 .1 .0) _ _ (l .inv .1) (c .before .before .before .before .before .loop-test .taken) (part-size (l .ends) (l .at)) (r .ensures) (changed-put (l .ends) (r .last .1 .1 .1 .1 .1 .1 .1 .1 .0) (l .at) (l .inv .1 .inside) (r .ensures .long)) (c .if1 .taken)
 
 add-at : tie.Need-add-at Inv-loop μ-loop
-add-at c = let i = c .before .before .before .before .before .before .loop .inv .1 .inside in let w = c .before .before .before .read-rule .ensures .within in let q = part-size (c .before .before .before .before .before .before .loop .ends) (c .before .before .before .before .before .before .loop .at) in omega arith
+add-at c =
+    let i = c .before .before .before .before .before .before .loop .inv .1 .inside in
+    let w = c .before .before .before .read-rule .ensures .within in
+    let q = part-size (c .before .before .before .before .before .before .loop .ends) (c .before .before .before .before .before .before .loop .at) in
+    omega arith
 
 add-f : tie.Need-add-f Inv-loop μ-loop
 add-f c = omega arith
@@ -47,7 +57,10 @@ loop-less : tie.Need-loop-less Inv-loop μ-loop
 loop-less c = omega arith
 
 loop-again : tie.Need-loop-again Inv-loop μ-loop
-loop-again c = (omega arith, going-more _ _ _ _ _ _ _ _ _ (c .before .before .before .before .before .before .loop .f) (c .before .before .before .before .before .before .loop .at) (c .before .before .before .before .before .before .loop .ends) _ (c .before .before .before .read-rule .last .1 .1 .1 .1 .1 .1 .1 .1 .0) _ _ (c .before .before .before .before .before .before .loop .inv .1) (c .before .before .before .before .before .loop-test .taken) (part-size (c .before .before .before .before .before .before .loop .ends) (c .before .before .before .before .before .before .loop .at)) (c .before .before .before .read-rule .ensures) (changed-put (c .before .before .before .before .before .before .loop .ends) (c .before .before .before .read-rule .last .1 .1 .1 .1 .1 .1 .1 .1 .0) (c .before .before .before .before .before .before .loop .at) (c .before .before .before .before .before .before .loop .inv .1 .inside) (c .before .before .before .read-rule .ensures .long)) (c .if1 .left))
+loop-again c =
+    let l = c .before .before .before .before .before .before .loop in
+    let r = c .before .before .before .read-rule in
+    (omega arith, going-more _ _ _ _ _ _ _ _ _ (l .f) (l .at) (l .ends) _ (r .last .1 .1 .1 .1 .1 .1 .1 .1 .0) _ _ (l .inv .1) (c .before .before .before .before .before .loop-test .taken) (part-size (l .ends) (l .at)) (r .ensures) (changed-put (l .ends) (r .last .1 .1 .1 .1 .1 .1 .1 .1 .0) (l .at) (l .inv .1 .inside) (r .ensures .long)) (c .if1 .left))
 
 same-length-2 : tie.Need-same-length-2 Inv-loop μ-loop
 same-length-2 c = c .before .loop .inv .1 .long
