@@ -37,7 +37,7 @@ module _ (earlier : List ℕ → List ℕ → Bool) (p : List ℕ) where
   follows-none [] h = refl
   follows-none (e ∷ es) h = absurd (omega arith)
 
-  follows-last : (ps : List (List ℕ)) (m : ℕ) → length ps ≡ suc m → follows earlier ps p ≡ earlier (getD ps m []) p
+  pub follows-last : (ps : List (List ℕ)) (m : ℕ) → length ps ≡ suc m → follows earlier ps p ≡ earlier (getD ps m []) p
   unfolding follows
   follows-last [] m h = absurd (omega arith)
   follows-last (e ∷ es) m h =
