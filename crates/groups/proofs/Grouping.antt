@@ -68,15 +68,15 @@ module _ (g : ℕ → ℕ) (n : ℕ) where
 
     pub group-more : Sofar g n r (f + 1) (set groups f r)
     group-more =
-        record
-          { few = so .few
-          ; upTo = let same = length-set groups f r in omega arith
-          ; there = s .within
-          ; earlier = λ i k. let l = before-here i k in omega arith
-          ; entries = each (λ e x. x ≤ n) (so .entries) (s .within)
-          ; lower = λ e i k. each (λ e x. (i : ℕ) → i < x → g i < e) (λ e k i. so .lower e i k) before-here e k i
-          ; reached = each (λ e x. x < n → e ≤ g x) (so .reached) (s .reached)
-          }
+        record {
+          few = so .few;
+          upTo = let same = length-set groups f r in omega arith;
+          there = s .within;
+          earlier = λ i k. let l = before-here i k in omega arith;
+          entries = each (λ e x. x ≤ n) (so .entries) (s .within);
+          lower = λ e i k. each (λ e x. (i : ℕ) → i < x → g i < e) (λ e k i. so .lower e i k) before-here e k i;
+          reached = each (λ e x. x < n → e ≤ g x) (so .reached) (s .reached);
+        }
 
 before-le : (a b c d : ℕ) → before a b c d ≡ true → a ≤ c
 unfolding before

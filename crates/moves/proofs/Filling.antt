@@ -89,33 +89,33 @@ module _ (file index : List ℕ) (n : ℕ) where
     sofar-put lq lc a b d f ea eb ed ef =
         let r = a ∷ b ∷ d ∷ f ∷ [] in
         let same : r ≡ fourAt file at = rw (ea, eb, ed, ef) in
-        record
-          { count = omega (arith, so .count)
-          ; few = so .few
-          ; shaped = put-shaped t (so .shaped) q c r lq lc
-          ; rows = λ rs ok ix x y hx hy. put-row t (so .shaped) q c r lq lc x y ∙ ap (λ l. if eqb q x && eqb c y then l else rowAt t x y) same ∙ sym (here ok ix x y hx hy)
-          }
+        record {
+          count = omega (arith, so .count);
+          few = so .few;
+          shaped = put-shaped t (so .shaped) q c r lq lc;
+          rows = λ rs ok ix x y hx hy. put-row t (so .shaped) q c r lq lc x y ∙ ap (λ l. if eqb q x && eqb c y then l else rowAt t x y) same ∙ sym (here ok ix x y hx hy);
+        }
 
     skip : (x y : ℕ) → (eqb q x && eqb c y) ≡ false → rowAt t x y ≡ (if eqb q x && eqb c y then fourAt file at else rowAt t x y)
     skip x y f = rw f
 
     pub sofar-state : 16 ≤ q → Sofar file index n t (k - 1)
     sofar-state l =
-        record
-          { count = omega (arith, so .count)
-          ; few = so .few
-          ; shaped = so .shaped
-          ; rows = λ rs ok ix x y hx hy. skip x y (rw (ne-eqb q x (λ z. omega arith))) ∙ sym (here ok ix x y hx hy)
-          }
+        record {
+          count = omega (arith, so .count);
+          few = so .few;
+          shaped = so .shaped;
+          rows = λ rs ok ix x y hx hy. skip x y (rw (ne-eqb q x (λ z. omega arith))) ∙ sym (here ok ix x y hx hy);
+        }
 
     pub sofar-constructor : 32 ≤ c → Sofar file index n t (k - 1)
     sofar-constructor l =
-        record
-          { count = omega (arith, so .count)
-          ; few = so .few
-          ; shaped = so .shaped
-          ; rows = λ rs ok ix x y hx hy. skip x y (rw (ne-eqb c y (λ z. omega arith)) (neither (eqb q x))) ∙ sym (here ok ix x y hx hy)
-          }
+        record {
+          count = omega (arith, so .count);
+          few = so .few;
+          shaped = so .shaped;
+          rows = λ rs ok ix x y hx hy. skip x y (rw (ne-eqb c y (λ z. omega arith)) (neither (eqb q x))) ∙ sym (here ok ix x y hx hy);
+        }
       where
         neither : (b : Bool) → (b && false) ≡ false
         neither true = refl
