@@ -7,7 +7,7 @@ use borrow.Author.Count.{below-more}
 use lib.ListN.{length, getD, set, length-set}
 use lib.Seq.{getD-set-same, getD-set-other}
 use Rattle.records.specs.Fields.{field, byte, IsField}
-use Rattle.rules.specs.Rules.{FieldOf, Filled, Copied}
+use Rattle.rules.specs.Rules.{FieldOf, Filled}
 
 -- the first i entries are stored, each at its place, where h holds
 pub record Sofar (h : Type 0) (place value : ℕ → ℕ) (before after : List ℕ) (i : ℕ) : Type 0 where
@@ -49,26 +49,6 @@ module _ (width : ℕ) (file index : List ℕ) (from at n to : ℕ) (before : Li
   -- nothing is stored where the numbers are too large
   pub fill-not : (from ≤ 1000 → at ≤ 1000 → n ≤ 1000 → to + n ≤ length before → ⊥) → Filled width file index from at n to before before
   fill-not z = record { long = refl; there = λ w w′ a b c d k m. absurd (z a b c d) }
-
--- the bytes of a payload
-module _ (file : List ℕ) (place n : ℕ) (before : List ℕ) where
-  pub record CopiedTo (t : List ℕ) (i : ℕ) : Type 0 where
-    pub sofar : Sofar Unit (λ k. k) (λ k. byte file (place + k)) before t i
-
-  apart-copy : (j k : ℕ) → j < k → j ≡ k → ⊥
-  apart-copy j k l e = omega arith
-
-  pub copy-none : CopiedTo before 0
-  copy-none = record { sofar = sofar-none Unit (λ k. k) (λ k. byte file (place + k)) apart-copy before }
-
-  pub copy-more : (t : List ℕ) (i v : ℕ) → CopiedTo t i → i < length t → IsField 1 file (place + i) v → CopiedTo (set t i v) (i + 1)
-  copy-more t i v s l e = record { sofar = sofar-more Unit (λ k. k) (λ k. byte file (place + k)) apart-copy before t i v (s .sofar) l (λ x. e .value) }
-
-  pub copy-all : (t : List ℕ) (i : ℕ) → CopiedTo t i → n ≤ i → Copied file place n before t
-  copy-all t i s l = record { long = s .sofar .long; there = λ a b c k m. s .sofar .there tt k (omega arith) }
-
-  pub copy-not : (place < 65536 → n ≤ 1024 → n ≤ length before → ⊥) → Copied file place n before before
-  copy-not z = record { long = refl; there = λ a b c k m. absurd (z a b c) }
 
 -- a field of one byte or of two
 pub one-byte : (width : ℕ) (file : List ℕ) (at r : ℕ) → width ≡ 1 → IsField 1 file at r → FieldOf width file at r

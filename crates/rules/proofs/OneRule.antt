@@ -5,16 +5,16 @@ use mathlib.Core.Path.{_≡_, refl, sym, ap, ap₂, subst, _∙_}
 use mathlib.Core.Bool.{Bool, true, false, not}
 use mathlib.Core.List.{List, [], _∷_, map}
 use borrow.Author.Tests.{not-true, not-false}
-use lib.ListN.{length, getD, take}
-use lib.Seq.{ext-getD, getD-take, length-take-le}
+use lib.ListN.{length, getD}
 use Rattle.scheme.specs.Sorts.{Sort, o}
 use Rattle.records.specs.Fields.{field, byte, word}
 use Rattle.records.specs.Records.{Record}
+use Rattle.records.specs.Reading.{partOf}
 use Rattle.casefile.specs.Kinds.{rule, nonterminal, payloads}
 use Rattle.casefile.specs.Tables.{sortsOf, aritiesOf, signaturesOf}
 use Rattle.casefile.specs.Refusals.{wrongBody}
 use Rattle.bodies.specs.Bodies.{BodyDecided}
-use Rattle.rules.specs.Rules.{Copied, ruleOf, numbersOf, wrongAt, Judged, RuleRead}
+use Rattle.rules.specs.Rules.{ruleOf, numbersOf, wrongAt, Judged, RuleRead}
 
 map-twice : {A B C : Type 0} (g : B → C) (f : A → B) (l : List A) → map g (map f l) ≡ map (λ x. g (f x)) l
 map-twice g f [] = refl
@@ -24,11 +24,6 @@ map-twice g f (x ∷ l) = ap (g (f x) ∷_) (map-twice g f l)
 pub numbers-sorts : (rs : List Record) → map (λ (n : ℕ). getD (sortsOf rs) n o) (numbersOf rs) ≡ signaturesOf rs
 unfolding signaturesOf
 numbers-sorts rs = map-twice (λ (n : ℕ). getD (sortsOf rs) n o) (λ (p : List ℕ). word p 0) (payloads nonterminal rs)
-
--- a field of one byte is the byte
-pub byte-is : (s : List ℕ) (i : ℕ) → byte s i ≡ getD s i 0
-unfolding field
-byte-is s i = omega arith
 
 -- its length, four bytes before it
 length-is : {file index froms tos trees arities signatures : List ℕ} {f : ℕ} (place : ℕ) → place ≡ getD index (352 + f) 0 → (len : ℕ) → len ≡ word file (place - 4)
@@ -58,17 +53,10 @@ module _ {file index froms tos trees arities signatures : List ℕ} {f : ℕ} {b
       pub rule-room : length before < len / 4 → RuleRead file index froms tos trees arities signatures f before before 0
       rule-room x = rule-not (λ rules rs j h l. let z = length-is place ep len el rules rs j h in omega arith)
 
-      module _ (bound : place < 65536) (few : len ≤ 1024) (zeros p : List ℕ) (copied : Copied file place len zeros p) (long : length zeros ≡ 1024)
-          (own : ℕ) (eo : own ≡ getD signatures f 0) (after : List ℕ) (r : Bool) (decided : BodyDecided (take len p) froms tos trees arities signatures own before after r) where
+      module _ (p : List ℕ) (part : p ≡ partOf file place len) (own : ℕ) (eo : own ≡ getD signatures f 0) (after : List ℕ) (r : Bool) (decided : BodyDecided p froms tos trees arities signatures own before after r) where
         module _ (rules : ℕ) (rs : List Record) (j : Judged file index froms tos trees arities signatures rules rs) (h : f < rules) where
-          body-is : take len p ≡ ruleOf rs f
-          body-is =
-              let e = length-is place ep len el rules rs j h in
-              let q = copied .long in
-              let t : length (take len p) ≡ len = length-take-le len p (omega arith) in
-              ext-getD 0 (take len p) (ruleOf rs f) (t ∙ e)
-              (λ i hi. getD-take len p i 0 (omega arith) ∙ copied .there bound few (omega arith) i (omega arith) ∙ ap (λ z. byte file (z + i)) ep
-              ∙ j .there .field-there f h 1 i (omega arith) ∙ byte-is (ruleOf rs f) i)
+          body-is : p ≡ ruleOf rs f
+          body-is = part ∙ ap₂ (partOf file) ep (length-is place ep len el rules rs j h) ∙ j .there .payload-there f h
 
           decided-is : BodyDecided (ruleOf rs f) froms tos trees arities signatures (getD signatures f 0) before after r
           decided-is = subst (λ z. BodyDecided (ruleOf rs f) froms tos trees arities signatures z before after r) eo

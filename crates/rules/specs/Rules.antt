@@ -29,11 +29,6 @@ pub record Filled (width : ℕ) (file index : List ℕ) (from at n to : ℕ) (be
   pub there : 1 ≤ width → width ≤ 2 → from ≤ 1000 → at ≤ 1000 → n ≤ 1000 → to + n ≤ length before
       → (i : ℕ) → i < n → getD after (to + i) 0 ≡ field width file (getD index (from + i) 0 + at)
 
--- a buffer after the n bytes of a file at a place were copied to its start
-pub record Copied (file : List ℕ) (place n : ℕ) (before after : List ℕ) : Type 0 where
-  pub long : length after ≡ length before
-  pub there : place < 65536 → n ≤ 1024 → n ≤ length before → (i : ℕ) → i < n → getD after i 0 ≡ byte file (place + i)
-
 -- the nodes of so many bodies, four bytes a node
 unfoldable pub nodesIn : List (List ℕ) → ℕ
 nodesIn [] = 0

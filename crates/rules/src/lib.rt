@@ -4,8 +4,9 @@ use bodies::entry_at;
 use bodies::tree_codes;
 use entries::place_at;
 use records::byte_at;
+use records::payload;
 use records::word_at;
-ghost use Rattle.rules.specs.Rules.{FieldOf, Filled, Copied, RuleRead, ReadsRules, WithinLimits, FindsWrongBody};
+ghost use Rattle.rules.specs.Rules.{FieldOf, Filled, RuleRead, ReadsRules, WithinLimits, FindsWrongBody};
 
 // The field of one byte or of two at a place.
 fn field_of(file: &[u8], at: usize, width: usize) -> usize
@@ -54,27 +55,6 @@ fn fill(
     }
 }
 
-// Copies the n bytes of a file at a place to the start of a buffer.
-fn copy(file: &[u8], place: usize, n: usize, p: &mut [u8])
-    ensures { λ _. ⌜ Copied (now (file .entry)) place n (now (p .entry)) (now (p .exit)) ⌝ }
-{
-    if 65535 < place {
-        return;
-    }
-    if 1024 < n {
-        return;
-    }
-    if p.len() < n {
-        return;
-    }
-    let mut i: usize = 0;
-    while i < n {
-        let b = byte_at(file, place + i);
-        p[i] = b as u8;
-        i = i + 1;
-    }
-}
-
 // The number of nodes of rule f where its body fits, else 0; `ends` gets the ends of its subterms.
 fn read_rule(
     file: &[u8],
@@ -103,10 +83,9 @@ fn read_rule(
     if ends.len() < len / 4 {
         return 0;
     }
-    let mut p = [0u8; 1024];
-    copy(file, place, len, &mut p);
+    let p = payload(file, place, len);
     let own = entry_at(signatures, f);
-    if !body_fits(&p[..len], froms, tos, trees, arities, signatures, own, ends) {
+    if !body_fits(p, froms, tos, trees, arities, signatures, own, ends) {
         return 0;
     }
     len / 4

@@ -1,12 +1,15 @@
--- `read_rule` meets its contract.
-use native.Mathlib.Omega.{arith}
-use mathlib.Core.Path.{sym}
-use lib.Seq.{length-take-le}
 use borrow.Author.Tests.{not-true, not-false}
 use Rattle.rules.proofs.OneRule.{rule-none, rule-header, rule-long, rule-room, rule-wrong, rule-right}
 use borrow.Author.Needs.{needs}
 use Rattle.rules.proofs.read_rule.Statement.{statement}
 use Rattle.rules.proofs.read_rule.Tie as tie
+use Rattle.rules.proofs.read_rule.Reads as reads
+use Rattle.rules.proofs.read_rule.Lts as lts
+use Rattle.bodies.proofs.body_fits.Reads as body-fits-reads
+use Rattle.bodies.proofs.entry_at.Reads as entry-at-reads
+use Rattle.entries.proofs.place_at.Reads as place-at-reads
+use Rattle.records.proofs.payload.Reads as payload-reads
+use Rattle.records.proofs.word_at.Reads as word-at-reads
 
 returns : tie.Need-returns
 returns c = rule-none (c .if1 .taken)
@@ -29,20 +32,11 @@ returns-3 c = rule-long _ (c .before .before .before .place-at .ensures .value) 
 returns-4 : tie.Need-returns-4
 returns-4 c = rule-room _ (c .before .before .before .before .place-at .ensures .value) _ (c .before .before .word-at .ensures .value) (c .if4 .taken)
 
-slice-aggregate-copy : tie.Need-slice-aggregate-copy
-slice-aggregate-copy c = search needs
-
-copy-requires : tie.Need-copy-requires
-copy-requires c κs = search needs
+payload-requires : tie.Need-payload-requires
+payload-requires c κs = search needs
 
 entry-at-requires : tie.Need-entry-at-requires
 entry-at-requires c κs = search needs
-
-array-share-prefix-p : tie.Need-array-share-prefix-p
-array-share-prefix-p c = search needs
-
-slice-aggregate-body-fits : tie.Need-slice-aggregate-body-fits
-slice-aggregate-body-fits c = sym (length-take-le _ (c .before .before .before .copy .last .1 .1 .1 .0) (omega (arith, c .before .before .before .copy .ensures .long)))
 
 body-fits-requires : tie.Need-body-fits-requires
 body-fits-requires c κs = search needs
@@ -51,17 +45,13 @@ same-length : tie.Need-same-length
 same-length c = search needs
 
 returns-5 : tie.Need-returns-5
-returns-5 c =
-    let b = c .before .before .before .before .before .before .before .before .before .before .before in
-    rule-wrong _ (b .before .before .before .place-at .ensures .value) _ (b .before .word-at .ensures .value) (b .before .before .before .place-at .ensures .bound) (b .if3 .left) _ _ (c .before .before .before .before .before .before .before .before .copy .ensures) (search needs) _ (c .before .before .before .before .before .before .entry-at .ensures .value) _ _ (c .before .before .before .body-fits .ensures) (not-true _ (c .if5 .taken))
+returns-5 c = rule-wrong _ (c .before .before .before .before .before .before .before .before .before .before .before .place-at .ensures .value) _ (c .before .before .before .before .before .before .before .before .before .word-at .ensures .value) _ (c .before .before .before .before .before .before .payload .ensures) _ (c .before .before .before .before .before .entry-at .ensures .value) _ _ (c .before .before .before .body-fits .ensures) (not-true _ (c .if5 .taken))
 
 same-length-2 : tie.Need-same-length-2
 same-length-2 c = search needs
 
 returns-6 : tie.Need-returns-6
-returns-6 c =
-    let b = c .before .before .before .before .before .before .before .before .before .before .before in
-    rule-right _ (b .before .before .before .place-at .ensures .value) _ (b .before .word-at .ensures .value) (b .before .before .before .place-at .ensures .bound) (b .if3 .left) _ _ (c .before .before .before .before .before .before .before .before .copy .ensures) (search needs) _ (c .before .before .before .before .before .before .entry-at .ensures .value) _ _ (c .before .before .before .body-fits .ensures) (not-false _ (c .if5 .left)) (c .before .before .before .before .before .before .before .before .before .before .if4 .left)
+returns-6 c = rule-right _ (c .before .before .before .before .before .before .before .before .before .before .before .place-at .ensures .value) _ (c .before .before .before .before .before .before .before .before .before .word-at .ensures .value) _ (c .before .before .before .before .before .before .payload .ensures) _ (c .before .before .before .before .before .entry-at .ensures .value) _ _ (c .before .before .before .body-fits .ensures) (not-false _ (c .if5 .left)) (c .before .before .before .before .before .before .before .if4 .left)
 
 pub read-rule-spec : {M : Type 1} → statement M
 read-rule-spec =
@@ -74,11 +64,8 @@ read-rule-spec =
     word-at-requires
     returns-3
     returns-4
-    slice-aggregate-copy
-    copy-requires
+    payload-requires
     entry-at-requires
-    array-share-prefix-p
-    slice-aggregate-body-fits
     body-fits-requires
     same-length
     returns-5
