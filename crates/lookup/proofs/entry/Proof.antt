@@ -1,0 +1,48 @@
+-- `entry` meets its contract.
+use Rattle.lookup.proofs.Found.{entry-none, entry-some, part-none}
+use Rattle.records.specs.Reading.{partOf}
+use denote.Ref.{now}
+use mathlib.Core.Path.{sym, ap, _∙_}
+use borrow.Author.Needs.{needs}
+use Rattle.lookup.proofs.entry.Statement.{statement}
+use Rattle.lookup.proofs.entry.Tie as tie
+use Rattle.lookup.proofs.entry.Reads as reads
+use Rattle.lookup.proofs.entry.Lts as lts
+use Rattle.entries.proofs.place_at.Reads as place-at-reads
+use Rattle.records.proofs.payload.Reads as payload-reads
+use Rattle.records.proofs.word_at.Reads as word-at-reads
+
+-- src/lib.rt:12:9
+place-at-requires : tie.Need-place-at-requires
+place-at-requires c κs = search needs
+
+-- src/lib.rt:14:9
+payload-requires : tie.Need-payload-requires
+payload-requires c κs = search needs
+
+-- src/lib.rt:14:9
+returns : tie.Need-returns
+returns c = c .payload .ensures ∙ part-none _ ∙ sym (entry-none _ _ _ _ (c .before .before .place-at .ensures .value) (c .before .if1 .taken))
+
+-- src/lib.rt:16:9
+word-at-requires : tie.Need-word-at-requires
+word-at-requires c κs = search needs
+
+-- src/lib.rt:17:5
+payload-requires-2 : tie.Need-payload-requires-2
+payload-requires-2 c κs = search needs
+
+-- src/lib.rt:9:1
+returns-2 : tie.Need-returns-2
+returns-2 c = c .payload2 .ensures ∙ ap (partOf (now (c .before .before .before .before .before .before .args .file)) (c .before .before .before .place-at .result)) (c .before .word-at .ensures .value) ∙ sym (entry-some _ _ _ _ (c .before .before .before .place-at .ensures .value) (c .before .before .if1 .left))
+
+pub entry-spec : {M : Type 1} → statement M
+entry-spec =
+    tie.close
+    (tie.spec
+    place-at-requires
+    payload-requires
+    returns
+    word-at-requires
+    payload-requires-2
+    returns-2)
