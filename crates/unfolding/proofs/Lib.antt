@@ -1,0 +1,4 @@
+pub mod Putting
+pub mod Arguments
+pub mod Copying
+pub mod Unfolding
