@@ -1,5 +1,5 @@
 -- Nodes as numbers.
-use Prim.Native.Nat.{ℕ, _+_, _*_, _/_, _%_, _<_, _≤_}
+use Prim.Native.Nat.{ℕ, _+_, _-_, _*_, _/_, _%_, _<_, _≤_}
 use native.Mathlib.Omega.{arith}
 use mathlib.Core.Path.{_≡_}
 use Rattle.scheme.specs.Terms.{Head}
@@ -29,6 +29,11 @@ node-more v more h =
     let c : (v + more) % 8192 ≡ v % 8192 + more = omega arith in
     λ i. record { head = headBy (t i) (n i); count = c i }
 
--- and it fits four bytes
-pub more-fits : (v more : ℕ) → v % 8192 + more < 8192 → v < 4294967296 → v + more < 4294967296
-more-fits v more h k = omega arith
+-- a node without its arguments
+pub node-bare : (v : ℕ) → nodeOf (v - v % 8192) ≡ record { head = nodeOf v .head; count = 0 }
+unfolding nodeOf
+node-bare v =
+    let t : (v - v % 8192) / 8192 % 4 ≡ v / 8192 % 4 = omega arith in
+    let n : (v - v % 8192) / 32768 ≡ v / 32768 = omega arith in
+    let c : (v - v % 8192) % 8192 ≡ 0 = omega arith in
+    λ i. record { head = headBy (t i) (n i); count = c i }

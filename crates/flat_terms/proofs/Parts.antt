@@ -10,6 +10,17 @@ use lib.ListN.{length, take, drop, length-drop}
 use Rattle.scheme.specs.Lists.{if_then_else_}
 use Rattle.flat_terms.specs.Flat.{between}
 
+-- the first n elements are at most n, and at most all
+pub take-few : (n : ℕ) (l : List ℕ) → length (take n l) ≤ n
+take-few zero l = omega arith
+take-few (suc n) [] = omega arith
+take-few (suc n) (x ∷ l) = let e = take-few n l in omega arith
+
+pub take-short : (n : ℕ) (l : List ℕ) → length (take n l) ≤ length l
+take-short zero l = omega arith
+take-short (suc n) [] = omega arith
+take-short (suc n) (x ∷ l) = let e = take-short n l in omega arith
+
 and-no : (b : Bool) → b && false ≡ false
 and-no true = refl
 and-no false = refl
@@ -32,11 +43,6 @@ module _ (l : List ℕ) (from to : ℕ) where
   unfolding between
   between-short = go (leb from to && leb to (length l))
     where
-      take-short : (n : ℕ) (k : List ℕ) → length (take n k) ≤ length k
-      take-short zero k = omega arith
-      take-short (suc n) [] = omega arith
-      take-short (suc n) (x ∷ k) = let e = take-short n k in omega arith
-
       go : (b : Bool) → length (if b then take (to - from) (drop from l) else []) ≤ length l
       go true = let a = take-short (to - from) (drop from l) in omega (arith, length-drop from l)
       go false = omega arith

@@ -31,6 +31,19 @@ nodes-next []ᵗ i d h = absurd (omega arith)
 nodes-next (t ∷ᵗ ts) zero d h = omega arith
 nodes-next (t ∷ᵗ ts) (suc i) d h = let e = nodes-next ts i d (le-of-suc-le-suc h) in omega arith
 
+-- the first i terms and the others
+flats-cut : (i : ℕ) (xs : Terms) → flats xs ≡ flats (takeᵗ i xs) ++ flats (dropᵗ i xs)
+unfolding flats takeᵗ dropᵗ
+flats-cut zero xs = refl
+flats-cut (suc i) []ᵗ = refl
+flats-cut (suc i) (x ∷ᵗ xs) = ap (flat x ++_) (flats-cut i xs) ∙ sym (append-assoc (flat x) (flats (takeᵗ i xs)) (flats (dropᵗ i xs)))
+
+count-take : (i : ℕ) (xs : Terms) → i ≤ countᵗ xs → countᵗ (takeᵗ i xs) ≡ i
+unfolding countᵗ takeᵗ
+count-take zero xs h = refl
+count-take (suc i) []ᵗ h = absurd (omega arith)
+count-take (suc i) (x ∷ᵗ xs) h = ap suc (count-take i xs (le-of-suc-le-suc h))
+
 module _ (term : List ℕ) (h : Head) (xs : Terms) (e : nodesIn term ≡ flat (node h xs)) where
   -- from the start of argument i on
   from-start : (i : ℕ) (d : Term) → i < countᵗ xs → drop (startOf xs i) (nodesIn term) ≡ flat (termAt xs i d) ++ flats (dropᵗ (suc i) xs)
@@ -81,6 +94,19 @@ module _ (term : List ℕ) (h : Head) (xs : Terms) (e : nodesIn term ≡ flat (n
       let p = split-nodes i k in
       let z = s (x ∷ᵗ []ᵗ) (flats (dropᵗ (suc i) xs)) (omega arith) (omega arith) f refl in
       omega arith
+
+  -- behind the first i arguments argument i begins
+  pub skip-arguments : (i r : ℕ) → i ≤ countᵗ xs → length term ≤ 4096 → Skips term 1 i r → r ≡ startOf xs i
+  unfolding flat
+  skip-arguments i r k small s =
+      let l = term-length in
+      let f : drop 1 (nodesIn term) ≡ flats (takeᵗ i xs) ++ flats (dropᵗ i xs) = ap (drop 1) e ∙ flats-cut i xs in
+      let z = s (takeᵗ i xs) (flats (dropᵗ i xs)) (omega arith) (omega arith) f (count-take i xs k) in
+      omega arith
+
+  -- an argument begins before it ends, inside the term
+  pub start-inside : (i : ℕ) → i < countᵗ xs → (startOf xs i ≤ startOf xs (suc i)) × (startOf xs (suc i) ≤ length term)
+  start-inside i k = let n = nodes-next xs i (node h []ᵗ) k in (omega arith, split-nodes i k)
 
   -- the nodes of argument i
   pub argument-nodes : (i : ℕ) (d : Term) → i < countᵗ xs → nodesIn (between term (startOf xs i) (startOf xs (suc i))) ≡ flat (termAt xs i d)
