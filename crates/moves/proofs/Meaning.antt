@@ -8,16 +8,16 @@ use mathlib.Core.List.{List, [], _∷_, _++_, map, map-append}
 use mathlib.Core.Option.{Option, none, some}
 use borrow.Author.Tests.{eqb-true, ne-eqb, leb-false, ltb-false}
 use lib.Dec.{eqb, leb, ltb}
-use lib.ListN.{length, getD, take, drop}
+use lib.ListN.{length, getD, take, drop, length-map, length-append}
 use Rattle.scheme.specs.Lists.{if_then_else_, any, select, lastOr}
-use Rattle.scheme.proofs.Lists.{or-false}
+use Rattle.scheme.proofs.Lists.{or-false, select-append}
 use Rattle.records.specs.Fields.{field, byte}
 use Rattle.records.specs.Records.{Record}
 use Rattle.casefile.specs.Kinds.{Kind, number, ofKind, payloads}
 use Rattle.casefile.specs.Tables.{aritiesOf, stateCount, Transition, transitionOf, transitionsOf, targetsAt}
 use Rattle.casefile.specs.Refusals.{wrongTargets, outOfRange, refuseRecord}
 use Rattle.casefile.proofs.Passed.{Passed, nothing, also, Tested, entry, passed-tested, payloads-more, payloads-other}
-use Rattle.moves.specs.Moves.{rowAt, fourAt, rowFor, targetsIn, Shaped, Sofar, Holds}
+use Rattle.moves.specs.Moves.{rowAt, fourAt, rowFor, targetsIn, Shaped, Sofar, TableFor, Holds}
 use Rattle.moves.proofs.Filling.{six}
 
 last-more : (d : ℕ) (l : List ℕ) (x : ℕ) → lastOr d (l ++ (x ∷ [])) ≡ x
@@ -87,10 +87,70 @@ module _ (arities : List ℕ) (q c : ℕ) where
       go true false e others = others
       go false b e others = others
 
+-- a row has four places
+row-four : (ps : List (List ℕ)) (q c : ℕ) → length (rowFor ps q c) ≡ 4
+unfolding rowFor
+row-four [] q c = refl
+row-four (p ∷ ps) q c = go (eqb (byte p 0) q && eqb (byte p 1) c) (row-four ps q c)
+  where
+    go : (b : Bool) → length (rowFor ps q c) ≡ 4 → length (if b then fourAt p 0 else rowFor ps q c) ≡ 4
+    go true others = refl
+    go false others = others
+
 -- the promise of the table
 pub all-rows : (file index : List ℕ) (n : ℕ) (t : List (List (List ℕ))) (k : ℕ) → Sofar file index n t k → k ≤ 0 → Holds file index n t
 unfolding transitionsOf
-all-rows file index n t k so h rs ok ix few q c hq hc =
+all-rows file index n t k so h rs ok ix few =
     let none-left : k ≡ 0 = omega arith in
-    ap (targetsIn (getD (aritiesOf rs) c 0)) (so .rows rs ok ix q c hq hc ∙ ap (λ m. rowFor (drop m (payloads Kind.transition rs)) q c) none-left)
-    ∙ row-targets (aritiesOf rs) q c (payloads Kind.transition rs) (λ i l. (six ok i l, target-small ok i l))
+    let row : (q c : ℕ) → q < 16 → c < 32 → rowAt t q c ≡ rowFor (payloads Kind.transition rs) q c = λ q c hq hc. so .rows rs ok ix q c hq hc ∙ ap (λ m. rowFor (drop m (payloads Kind.transition rs)) q c) none-left in
+    record {
+      targets = λ q c hq hc. ap (targetsIn (getD (aritiesOf rs) c 0)) (row q c hq hc) ∙ row-targets (aritiesOf rs) q c (payloads Kind.transition rs) (λ i l. (six ok i l, target-small ok i l));
+      four = λ q c hq hc. ap length (row q c hq hc) ∙ row-four (payloads Kind.transition rs) q c;
+    }
+
+-- the constructors of the records before are among all
+fewer-arities : (a b : List Record) → length (aritiesOf a) ≤ length (aritiesOf (a ++ b))
+unfolding aritiesOf payloads ofKind
+fewer-arities a b =
+    let test : Record → Bool = λ (r : Record). eqb (r .kind) (number Kind.constructor) in
+    let pay : Record → List ℕ = λ (r : Record). r .payload in
+    let fst : List ℕ → ℕ = λ (p : List ℕ). byte p 0 in
+    let l₁ = length-map (map pay (select test a)) fst ∙ length-map (select test a) pay in
+    let l₂ = length-map (map pay (select test (a ++ b))) fst ∙ length-map (select test (a ++ b)) pay in
+    let l₃ = ap length (select-append test a b) ∙ length-append (select test a) (select test b) in
+    omega arith
+
+-- the state and the constructor of a transition
+transition-known : {rs : List Record} → Passed rs → (i : ℕ) → i < length (payloads Kind.transition rs) → (byte (getD (payloads Kind.transition rs) i []) 0 < 16) × (byte (getD (payloads Kind.transition rs) i []) 1 < length (aritiesOf rs))
+unfolding outOfRange
+transition-known {rs} ok i h =
+    let e = entry ok Kind.transition i h in
+    let p = e .payload in
+    let qs = stateCount (e .earlier) in
+    let ns = aritiesOf (e .earlier) in
+    let known = or-false (leb qs (byte p 0) || leb (length ns) (byte p 1)) (wrongTargets qs (getD ns (byte p 1) 0) (drop 2 p)) (e .passed-tests .ranges) .0 in
+    let state = leb-false qs (byte p 0) (or-false (leb qs (byte p 0)) (leb (length ns) (byte p 1)) known .0) in
+    let constructor = leb-false (length ns) (byte p 1) (or-false (leb qs (byte p 0)) (leb (length ns) (byte p 1)) known .1) in
+    let few = states-few (e .passed) in
+    let fewer = subst (λ l. length ns ≤ length (aritiesOf l)) (e .together) (fewer-arities (e .earlier) (e .later)) in
+    subst (λ l. (byte l 0 < 16) × (byte l 1 < length (aritiesOf rs))) (sym (e .here)) (omega arith, omega arith)
+
+-- no transition names a state or a constructor that is not there
+unnamed : (arities : List ℕ) (ps : List (List ℕ)) (q c : ℕ) → ((i : ℕ) → i < length ps → (byte (getD ps i []) 0 ≡ q) × (byte (getD ps i []) 1 ≡ c) → ⊥) → targetsAt (map (transitionOf arities) ps) q c ≡ none
+unfolding targetsAt transitionOf
+unnamed arities [] q c h = refl
+unnamed arities (p ∷ ps) q c h = go (eqb (byte p 0) q) (eqb (byte p 1) c) refl refl (unnamed arities ps q c (λ i l. h (suc i) (omega arith)))
+  where
+    go : (a b : Bool) → eqb (byte p 0) q ≡ a → eqb (byte p 1) c ≡ b → targetsAt (map (transitionOf arities) ps) q c ≡ none → (if a && b then some (take (getD arities (byte p 1) 0) (drop 2 p)) else targetsAt (map (transitionOf arities) ps) q c) ≡ none
+    go true true e f others = absurd (h 0 (omega arith) (eqb-true (byte p 0) q e, eqb-true (byte p 1) c f))
+    go true false e f others = others
+    go false b e f others = others
+
+module _ {rs : List Record} (ok : Passed rs) (q c : ℕ) where
+  pub no-state : 16 ≤ q → targetsAt (transitionsOf rs) q c ≡ none
+  unfolding transitionsOf
+  no-state h = unnamed (aritiesOf rs) (payloads Kind.transition rs) q c (λ i l (x, y). let k = transition-known ok i l .0 in omega arith)
+
+  pub no-constructor : length (aritiesOf rs) ≤ c → targetsAt (transitionsOf rs) q c ≡ none
+  unfolding transitionsOf
+  no-constructor h = unnamed (aritiesOf rs) (payloads Kind.transition rs) q c (λ i l (x, y). let k = transition-known ok i l .1 in omega arith)

@@ -31,9 +31,14 @@ rowFor (p ∷ ps) q c = let others = rowFor ps q c in if eqb (byte p 0) q && eqb
 unfoldable pub targetsIn : ℕ → List ℕ → Option (List ℕ)
 targetsIn arity row = if eqb (getD row 0 0) 255 then none else some (take arity row)
 
--- the promise: the table holds the targets of the definitions
+-- a table holds the targets of the definitions
+pub record TableFor (rs : List Record) (t : List (List (List ℕ))) : Type 0 where
+  pub targets : (q c : ℕ) → q < 16 → c < 32 → targetsIn (getD (aritiesOf rs) c 0) (rowAt t q c) ≡ targetsAt (transitionsOf rs) q c
+  pub four : (q c : ℕ) → q < 16 → c < 32 → length (rowAt t q c) ≡ 4
+
+-- the promise: the table is that of the file
 abbrev pub Holds : List ℕ → List ℕ → ℕ → List (List (List ℕ)) → Type 0
-Holds file index n t = (rs : List Record) → Passed rs → Indexed file index Kind.transition n rs → n ≤ 512 → (q c : ℕ) → q < 16 → c < 32 → targetsIn (getD (aritiesOf rs) c 0) (rowAt t q c) ≡ targetsAt (transitionsOf rs) q c
+Holds file index n t = (rs : List Record) → Passed rs → Indexed file index Kind.transition n rs → n ≤ 512 → TableFor rs t
 
 -- a table of 16 times 32 rows
 pub record Shaped (t : List (List (List ℕ))) : Type 0 where

@@ -23,7 +23,7 @@ abbrev μ-loop : tie.MeasureT-loop
 μ-loop file index n t₀ k₀ t k = k
 
 returns : tie.Need-returns Inv-loop μ-loop
-returns c = λ rs ok ix few q x hq hx. absurd (omega (arith, c .if1 .taken))
+returns c = λ rs ok ix few. absurd (omega (arith, c .if1 .taken))
 
 loop-holds : tie.Need-loop-holds Inv-loop μ-loop
 loop-holds c = sofar-none _ _ _ (c .if1 .left)
