@@ -39,11 +39,12 @@ pub record Left (term : List ℕ) (at : ℕ) (ts : Terms) (rest : List Node) (i 
   pub behind : i + nodesAll terms ≡ at + nodesAll ts
 
 -- while terms are skipped
-abbrev pub Skipping : List ℕ → ℕ → ℕ → ℕ → ℕ → Type 0
-Skipping term at k i need = (ts : Terms) (rest : List Node) → length term ≤ 65536 → at ≤ length term → drop at (nodesIn term) ≡ flats ts ++ rest → countᵗ ts ≡ k → Left term at ts rest i need
+pub record Skipping (term : List ℕ) (at k i need : ℕ) : Type 0 where
+  pub inside : at ≤ length term → i ≤ length term
+  pub left : (ts : Terms) (rest : List Node) → length term ≤ 65536 → at ≤ length term → drop at (nodesIn term) ≡ flats ts ++ rest → countᵗ ts ≡ k → Left term at ts rest i need
 
 pub skip-start : (term : List ℕ) (at k : ℕ) → Skipping term at k at k
-skip-start term at k ts rest small inside e c = record { terms = ts; here = e; many = c; behind = refl }
+skip-start term at k = record { inside = λ h. h; left = λ ts rest small inside e c. record { terms = ts; here = e; many = c; behind = refl } }
 
 module _ (term : List ℕ) (i : ℕ) where
   in-buffer : i < length term → drop i (nodesIn term) ≡ nodeOf (getD term i 0) ∷ drop (suc i) (nodesIn term)
@@ -83,31 +84,48 @@ module _ (term : List ℕ) (i : ℕ) where
       let n : getD term i 0 % 8192 ≡ countᵗ us = ap (λ (y : Node). y .count) c in
       (us ++ᵗ ts, b ∙ ap (_++ rest) (sym (flats-append us ts)), omega (arith, count-append us ts), omega (arith, nodes-append us ts))
 
+none-left : (us : Terms) → countᵗ us ≡ 0 → nodesAll us ≡ 0
+unfolding countᵗ nodesAll
+none-left []ᵗ q = refl
+none-left (u ∷ᵗ us) q = absurd (omega arith)
+
 module _ {term : List ℕ} {at k i need : ℕ} (go : Skipping term at k i need) where
   pub skip-done : need ≡ 0 → Skips term at k i
-  unfolding countᵗ nodesAll
-  skip-done z ts rest small inside e c =
-      let w = go ts rest small inside e c in
-      none-left (w .terms) (omega (arith, w .many)) (w .behind)
-    where
-      none-left : (us : Terms) → countᵗ us ≡ 0 → i + nodesAll us ≡ at + nodesAll ts → i ≡ at + nodesAll ts
-      none-left []ᵗ q b = omega arith
-      none-left (u ∷ᵗ us) q b = absurd (omega arith)
+  skip-done z =
+      record {
+        inside = go .inside;
+        skips = λ ts rest small inside e c.
+            let w = go .left ts rest small inside e c in
+            let n = none-left (w .terms) (omega (arith, w .many)) in
+            omega (arith, w .behind);
+      }
 
   pub skip-many : 65536 < need → Skips term at k i
-  skip-many z ts rest small inside e c =
-      let w = go ts rest small inside e c in
-      let f = left-few term i (w .terms) rest (w .here) in
-      absurd (omega (arith, w .many))
+  skip-many z =
+      record {
+        inside = go .inside;
+        skips = λ ts rest small inside e c.
+            let w = go .left ts rest small inside e c in
+            let f = left-few term i (w .terms) rest (w .here) in
+            absurd (omega (arith, w .many));
+      }
 
   pub skip-end : length term ≤ i → Skips term at k i
-  skip-end z ts rest small inside e c =
-      let w = go ts rest small inside e c in
-      let n = left-none term i (w .terms) rest (w .here) z in
-      omega (arith, w .behind)
+  skip-end z =
+      record {
+        inside = go .inside;
+        skips = λ ts rest small inside e c.
+            let w = go .left ts rest small inside e c in
+            let n = left-none term i (w .terms) rest (w .here) z in
+            omega (arith, w .behind);
+      }
 
   pub skip-next : (i′ need′ : ℕ) → i < length term → 0 < need → i′ ≡ suc i → need′ ≡ need - 1 + getD term i 0 % 8192 → Skipping term at k i′ need′
-  skip-next i′ need′ h p ei en ts rest small inside e c =
-      let w = go ts rest small inside e c in
-      let (us, x, y, z) = left-next term i (w .terms) rest (w .here) h (omega (arith, w .many)) in
-      record { terms = us; here = ap (λ j. drop j (nodesIn term)) ei ∙ x; many = omega (arith, w .many); behind = omega (arith, w .behind) }
+  skip-next i′ need′ h p ei en =
+      record {
+        inside = λ q. omega arith;
+        left = λ ts rest small inside e c.
+            let w = go .left ts rest small inside e c in
+            let (us, x, y, z) = left-next term i (w .terms) rest (w .here) h (omega (arith, w .many)) in
+            record { terms = us; here = ap (λ j. drop j (nodesIn term)) ei ∙ x; many = omega (arith, w .many); behind = omega (arith, w .behind) };
+      }

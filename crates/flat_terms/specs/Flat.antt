@@ -31,9 +31,9 @@ pub record IsNode (body : List ℕ) (i r : ℕ) : Type 0 where
   pub bound : r < 4294967296
 
 -- r is the node behind k terms that stand one after another from node `at` on
-abbrev pub Skips : List ℕ → ℕ → ℕ → ℕ → Type 0
-Skips term at k r =
-    (ts : Terms) (rest : List Node) → length term ≤ 65536 → at ≤ length term → drop at (nodesIn term) ≡ flats ts ++ rest → countᵗ ts ≡ k → r ≡ at + nodesAll ts
+pub record Skips (term : List ℕ) (at k r : ℕ) : Type 0 where
+  pub inside : at ≤ length term → r ≤ length term
+  pub skips : (ts : Terms) (rest : List Node) → length term ≤ 65536 → at ≤ length term → drop at (nodesIn term) ≡ flats ts ++ rest → countᵗ ts ≡ k → r ≡ at + nodesAll ts
 
 -- the elements from number `from` up to number `to`; none where they are not all there
 unfoldable pub between : List ℕ → ℕ → ℕ → List ℕ

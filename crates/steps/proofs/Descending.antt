@@ -60,44 +60,51 @@ module _ (i : ℕ) (ts : Terms) (row : List ℕ) (arity : ℕ) where
   unfolding targetsIn descend
   goes h = rw (ne-eqb (getD row 0 0) 255 h)
 
+-- no argument, and so no part
+nowhere : (term : List ℕ) (from to q : ℕ) → None ≡ Argument from to q → (from ≤ length term) × (to ≤ length term)
+nowhere term from to q e = let z : _≡_ {A = ℕ} 0 1 = cc in absurd (omega arith)
+
 module _ {term row : List ℕ} {arity i : ℕ} where
   pub no-transition : getD row 0 0 ≡ 255 → Descends term row arity i None
   unfolding LeadsTo
-  no-transition h = record { leads = λ x ts e s l. stops i ts row arity h }
+  no-transition h = record { inside = nowhere term; leads = λ x ts e s l. stops i ts row arity h }
 
   pub no-term : length term ≡ 0 → Descends term row arity i None
-  no-term h = record { leads = λ x ts e s l. let n = term-length term x ts e in absurd (omega arith) }
+  no-term h = record { inside = nowhere term; leads = λ x ts e s l. let n = term-length term x ts e in absurd (omega arith) }
 
   module _ (there : getD row 0 0 ≡ 255 → ⊥) where
     pub few-arguments : (count : ℕ) → count ≡ getD term 0 0 % 8192 → count ≤ i → Descends term row arity i None
     unfolding LeadsTo
-    few-arguments count ec h = record { leads = λ x ts e s l. goes i ts row arity there ∙ no-argument i ts (take arity row) (let c = first-count term x ts e in omega arith) }
+    few-arguments count ec h = record { inside = nowhere term; leads = λ x ts e s l. goes i ts row arity there ∙ no-argument i ts (take arity row) (let c = first-count term x ts e in omega arith) }
 
     pub few-targets : arity ≤ i → Descends term row arity i None
     unfolding LeadsTo
-    few-targets h = record { leads = λ x ts e s l. goes i ts row arity there ∙ no-target i ts (take arity row) (let c = take-few arity row in omega arith) }
+    few-targets h = record { inside = nowhere term; leads = λ x ts e s l. goes i ts row arity there ∙ no-target i ts (take arity row) (let c = take-few arity row in omega arith) }
 
     pub four-targets : 4 ≤ i → Descends term row arity i None
     unfolding LeadsTo
-    four-targets h = record { leads = λ x ts e s l. goes i ts row arity there ∙ no-target i ts (take arity row) (let c = take-short arity row in omega arith) }
+    four-targets h = record { inside = nowhere term; leads = λ x ts e s l. goes i ts row arity there ∙ no-target i ts (take arity row) (let c = take-short arity row in omega arith) }
 
-    pub goes-down : (count : ℕ) → count ≡ getD term 0 0 % 8192 → i < count → i < arity → i < 4 → (from to : ℕ) → Skips term 1 i from → Skips term from 1 to → Descends term row arity i (Argument from to (getD row i 0))
+    pub goes-down : 0 < length term → (count : ℕ) → count ≡ getD term 0 0 % 8192 → i < count → i < arity → i < 4 → (from to : ℕ) → Skips term 1 i from → Skips term from 1 to → Descends term row arity i (Argument from to (getD row i 0))
     unfolding LeadsTo
-    goes-down count ec h k m from to sf st =
+    goes-down some-nodes count ec h k m from to sf st =
         record {
+          inside = λ f t q e.
+              let a : from ≡ f = cc in
+              let b : to ≡ t = cc in
+              (let z = sf .inside (omega arith) in omega arith, let z = st .inside (sf .inside (omega arith)) in omega arith);
           leads = λ x ts e s l.
-            let c = first-count term x ts e in
-            let d = node x []ᵗ in
-            let below : i < countᵗ ts = omega arith in
-            let f : from ≡ startOf ts i = skip-arguments term x ts e i from (omega arith) s sf in
-            let t : to ≡ startOf ts (suc i) = skip-argument term x ts e i to below s (subst (λ y. Skips term y 1 to) f st) in
-            let (order, inside) = start-inside term x ts e i below in
-            (
-            record { term = termAt ts i d; state = getD (take arity row) i 0 },
-            goes i ts row arity there ∙ argument-some i ts (take arity row) d below (take-enough arity i row k (omega arith)),
-            getD-take arity row i 0 k,
-            omega arith,
-            omega arith,
-            ap₂ (λ (y z : ℕ). nodesIn (between term y z)) f t ∙ argument-nodes term x ts e i d below
-            );
+              let c = first-count term x ts e in
+              let d = node x []ᵗ in
+              let below : i < countᵗ ts = omega arith in
+              let f : from ≡ startOf ts i = skip-arguments term x ts e i from (omega arith) s sf in
+              let t : to ≡ startOf ts (suc i) = skip-argument term x ts e i to below s (subst (λ y. Skips term y 1 to) f st) in
+              let (order, inside) = start-inside term x ts e i below in (
+                record { term = termAt ts i d; state = getD (take arity row) i 0 },
+                goes i ts row arity there ∙ argument-some i ts (take arity row) d below (take-enough arity i row k (omega arith)),
+                getD-take arity row i 0 k,
+                omega arith,
+                omega arith,
+                ap₂ (λ (y z : ℕ). nodesIn (between term y z)) f t ∙ argument-nodes term x ts e i d below,
+              );
         }

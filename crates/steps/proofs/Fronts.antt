@@ -32,17 +32,33 @@ unfolding flat
 front-node [] h xs e = let n = ap length e in absurd (omega arith)
 front-node (v ∷ vs) h xs e = cc
 
--- a nonterminal by tag and number
-nonterminal-number : (tag number f : ℕ) → headBy tag number ≡ nt f → (tag ≡ 1) × (number ≡ f)
+-- a head by its tag and number
+pub nonterminal-tag : (tag number f : ℕ) → headBy tag number ≡ nt f → (tag ≡ 1) × (number ≡ f)
 unfolding headOf
-nonterminal-number zero number f e = let z : _≡_ {A = ℕ} 0 1 = cc in absurd (omega arith)
-nonterminal-number (suc zero) number f e = (refl, cc)
-nonterminal-number (suc (suc tag)) number f e = let z : _≡_ {A = ℕ} 0 1 = cc in absurd (omega arith)
+nonterminal-tag zero number f e = let z : _≡_ {A = ℕ} 0 1 = cc in absurd (omega arith)
+nonterminal-tag (suc zero) number f e = (refl, cc)
+nonterminal-tag (suc (suc tag)) number f e = let z : _≡_ {A = ℕ} 0 1 = cc in absurd (omega arith)
+
+pub constructor-tag : (tag number c : ℕ) → headBy tag number ≡ con c → (tag ≡ 0) × (number ≡ c)
+unfolding headOf
+constructor-tag zero number c e = (refl, cc)
+constructor-tag (suc zero) number c e = let z : _≡_ {A = ℕ} 0 1 = cc in absurd (omega arith)
+constructor-tag (suc (suc tag)) number c e = let z : _≡_ {A = ℕ} 0 1 = cc in absurd (omega arith)
+
+pub parameter-tag : (tag number i : ℕ) → headBy tag number ≡ par i → 2 ≤ tag
+unfolding headOf
+parameter-tag zero number i e = let z : _≡_ {A = ℕ} 0 1 = cc in absurd (omega arith)
+parameter-tag (suc zero) number i e = let z : _≡_ {A = ℕ} 0 1 = cc in absurd (omega arith)
+parameter-tag (suc (suc tag)) number i e = omega arith
+
+-- the head in front, by the tag and the number in the buffer
+pub front-head : (term : List ℕ) (h : Head) (xs : Terms) → nodesIn term ≡ flat (node h xs) → headBy (getD term 0 0 / 8192 % 4) (getD term 0 0 / 32768) ≡ h
+unfolding nodeOf
+front-head term h xs e = ap (λ (n : Node). n .head) (front-node term h xs e)
 
 -- the number of the nonterminal in front
 front-number : (term : List ℕ) (f : ℕ) (xs : Terms) → nodesIn term ≡ flat (node (nt f) xs) → getD term 0 0 / 32768 ≡ f
-unfolding nodeOf
-front-number term f xs e = nonterminal-number (getD term 0 0 / 8192 % 4) (getD term 0 0 / 32768) f (ap (λ (n : Node). n .head) (front-node term (nt f) xs e)) .1
+front-number term f xs e = nonterminal-tag (getD term 0 0 / 8192 % 4) (getD term 0 0 / 32768) f (front-head term (nt f) xs e) .1
 
 module _ {file index : List ℕ} {rules : ℕ} {rs : List Record} (b : Bodies file index rules rs) (f : ℕ) where
   rule-count : length (payloads Kind.rule rs) ≡ rules
@@ -66,13 +82,13 @@ module _ {file index : List ℕ} {rules : ℕ} {term starts before : List ℕ} w
       record {
         long = w .long;
         holds = λ rs b g xs e s k room.
-          let n : g ≡ f = sym (front-number term g xs e) ∙ sym ef in
-          let q : p ≡ getD (payloads Kind.rule rs) f [] = ep ∙ entry-there (b .there) f h in
-          let v = b .whole f h in
-          let t : nodesOf p ≡ flat (bodyOf (getD (payloads Kind.rule rs) f [])) = ap nodesOf q ∙ v .one-term in
-          let z : body (planOf rs) g ≡ bodyOf (getD (payloads Kind.rule rs) f []) = ap (body (planOf rs)) n ∙ rule-body b f h in
-          subst (λ y. Holds (put xs y) out r) (sym z)
-          (w .holds (nt g) xs (bodyOf (getD (payloads Kind.rule rs) f [])) e s k t (subst (λ y. (i : ℕ) → i < length y / 4 → byte y (i * 4) ≤ 2) (sym q) (v .tags)));
+            let n : g ≡ f = sym (front-number term g xs e) ∙ sym ef in
+            let q : p ≡ getD (payloads Kind.rule rs) f [] = ep ∙ entry-there (b .there) f h in
+            let v = b .whole f h in
+            let t : nodesOf p ≡ flat (bodyOf (getD (payloads Kind.rule rs) f [])) = ap nodesOf q ∙ v .one-term in
+            let z : body (planOf rs) g ≡ bodyOf (getD (payloads Kind.rule rs) f []) = ap (body (planOf rs)) n ∙ rule-body b f h in
+            subst (λ y. Holds (put xs y) out r) (sym z)
+            (w .holds (nt g) xs (bodyOf (getD (payloads Kind.rule rs) f [])) e s k t (subst (λ y. (i : ℕ) → i < length y / 4 → byte y (i * 4) ≤ 2) (sym q) (v .tags)));
       }
 
   pub front-full : length before ≡ 0 → UnfoldsFront file index rules term starts before before TooLarge
@@ -85,11 +101,11 @@ module _ {file index : List ℕ} {rules : ℕ} {term starts before : List ℕ} w
       record {
         long = length-set before 0 (front - front % 8192);
         holds = λ rs b f xs e s k p.
-          let n : f ≡ front / 32768 = sym (front-number term f xs e) ∙ ap (_/ 32768) (sym ev) in
-          let z : put xs (body (planOf rs) f) ≡ node (nt f) []ᵗ = ap (put xs) (rule-none b f (omega arith)) in
-          let x : nodeOf (front - front % 8192) ≡ record { head = nt f; count = 0 } = bare f xs e in
-          let l = length-set before 0 (front - front % 8192) in
-          (ap nodes (sym z), omega arith, ap nodesIn (take-suc-set before 0 (front - front % 8192) room) ∙ ap (_∷ []) x ∙ ap flat (sym z));
+            let n : f ≡ front / 32768 = sym (front-number term f xs e) ∙ ap (_/ 32768) (sym ev) in
+            let z : put xs (body (planOf rs) f) ≡ node (nt f) []ᵗ = ap (put xs) (rule-none b f (omega arith)) in
+            let x : nodeOf (front - front % 8192) ≡ record { head = nt f; count = 0 } = bare f xs e in
+            let l = length-set before 0 (front - front % 8192) in
+            (ap nodes (sym z), omega arith, ap nodesIn (take-suc-set before 0 (front - front % 8192) room) ∙ ap (_∷ []) x ∙ ap flat (sym z));
       }
     where
       bare : (f : ℕ) (xs : Terms) → nodesIn term ≡ flat (node (nt f) xs) → nodeOf (front - front % 8192) ≡ record { head = nt f; count = 0 }

@@ -44,4 +44,5 @@ LeadsTo o term (Argument from to q) = (a : At) × (o ≡ some a) × (a .state �
 
 -- "Letter i from 1 goes to the i-th argument of the constructor in front and to the i-th target state"
 pub record Descends (term row : List ℕ) (arity i : ℕ) (r : Descent) : Type 0 where
+  pub inside : (from to q : ℕ) → r ≡ Argument from to q → (from ≤ length term) × (to ≤ length term)
   pub leads : (h : Head) (ts : Terms) → nodesIn term ≡ flat (node h ts) → length term ≤ 4096 → length row ≡ 4 → LeadsTo (Replay.descend i ts (targetsIn arity row)) term r

@@ -7,7 +7,11 @@ ghost use Rattle.steps.specs.Steps.{UnfoldsFront, Descends};
 
 pub enum Descent {
     None,
-    Argument { from: usize, to: usize, state: usize },
+    Argument {
+        from: usize,
+        to: usize,
+        state: usize,
+    },
 }
 
 // Writes the term with the nonterminal in front unfolded into a buffer; a nonterminal without a rule stands for itself.

@@ -92,7 +92,7 @@ module _ (term : List ℕ) (h : Head) (xs : Terms) (e : nodesIn term ≡ flat (n
       let f = from-start i d k ∙ ap (_++ flats (dropᵗ (suc i) xs)) (sym (append-nil (flat x))) in
       let n = nodes-next xs i d k in
       let p = split-nodes i k in
-      let z = s (x ∷ᵗ []ᵗ) (flats (dropᵗ (suc i) xs)) (omega arith) (omega arith) f refl in
+      let z = s .skips (x ∷ᵗ []ᵗ) (flats (dropᵗ (suc i) xs)) (omega arith) (omega arith) f refl in
       omega arith
 
   -- behind the first i arguments argument i begins
@@ -101,7 +101,7 @@ module _ (term : List ℕ) (h : Head) (xs : Terms) (e : nodesIn term ≡ flat (n
   skip-arguments i r k small s =
       let l = term-length in
       let f : drop 1 (nodesIn term) ≡ flats (takeᵗ i xs) ++ flats (dropᵗ i xs) = ap (drop 1) e ∙ flats-cut i xs in
-      let z = s (takeᵗ i xs) (flats (dropᵗ i xs)) (omega arith) (omega arith) f (count-take i xs k) in
+      let z = s .skips (takeᵗ i xs) (flats (dropᵗ i xs)) (omega arith) (omega arith) f (count-take i xs k) in
       omega arith
 
   -- an argument begins before it ends, inside the term

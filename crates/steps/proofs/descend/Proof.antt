@@ -43,7 +43,7 @@ cast-t13 : tie.Need-cast-t13
 cast-t13 c = search needs
 
 returns-6 : tie.Need-returns-6
-returns-6 c = goes-down (c .before .before .before .before .before .before .before .if1 .left) _ refl (c .before .before .before .before .if3 .left) (c .before .before .before .if4 .left) (c .before .before .if5 .left) _ _ (c .before .skip .ensures) (c .skip2 .ensures)
+returns-6 c = goes-down (c .before .before .before .before .before .before .before .if1 .left) (omega arith) _ refl (c .before .before .before .before .if3 .left) (c .before .before .before .if4 .left) (c .before .before .if5 .left) _ _ (c .before .skip .ensures) (c .skip2 .ensures)
 
 pub descend-spec : {M : Type 1} → statement M
 descend-spec =

@@ -1,0 +1,38 @@
+-- `follow` meets its contract.
+use Rattle.letters.proofs.Letters.{follow-unfolds, follow-descends}
+use borrow.Author.Needs.{needs}
+use Rattle.letters.proofs.follow.Statement.{statement}
+use Rattle.letters.proofs.follow.Tie as tie
+
+unfold-held-requires : tie.Need-unfold-held-requires
+unfold-held-requires c κs = search needs
+
+same-length : tie.Need-same-length
+same-length c = search needs
+
+same-length-2 : tie.Need-same-length-2
+same-length-2 c = search needs
+
+returns : tie.Need-returns
+returns c = follow-unfolds (c .before .before .before .before .before .before .before .if1 .taken) (c .before .before .before .before .unfold-held .ensures)
+
+sub-descend-held : tie.Need-sub-descend-held
+sub-descend-held c = search needs
+
+descend-held-requires : tie.Need-descend-held-requires
+descend-held-requires c κs = search needs
+
+returns-2 : tie.Need-returns-2
+returns-2 c = follow-descends (c .before .if1 .left) (c .descend-held .ensures)
+
+pub follow-spec : {M : Type 1} → statement M
+follow-spec =
+    tie.close
+    (tie.spec
+    unfold-held-requires
+    same-length
+    same-length-2
+    returns
+    sub-descend-held
+    descend-held-requires
+    returns-2)
