@@ -1,0 +1,47 @@
+-- What the functions that replay a path promise: the answer of the definitions.
+use Prim.Native.Nat.{ℕ, _<_}
+use mathlib.Core.Path.{_≡_}
+use mathlib.Core.List.{List, []}
+use mathlib.Core.Option.{none}
+use lib.ListN.{length, getD}
+use Rattle.scheme.specs.Terms.{Term}
+use Rattle.scheme.specs.Replay.{arrived, stuck}
+use Rattle.records.specs.Records.{Record}
+use Rattle.casefile.specs.Kinds.{Kind, payloads, count}
+use Rattle.casefile.specs.Tables.{planOf, automatonOf}
+use Rattle.casefile.specs.Refusals.{refuseWhole}
+use Rattle.casefile.proofs.Passed.{Passed}
+use Rattle.walk.specs.Known.{Known}
+use Rattle.letters.specs.Letters.{Replaying, Holding}
+use Rattle.letters.specs.declared.Held.{Held}
+use Rattle.letters.specs.declared.Step.{Step}
+use Rattle.letters.specs.declared.Step.the-variants.{Lost, TooLarge, At}
+use Rattle.replay.specs.PathCases.{PathAnswer, refutedPath, refusedPath, pathAnswer, replayed}
+use Rattle.replay.specs.declared.Replayed.{Replayed}
+use Rattle.replay.specs.declared.Replayed.the-variants.{Refuted, Refused}
+
+-- each answer as one of the definitions: letters, state and constructor, or the paper's number and place
+unfoldable pub pathAs : Replayed → PathAnswer
+pathAs (Refuted n q c) = refutedPath n q c
+pathAs (Refused n p) = refusedPath (record { number = n; place = p })
+
+-- the refusal of a letter that does not lead to a term within the limit
+unfoldable pub stoppedAt : Step → ℕ → Replayed
+stoppedAt Lost i = Refused 13 i
+stoppedAt TooLarge i = Refused 14 i
+stoppedAt (At held) i = Refused 13 i
+
+-- the answer behind the last letter, on the term held in a buffer
+pub record Arrives (table : List (List (List ℕ))) (constructors : ℕ) (buffer : List ℕ) (held : Held) (n : ℕ) (r : Replayed) : Type 0 where
+  pub answer : (file index : List ℕ) (rules : ℕ) (rs : List Record) → Replaying file index rules constructors table rs → (t : Term) (q : ℕ) → Holding buffer held t q
+      → pathAs r ≡ pathAnswer (arrived n q (stuck (automatonOf rs) t q))
+
+-- the answer to a path, where the buffers are as large as the limit
+pub record Runs (file index : List ℕ) (rules constructors : ℕ) (table : List (List (List ℕ))) (path starts first second : List ℕ) (r : Replayed) : Type 0 where
+  pub answer : (rs : List Record) → Replaying file index rules constructors table rs → length first ≡ 4096 → length second ≡ 4096 → 4096 < length starts
+      → pathAs r ≡ replayed (automatonOf rs) (planOf rs) path
+
+-- the answer to the path of a file, whose records all passed and which 8 to 12 do not refuse
+pub record ReplaysPath (file index counts : List ℕ) (r : Replayed) : Type 0 where
+  pub answer : (lens : List ℕ) (rs : List Record) (flags : ℕ) → Known file index lens counts rs → Passed rs → refuseWhole rs flags ≡ none → 0 < count Kind.path rs
+      → pathAs r ≡ replayed (automatonOf rs) (planOf rs) (getD (payloads Kind.path rs) 0 [])
