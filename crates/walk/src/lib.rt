@@ -1,11 +1,11 @@
 // The walk over a file: one pass over its records, which fills the index or finds the first refusal by 2 to 7.
 use entries::place_at;
-use entries::test_binding;
-use entries::test_constructor;
-use entries::test_nonterminal;
-use entries::test_path;
-use entries::test_states;
-use entries::test_transition;
+use pairs::test_binding;
+use singles::test_constructor;
+use singles::test_nonterminal;
+use singles::test_path;
+use singles::test_states;
+use pairs::test_transition;
 use records::Cursor;
 use records::Read;
 use records::byte_at;

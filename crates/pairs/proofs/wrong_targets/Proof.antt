@@ -6,9 +6,9 @@ use native.Mathlib.Omega.{arith}
 use borrow.Author.Needs.{needs}
 use denote.Ref.{now}
 use lib.ListN.{length}
-use Rattle.entries.proofs.Targets.{Passed, Limit, passed-none, passed-one, passed-all, target-wrong}
-use Rattle.entries.proofs.wrong_targets.Statement.{statement}
-use Rattle.entries.proofs.wrong_targets.Tie as tie
+use Rattle.pairs.proofs.Targets.{Passed, Limit, passed-none, passed-one, passed-all, target-wrong}
+use Rattle.pairs.proofs.wrong_targets.Statement.{statement}
+use Rattle.pairs.proofs.wrong_targets.Tie as tie
 
 abbrev Inv-loop : tie.InvT-loop
 Inv-loop states arity p i₀ i = Passed states arity p i

@@ -11,12 +11,12 @@ use Rattle.scheme.specs.Lists.{if_then_else_}
 use Rattle.records.specs.Records.{Record}
 use Rattle.casefile.specs.Kinds.{nonterminal, type, binding, count}
 use Rattle.casefile.specs.Refusals.{wrongLength, tooMany, tooLarge, outOfRange, misplaced}
 use Rattle.entries.specs.Codes.{codeFor}
 use Rattle.entries.specs.Index.{Indexed}
 use Rattle.entries.specs.Tests.{Fitting}
 use Rattle.entries.proofs.Earlier.{first-binding, next-binding}
-use Rattle.entries.proofs.test_binding.Statement.{statement}
-use Rattle.entries.proofs.test_binding.Tie as tie
+use Rattle.pairs.proofs.test_binding.Statement.{statement}
+use Rattle.pairs.proofs.test_binding.Tie as tie
 
 returns : tie.Need-returns
 unfolding codeFor wrongLength

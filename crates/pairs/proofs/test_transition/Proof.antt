@@ -12,12 +12,12 @@ use Rattle.records.specs.Records.{Record}
 use Rattle.casefile.specs.Kinds.{constructor, transition, count}
 use Rattle.casefile.specs.Tables.{stateCount}
 use Rattle.casefile.specs.Refusals.{wrongLength, tooMany, tooLarge, outOfRange, misplaced}
 use Rattle.entries.specs.Codes.{codeFor}
 use Rattle.entries.specs.Index.{Indexed}
 use Rattle.entries.specs.Tests.{Fitting}
 use Rattle.entries.proofs.Earlier.{first-transition, next-transition, arities-length, arity-there}
-use Rattle.entries.proofs.test_transition.Statement.{statement}
-use Rattle.entries.proofs.test_transition.Tie as tie
+use Rattle.pairs.proofs.test_transition.Statement.{statement}
+use Rattle.pairs.proofs.test_transition.Tie as tie
 
 returns : tie.Need-returns
 unfolding codeFor wrongLength

@@ -3,9 +3,9 @@ use mathlib.Core.Logic.{⊎-elim}
 use borrow.Author.Needs.{needs}
 use borrow.Author.Tests.{le-leb, lt-leb, eq-eqb, ne-eqb}
 use Rattle.casefile.specs.Refusals.{wrongLength, tooMany, tooLarge, outOfRange, misplaced}
 use Rattle.entries.specs.Codes.{codeFor}
-use Rattle.entries.proofs.test_states.Statement.{statement}
-use Rattle.entries.proofs.test_states.Tie as tie
+use Rattle.singles.proofs.test_states.Statement.{statement}
+use Rattle.singles.proofs.test_states.Tie as tie
 
 returns : tie.Need-returns
 unfolding codeFor wrongLength

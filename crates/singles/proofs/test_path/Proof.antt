@@ -2,9 +2,9 @@
 use mathlib.Core.Logic.{⊎-elim}
 use borrow.Author.Tests.{le-leb, lt-leb}
 use Rattle.casefile.specs.Refusals.{wrongLength, tooMany, tooLarge, outOfRange, misplaced}
 use Rattle.entries.specs.Codes.{codeFor}
-use Rattle.entries.proofs.test_path.Statement.{statement}
-use Rattle.entries.proofs.test_path.Tie as tie
+use Rattle.singles.proofs.test_path.Statement.{statement}
+use Rattle.singles.proofs.test_path.Tie as tie
 
 returns : tie.Need-returns
 unfolding codeFor wrongLength tooMany tooLarge

@@ -1,8 +1,8 @@
 -- `precedes` meets its contract.
 use borrow.Author.Tests.{lt-ltb, le-ltb, eq-eqb, ne-eqb}
 use Rattle.casefile.specs.Refusals.{before}
-use Rattle.entries.proofs.precedes.Statement.{statement}
-use Rattle.entries.proofs.precedes.Tie as tie
+use Rattle.pairs.proofs.precedes.Statement.{statement}
+use Rattle.pairs.proofs.precedes.Tie as tie
 
 returns : tie.Need-returns
 unfolding before

@@ -2,9 +2,9 @@
 use borrow.Author.Needs.{needs}
 use borrow.Author.Tests.{lt-ltb, le-ltb, le-leb, lt-leb, eq-eqb, ne-eqb}
 use Rattle.casefile.specs.Refusals.{wrongLength, tooMany, tooLarge, outOfRange, misplaced}
 use Rattle.entries.specs.Codes.{codeFor}
-use Rattle.entries.proofs.test_constructor.Statement.{statement}
-use Rattle.entries.proofs.test_constructor.Tie as tie
+use Rattle.singles.proofs.test_constructor.Statement.{statement}
+use Rattle.singles.proofs.test_constructor.Tie as tie
 
 returns : tie.Need-returns
 unfolding codeFor wrongLength
