@@ -5,3 +5,4 @@ pub mod TypeNumbers
 pub mod Repeats
 pub mod TypeTable
 pub mod SortTable
+pub mod Steps

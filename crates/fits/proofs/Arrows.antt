@@ -1,39 +1,18 @@
 -- An arrow by its numbers: the flags of its result and of each member in turn.
-use Prim.Native.Nat.{ℕ, suc, _+_, _<_, _≤_}
+use Prim.Native.Nat.{ℕ, _+_, _<_, _≤_}
 use native.Mathlib.Omega.{arith}
 use native.Mathlib.Nat.{add-zero}
-use mathlib.Core.Path.{_≡_, refl, sym, ap, ap₂, _∙_}
+use mathlib.Core.Path.{_≡_, refl, sym, ap, _∙_}
 use mathlib.Core.Bool.{Bool, true, false, _&&_, not}
 use mathlib.Core.List.{List, [], _∷_}
 use borrow.Author.Tests.{eq-eqb, ne-eqb}
-use lib.ListN.{length, getD, drop, length-drop}
-use lib.Seq.{drop-cons}
+use lib.ListN.{length, drop}
 use Rattle.scheme.specs.Lists.{all}
 use Rattle.scheme.specs.Flags.{bit}
 use Rattle.records.specs.Fields.{field, word}
 use Rattle.casefile.specs.Tables.{words}
+use Rattle.casefile.proofs.Steps.{words-step, words-done}
 use Rattle.fits.specs.Fitted.{flag, says, arrowSays, Holds}
-
--- The numbers of a payload from a place on.
-two-there : (p : List ℕ) (i : ℕ) → i + 2 ≤ length p → drop i p ≡ getD p i 0 ∷ getD p (i + 1) 0 ∷ drop (i + 2) p
-two-there p i h =
-    let one : suc i ≡ i + 1 = omega arith in
-    let two : suc (suc i) ≡ i + 2 = omega arith in
-    drop-cons p i 0 (omega arith) ∙ ap (getD p i 0 ∷_) (drop-cons p (suc i) 0 (omega arith))
-    ∙ ap₂ (λ (j k : ℕ). getD p i 0 ∷ getD p j 0 ∷ drop k p) one two
-
-too-short : (l : List ℕ) → length l < 2 → words l ≡ []
-unfolding words
-too-short [] h = refl
-too-short (a ∷ []) h = refl
-too-short (a ∷ b ∷ l) h = absurd (omega arith)
-
-words-step : (p : List ℕ) (i : ℕ) → i + 2 ≤ length p → words (drop i p) ≡ word p i ∷ words (drop (i + 2) p)
-unfolding words field
-words-step p i h = ap words (two-there p i h)
-
-words-done : (p : List ℕ) (i : ℕ) → length p < i + 2 → words (drop i p) ≡ []
-words-done p i h = too-short (drop i p) (rw length-drop (omega arith))
 
 -- what a flag that was read says
 pub says-no : (fit : List ℕ) (s t x : ℕ) → x ≡ flag fit t s → x ≡ 0 → says fit s t ≡ false

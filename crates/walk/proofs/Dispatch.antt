@@ -22,7 +22,7 @@ use Rattle.casefile.proofs.TypeTable.{count-payloads}
 use Rattle.entries.specs.Codes.{codeFor}
 use Rattle.entries.specs.Index.{base, Indexed}
 use Rattle.entries.specs.Tests.{Fitting, Tests, TestsNonterminal, TestsBinding, TestsTransition}
-use Rattle.tables.specs.Tests.{SortLens, TestsSort, TestsRule, TestsType}
+use Rattle.entries.specs.Tests.{SortLens, TestsSort, TestsRule, TestsType}
 use Rattle.walk.specs.Known.{room, Known}
 use Rattle.walk.specs.Walking.{codeAs}
 

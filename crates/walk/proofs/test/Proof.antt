@@ -18,9 +18,9 @@ use Rattle.singles.proofs.test_nonterminal.Reads as test-nonterminal-reads
 use Rattle.singles.proofs.test_path.Reads as test-path-reads
 use Rattle.singles.proofs.test_states.Reads as test-states-reads
 use Rattle.pairs.proofs.test_transition.Reads as test-transition-reads
-use Rattle.tables.proofs.test_rule.Reads as test-rule-reads
-use Rattle.tables.proofs.test_sort.Reads as test-sort-reads
-use Rattle.tables.proofs.test_type.Reads as test-type-reads
+use Rattle.rule_records.proofs.test_rule.Reads as test-rule-reads
+use Rattle.sort_records.proofs.test_sort.Reads as test-sort-reads
+use Rattle.type_records.proofs.test_type.Reads as test-type-reads
 use Rattle.walk.proofs.state_count.Reads as state-count-reads
 
 place-at-requires : tie.Need-place-at-requires
