@@ -1,18 +1,9 @@
-use Prim.Native.Nat.{ℕ, _+_, _-_, _<_, _≤_}
-use mathlib.Core.Path.{_≡_, refl, sym, ap, subst, _∙_}
-use mathlib.Core.Logic.{⊎-elim}
-use mathlib.Core.List.{List}
+use Prim.Native.Nat.{_-_}
 use native.Mathlib.Omega.{arith}
-use lib.ListN.{length, drop}
-use Rattle.intake.proofs.Evidence.{evidence-10, evidence-path, evidence-11, evidence-12, evidence-none}
+use Rattle.whole_file.proofs.Evidence.{evidence-10, evidence-path, evidence-11, evidence-12, evidence-none}
 use borrow.Author.Needs.{needs}
-use Rattle.intake.proofs.test_evidence.Statement.{statement}
-use Rattle.intake.proofs.test_evidence.Tie as tie
-use Rattle.intake.proofs.test_evidence.Reads as reads
-use Rattle.intake.proofs.test_evidence.Lts as lts
-use Rattle.entries.proofs.place_at.Reads as place-at-reads
-use Rattle.intake.proofs.misfit.Reads as misfit-reads
-use Rattle.intake.proofs.place_of.Reads as place-of-reads
+use Rattle.whole_file.proofs.test_evidence.Statement.{statement}
+use Rattle.whole_file.proofs.test_evidence.Tie as tie
 
 place-at-requires : tie.Need-place-at-requires
 place-at-requires c κs = search needs

@@ -1,29 +1,32 @@
 -- The tests of the evidence, 10 to 12, by what the program found.
-use Prim.Native.Nat.{ℕ, zero, suc, _+_, _<_, _≤_}
+use Prim.Native.Nat.{ℕ, _+_, _<_, _≤_}
 use native.Mathlib.Omega.{arith}
 use mathlib.Core.Path.{_≡_, refl, sym, ap, ap₂, subst, _∙_}
 use mathlib.Core.Bool.{Bool, true, false, _&&_}
 use mathlib.Core.List.{List, [], _∷_}
-use mathlib.Core.Option.{Option, none, some}
+use mathlib.Core.Option.{none, some}
 use borrow.Author.Tests.{lt-ltb, le-ltb}
 use lib.Dec.{ltb}
 use lib.ListN.{length, getD}
 use Rattle.records.specs.Records.{Record}
 use Rattle.records.proofs.Fields.{Bytes}
-use Rattle.casefile.specs.Kinds.{Kind, sort, nonterminal, type, binding, path, number, ofKind, payloads, count, placeOf}
+use Rattle.casefile.specs.Kinds.{sort, nonterminal, type, binding, path, number, ofKind, payloads, count, placeOf}
 use Rattle.casefile.specs.Tables.{signaturesOf, bindingsOf}
-use Rattle.casefile.specs.Refusals.{Refusal, first, misfits, refuseWhole}
+use Rattle.casefile.specs.Refusals.{first, misfits}
 use Rattle.casefile.proofs.Passed.{Passed}
 use Rattle.casefile.proofs.TypeTable.{count-payloads}
-use Rattle.entries.specs.Index.{base, Indexed}
-use Rattle.fits.specs.Fitted.{Listed, Fitted, Fills, Offered, FirstMisfit, FindsMisfit}
+use Rattle.entries.specs.Index.{Indexed}
+use Rattle.fits.specs.Fitted.{Fills, FirstMisfit, FindsMisfit}
 use Rattle.fits.proofs.Misfits.{misfits-none, misfits-first}
 use Rattle.fits.proofs.Offers.{offered}
 use Rattle.walk.specs.Known.{Known}
-use Rattle.intake.specs.declared.Case.the-variants as is
-use Rattle.intake.specs.Intake.{WholeEnds, PlanFine, FindsFirst}
-use Rattle.intake.proofs.Whole.{met-10, met-11, met-12, met-none}
-use Rattle.intake.proofs.Contents.{payload-bytes}
+use Rattle.whole_file.specs.declared.Case.the-variants as is
+use Rattle.whole_file.specs.Whole.{WholeEnds, FindsFirst}
+use Rattle.plan_tests.specs.PlanTests.{PlanFine, PlanEnds}
+use Rattle.plan_tests.proofs.Whole.{met-10, met-11, met-12, met-none}
+use Rattle.plan_tests.proofs.Contents.{payload-bytes}
+use Rattle.plan_tests.specs.declared.Plan.the-variants as plan
+use Rattle.plan_tests.specs.declared.Plan.{Plan}
 
 -- the table of fits, then the first binding that does not fit
 pub finds-first : (file index fit : List ℕ) (types sorts bindings r : ℕ) → Bytes file → Fills file index types sorts fit → FindsMisfit file index fit bindings r → FindsFirst file index types sorts bindings r
@@ -111,3 +114,12 @@ module _ {file index counts lens : List ℕ} {rs : List Record} (flags : ℕ) (k
           empty : (l : List (List ℕ)) → length l ≡ 0 → l ≡ []
           empty [] e = refl
           empty (x ∷ l) e = absurd (omega arith)
+
+-- From the plan's tests to those of the whole file.
+pub whole-refused : (rs : List Record) (flags n p : ℕ) (pl : Plan) → pl ≡ plan.Refused n p → PlanEnds rs pl → WholeEnds rs flags (is.Refused n p)
+unfolding PlanEnds WholeEnds
+whole-refused rs flags n p pl e h = let k : PlanEnds rs (plan.Refused n p) = rw e at h in k flags
+
+pub plan-is-fine : (rs : List Record) (pl : Plan) → pl ≡ plan.Fine → PlanEnds rs pl → PlanFine rs
+unfolding PlanEnds
+plan-is-fine rs pl e h = rw e at h

@@ -1,17 +1,8 @@
-use Prim.Native.Nat.{ℕ, _+_, _-_, _<_, _≤_}
-use mathlib.Core.Path.{_≡_, refl, sym, ap, subst, _∙_}
-use mathlib.Core.Logic.{⊎-elim}
-use mathlib.Core.List.{List}
-use native.Mathlib.Omega.{arith}
-use lib.ListN.{length, drop}
-use borrow.Author.Tests.{eq-eqb, ne-eqb}
-use Rattle.intake.proofs.Contents.{counts-none, counts-empty, counts-by}
+use Prim.Native.Nat.{_-_}
+use Rattle.plan_tests.proofs.Contents.{counts-none, counts-empty, counts-by}
 use borrow.Author.Needs.{needs}
-use Rattle.intake.proofs.counts_wrong.Statement.{statement}
-use Rattle.intake.proofs.counts_wrong.Tie as tie
-use Rattle.intake.proofs.counts_wrong.Reads as reads
-use Rattle.intake.proofs.counts_wrong.Lts as lts
-use Rattle.entries.proofs.place_at.Reads as place-at-reads
+use Rattle.plan_tests.proofs.counts_wrong.Statement.{statement}
+use Rattle.plan_tests.proofs.counts_wrong.Tie as tie
 
 place-at-requires : tie.Need-place-at-requires
 place-at-requires c κs = search needs

@@ -1,7 +1,7 @@
 -- The tests over the whole file, 8 to 12, one after the other: what is left when those before were not met.
-use Prim.Native.Nat.{ℕ, zero, suc, _+_, _<_, _≤_}
+use Prim.Native.Nat.{ℕ, _+_, _<_, _≤_}
 use native.Mathlib.Omega.{arith}
-use mathlib.Core.Path.{_≡_, refl, sym, ap, ap₂, subst, _∙_}
+use mathlib.Core.Path.{_≡_, refl, sym, ap, ap₂, _∙_}
 use mathlib.Core.Bool.{Bool, true, false, _&&_, _||_, not}
 use mathlib.Core.List.{List, [], _∷_, _++_, map}
 use mathlib.Core.Option.{Option, none, some}
@@ -11,7 +11,7 @@ use lib.ListN.{length, getD}
 use Rattle.scheme.specs.Lists.{if_then_else_}
 use Rattle.records.specs.Fields.{word}
 use Rattle.records.specs.Records.{Record}
-use Rattle.casefile.specs.Kinds.{Kind, nonterminal, rule, states, type, binding, path, ofKind, payloads, count, placeOf}
+use Rattle.casefile.specs.Kinds.{nonterminal, rule, states, type, binding, path, ofKind, payloads, count, placeOf}
 use Rattle.casefile.specs.Tables.{aritiesOf, signaturesOf, bindingsOf}
 use Rattle.casefile.specs.Refusals.{Refusal, Test, refuse_at_when_, first, wrongStart, wrongBodies, misfits, refuseWhole}
 

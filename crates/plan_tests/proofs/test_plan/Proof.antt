@@ -1,20 +1,9 @@
-use Prim.Native.Nat.{ℕ, _+_, _-_, _<_, _≤_}
-use mathlib.Core.Path.{_≡_, refl, sym, ap, subst, _∙_}
-use mathlib.Core.Logic.{⊎-elim}
-use mathlib.Core.List.{List}
+use Prim.Native.Nat.{_-_}
 use native.Mathlib.Omega.{arith}
-use lib.ListN.{length, drop}
-use Rattle.intake.proofs.Planning.{plan-8, plan-start, plan-body, plan-fine}
+use Rattle.plan_tests.proofs.Planning.{plan-8, plan-start, plan-body, plan-fine}
 use borrow.Author.Needs.{needs}
-use Rattle.intake.proofs.test_plan.Statement.{statement}
-use Rattle.intake.proofs.test_plan.Tie as tie
-use Rattle.intake.proofs.test_plan.Reads as reads
-use Rattle.intake.proofs.test_plan.Lts as lts
-use Rattle.entries.proofs.place_at.Reads as place-at-reads
-use Rattle.intake.proofs.counts_wrong.Reads as counts-wrong-reads
-use Rattle.intake.proofs.place_of.Reads as place-of-reads
-use Rattle.records.proofs.word_at.Reads as word-at-reads
-use Rattle.rules.proofs.first_wrong_body.Reads as first-wrong-body-reads
+use Rattle.plan_tests.proofs.test_plan.Statement.{statement}
+use Rattle.plan_tests.proofs.test_plan.Tie as tie
 
 counts-wrong-requires : tie.Need-counts-wrong-requires
 counts-wrong-requires c κs = search needs

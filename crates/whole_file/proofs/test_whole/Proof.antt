@@ -1,17 +1,8 @@
-use Prim.Native.Nat.{ℕ, _+_, _-_, _<_, _≤_}
-use mathlib.Core.Path.{_≡_, refl, sym, ap, subst, _∙_}
-use mathlib.Core.Logic.{⊎-elim}
-use mathlib.Core.List.{List}
-use native.Mathlib.Omega.{arith}
-use lib.ListN.{length, drop}
-use Rattle.intake.proofs.Planning.{whole-refused, plan-is-fine}
+use Prim.Native.Nat.{_-_}
+use Rattle.whole_file.proofs.Evidence.{whole-refused, plan-is-fine}
 use borrow.Author.Needs.{needs}
-use Rattle.intake.proofs.test_whole.Statement.{statement}
-use Rattle.intake.proofs.test_whole.Tie as tie
-use Rattle.intake.proofs.test_whole.Reads as reads
-use Rattle.intake.proofs.test_whole.Lts as lts
-use Rattle.intake.proofs.test_evidence.Reads as test-evidence-reads
-use Rattle.intake.proofs.test_plan.Reads as test-plan-reads
+use Rattle.whole_file.proofs.test_whole.Statement.{statement}
+use Rattle.whole_file.proofs.test_whole.Tie as tie
 
 test-plan-requires : tie.Need-test-plan-requires
 test-plan-requires c κs = search needs

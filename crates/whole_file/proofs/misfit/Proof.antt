@@ -1,17 +1,9 @@
-use Prim.Native.Nat.{ℕ, _+_, _-_, _<_, _≤_}
-use mathlib.Core.Path.{_≡_, refl, sym, ap, subst, _∙_}
-use mathlib.Core.Logic.{⊎-elim}
-use mathlib.Core.List.{List}
+use Prim.Native.Nat.{_-_}
 use native.Mathlib.Omega.{arith}
-use lib.ListN.{length, drop}
-use Rattle.intake.proofs.Evidence.{finds-first}
+use Rattle.whole_file.proofs.Evidence.{finds-first}
 use borrow.Author.Needs.{needs}
-use Rattle.intake.proofs.misfit.Statement.{statement}
-use Rattle.intake.proofs.misfit.Tie as tie
-use Rattle.intake.proofs.misfit.Reads as reads
-use Rattle.intake.proofs.misfit.Lts as lts
-use Rattle.fits.proofs.fill_fits.Reads as fill-fits-reads
-use Rattle.fits.proofs.first_misfit.Reads as first-misfit-reads
+use Rattle.whole_file.proofs.misfit.Statement.{statement}
+use Rattle.whole_file.proofs.misfit.Tie as tie
 
 fill-fits-requires : tie.Need-fill-fits-requires
 fill-fits-requires c κs = search needs

@@ -4,7 +4,7 @@ use native.Mathlib.Omega.{arith}
 use native.Mathlib.Nat.{add-zero}
 use mathlib.Core.Path.{_≡_, refl, sym, ap, subst, _∙_}
 use mathlib.Core.Bool.{Bool, true, false, _||_, not}
-use mathlib.Core.List.{List, [], _∷_}
+use mathlib.Core.List.{List, []}
 use mathlib.Core.Option.{none, some}
 use borrow.Author.Tests.{eqb-true, eqb-false, not-false}
 use lib.Dec.{eqb}
@@ -13,20 +13,17 @@ use Rattle.scheme.proofs.Lists.{or-false}
 use Rattle.records.specs.Fields.{word}
 use Rattle.records.specs.Records.{Record}
 use Rattle.records.proofs.Fields.{Bytes}
-use Rattle.casefile.specs.Kinds.{Kind, sort, constructor, nonterminal, rule, states, number, ofKind, payloads, count, placeOf}
-use Rattle.casefile.specs.Tables.{aritiesOf, signaturesOf}
-use Rattle.casefile.specs.Refusals.{first, wrongLength, wrongStart, wrongBodies, refuseWhole}
+use Rattle.casefile.specs.Kinds.{sort, constructor, nonterminal, rule, states, number, ofKind, payloads, count, placeOf}
+use Rattle.casefile.specs.Refusals.{first, wrongLength, wrongStart}
 use Rattle.casefile.proofs.Passed.{Passed}
-use Rattle.entries.specs.Index.{base, Indexed}
+use Rattle.entries.specs.Index.{Indexed}
 use Rattle.rules.specs.Rules.{nodesIn, Filed, FindsWrongBody, BodiesRead}
 use Rattle.walk.specs.Known.{Known}
 use Rattle.walk.proofs.Dispatch.{fitting}
-use Rattle.intake.specs.declared.Plan.the-variants as plan
-use Rattle.intake.specs.declared.Plan.{Plan}
-use Rattle.intake.specs.declared.Case.the-variants as is
-use Rattle.intake.specs.Intake.{PlanFine, PlanEnds, WholeEnds}
-use Rattle.intake.proofs.Whole.{met-8, met-start, met-body, start-wrong, start-right}
-use Rattle.intake.proofs.Contents.{payload-bytes}
+use Rattle.plan_tests.specs.declared.Plan.the-variants as plan
+use Rattle.plan_tests.specs.PlanTests.{PlanEnds}
+use Rattle.plan_tests.proofs.Whole.{met-8, met-start, met-body, start-wrong, start-right}
+use Rattle.plan_tests.proofs.Contents.{payload-bytes}
 
 module _ {file index counts lens : List ℕ} {rs : List Record} (known : Known file index lens counts rs) (ok : Passed rs) where
   abbrev wrong8 : Bool
@@ -115,12 +112,3 @@ module _ {file index counts lens : List ℕ} {rs : List Record} (known : Known f
         pub plan-fine : rules ≤ g → PlanEnds rs plan.Fine
         unfolding PlanEnds
         plan-fine h = record { counts-right = no8; start-right = start-fine; bodies-right = found .none-refused (let w = found .within in omega arith) }
-
--- From the plan's tests to those of the whole file.
-pub whole-refused : (rs : List Record) (flags n p : ℕ) (pl : Plan) → pl ≡ plan.Refused n p → PlanEnds rs pl → WholeEnds rs flags (is.Refused n p)
-unfolding PlanEnds WholeEnds
-whole-refused rs flags n p pl e h = let k : PlanEnds rs (plan.Refused n p) = rw e at h in k flags
-
-pub plan-is-fine : (rs : List Record) (pl : Plan) → pl ≡ plan.Fine → PlanEnds rs pl → PlanFine rs
-unfolding PlanEnds
-plan-is-fine rs pl e h = rw e at h
