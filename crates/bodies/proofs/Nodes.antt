@@ -17,7 +17,7 @@ use Rattle.scheme.proofs.Lists.{or-false}
 use Rattle.records.specs.Fields.{field}
 use Rattle.casefile.specs.Tables.{Cell, cellsOf, headOf, nodesOf}
 use Rattle.casefile.specs.Refusals.{wrongCell}
-use Rattle.bodies.specs.Sorted.{Code, listed, ParameterSort}
+use Rattle.sort_codes.specs.Sorted.{Code, listed, ParameterSort}
 use Rattle.bodies.specs.Bodies.{headsBy, Setting, cellAt}
 
 -- a field behind four bytes

@@ -14,7 +14,7 @@ use Rattle.scheme.specs.Prefix.{Node, takeᵗ, terms, complete, depth, deepest}
 use Rattle.records.specs.Fields.{field}
 use Rattle.casefile.specs.Tables.{Cell, cellsOf, headOf, nodesOf, firstTerm}
 use Rattle.casefile.specs.Refusals.{wrongCell, wrongBody}
-use Rattle.bodies.specs.Sorted.{Code, Coded}
+use Rattle.sort_codes.specs.Sorted.{Code, Coded}
 use Rattle.bodies.specs.declared.Arguments.{Arguments}
 
 -- the tables hold terms one after another from node `at` up to node n: where each ends, the code of its sort, its depth

@@ -1,7 +1,7 @@
-// An entry of the index of a file, and the place of its record.
+// An entry of a table of two-byte numbers, as the index of a file is, and the place of its record.
 ghost use Rattle.entries.specs.Tests.{IsPlace};
 ghost use mathlib.Core.Path.{_≡_};
-ghost use Prim.Native.Nat.{_+_, _≤_};
+ghost use Prim.Native.Nat.{_+_, _≤_, _<_};
 ghost use lib.ListN.{getD};
 
 // The file offset that entry i of the index holds; 0 past the end.
@@ -24,4 +24,11 @@ pub fn place_of(index: &[u16], i: usize) -> usize
         return 0;
     }
     start - 4
+}
+
+// A number as an entry of a table; 0 where it does not fit one.
+pub fn narrow(v: usize) -> u16
+    ensures { λ r. ⌜ (v < 65536 → r ≡ v) ⌝ }
+{
+    if v < 65536 { v as u16 } else { 0 }
 }

@@ -22,9 +22,9 @@ use Rattle.casefile.proofs.Growth.{grow-append, grow-grown, grown}
 use Rattle.casefile.proofs.Passed.{Passed, entry}
 use Rattle.casefile.proofs.TypeTable.{count-payloads}
 use Rattle.entries.specs.Index.{base, Indexed}
-use Rattle.bodies.specs.Sorted.{SortArrays, TreeCodes}
+use Rattle.sort_codes.specs.Sorted.{SortArrays, TreeCodes}
 use Rattle.bodies.specs.Bodies.{Setting}
-use Rattle.bodies.proofs.FileSorts.{sort-arrays}
+use Rattle.sort_codes.proofs.FileSorts.{sort-arrays}
 use Rattle.bodies.proofs.Nodes.{cells-length}
 use Rattle.rules.specs.Rules.{Filled, ruleOf, numbersOf, Judged, Filed}
 

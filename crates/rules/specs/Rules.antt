@@ -8,10 +8,10 @@ use lib.ListN.{length, getD, take, drop}
 use Rattle.scheme.specs.Sorts.{o}
 use Rattle.scheme.specs.Terms.{nodes}
 use Rattle.scheme.specs.Prefix.{terms}
-use Rattle.records.specs.Fields.{field, byte, word}
+use Rattle.records.specs.Fields.{field, word}
 use Rattle.records.specs.Records.{Record}
 use Rattle.records.proofs.Fields.{Bytes}
-use Rattle.casefile.specs.Kinds.{Kind, sort, constructor, nonterminal, rule, ofKind, payloads}
+use Rattle.casefile.specs.Kinds.{sort, constructor, nonterminal, rule, ofKind, payloads, placeOf}
 use Rattle.casefile.specs.Tables.{sortsOf, aritiesOf, signaturesOf, nodesOf, firstTerm}
 use Rattle.casefile.specs.Refusals.{first, wrongBody, wrongBodies}
 use Rattle.casefile.proofs.Passed.{Passed}
@@ -104,10 +104,6 @@ pub record Filed (file index : List ℕ) (sorts constructors nonterminals rules 
   pub few-constructors : constructors ≤ 32
   pub few-nonterminals : nonterminals ≤ 256
   pub few-rules : rules ≤ nonterminals
-
--- the place in the file of entry i of a kind
-abbrev pub placeOf : Kind → List Record → ℕ → ℕ
-placeOf k rs i = getD (map (λ (r : Record). r .place) (ofKind k rs)) i 0
 
 -- r says which of so many rules is refused by 9, the number of rules where none is; then `ends` has the end of each subterm of each rule
 pub record BodiesRead (rs : List Record) (rules : ℕ) (ends : List ℕ) (r : ℕ) : Type 0 where

@@ -1,7 +1,6 @@
 // The bodies of all rules of a file: the first that is no single term of sort o within 64 levels, and the ends of subterms.
 use bodies::body_fits;
-use bodies::entry_at;
-use bodies::tree_codes;
+use sort_codes::tree_codes;
 use entries::place_at;
 use records::byte_at;
 use records::payload;
@@ -84,7 +83,7 @@ fn read_rule(
         return 0;
     }
     let p = payload(file, place, len);
-    let own = entry_at(signatures, f);
+    let own = place_at(signatures, f);
     if !body_fits(p, froms, tos, trees, arities, signatures, own, ends) {
         return 0;
     }

@@ -6,7 +6,6 @@ use Rattle.rules.proofs.read_rule.Tie as tie
 use Rattle.rules.proofs.read_rule.Reads as reads
 use Rattle.rules.proofs.read_rule.Lts as lts
 use Rattle.bodies.proofs.body_fits.Reads as body-fits-reads
-use Rattle.bodies.proofs.entry_at.Reads as entry-at-reads
 use Rattle.entries.proofs.place_at.Reads as place-at-reads
 use Rattle.records.proofs.payload.Reads as payload-reads
 use Rattle.records.proofs.word_at.Reads as word-at-reads
@@ -35,8 +34,8 @@ returns-4 c = rule-room _ (c .before .before .before .before .place-at .ensures 
 payload-requires : tie.Need-payload-requires
 payload-requires c κs = search needs
 
-entry-at-requires : tie.Need-entry-at-requires
-entry-at-requires c κs = search needs
+place-at-requires-2 : tie.Need-place-at-requires-2
+place-at-requires-2 c κs = search needs
 
 body-fits-requires : tie.Need-body-fits-requires
 body-fits-requires c κs = search needs
@@ -45,13 +44,13 @@ same-length : tie.Need-same-length
 same-length c = search needs
 
 returns-5 : tie.Need-returns-5
-returns-5 c = rule-wrong _ (c .before .before .before .before .before .before .before .before .before .before .before .place-at .ensures .value) _ (c .before .before .before .before .before .before .before .before .before .word-at .ensures .value) _ (c .before .before .before .before .before .before .payload .ensures) _ (c .before .before .before .before .before .entry-at .ensures .value) _ _ (c .before .before .before .body-fits .ensures) (not-true _ (c .if5 .taken))
+returns-5 c = rule-wrong _ (c .before .before .before .before .before .before .before .before .before .before .before .place-at .ensures .value) _ (c .before .before .before .before .before .before .before .before .before .word-at .ensures .value) _ (c .before .before .before .before .before .before .payload .ensures) _ (c .before .before .before .before .before .place-at2 .ensures .value) _ _ (c .before .before .before .body-fits .ensures) (not-true _ (c .if5 .taken))
 
 same-length-2 : tie.Need-same-length-2
 same-length-2 c = search needs
 
 returns-6 : tie.Need-returns-6
-returns-6 c = rule-right _ (c .before .before .before .before .before .before .before .before .before .before .before .place-at .ensures .value) _ (c .before .before .before .before .before .before .before .before .before .word-at .ensures .value) _ (c .before .before .before .before .before .before .payload .ensures) _ (c .before .before .before .before .before .entry-at .ensures .value) _ _ (c .before .before .before .body-fits .ensures) (not-false _ (c .if5 .left)) (c .before .before .before .before .before .before .before .if4 .left)
+returns-6 c = rule-right _ (c .before .before .before .before .before .before .before .before .before .before .before .place-at .ensures .value) _ (c .before .before .before .before .before .before .before .before .before .word-at .ensures .value) _ (c .before .before .before .before .before .before .payload .ensures) _ (c .before .before .before .before .before .place-at2 .ensures .value) _ _ (c .before .before .before .body-fits .ensures) (not-false _ (c .if5 .left)) (c .before .before .before .before .before .before .before .if4 .left)
 
 pub read-rule-spec : {M : Type 1} → statement M
 read-rule-spec =
@@ -65,7 +64,7 @@ read-rule-spec =
     returns-3
     returns-4
     payload-requires
-    entry-at-requires
+    place-at-requires-2
     body-fits-requires
     same-length
     returns-5

@@ -14,7 +14,7 @@ use Rattle.casefile.specs.Tables.{sortFrom, sortsOf}
 use Rattle.casefile.proofs.Growth.{grow-grown, grow-length}
 use Rattle.casefile.proofs.Passed.{Passed}
 use Rattle.casefile.proofs.SortTable.{sort-below, sort-made, sorts-distinct}
-use Rattle.bodies.specs.Sorted.{SortArrays}
+use Rattle.sort_codes.specs.Sorted.{SortArrays}
 
 module _ {rs : List Record} (ok : Passed rs) (bytes : (i : ℕ) → Bytes (getD (payloads sort rs) i [])) (froms tos : List ℕ) (few : length (payloads sort rs) < 1000)
     (from-is : (i : ℕ) → i < length (payloads sort rs) → getD froms (suc i) 0 ≡ word (getD (payloads sort rs) i []) 0)

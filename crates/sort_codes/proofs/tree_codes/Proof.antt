@@ -1,10 +1,10 @@
 -- `tree_codes` meets its contract.
 use native.Mathlib.Omega.{arith}
 use mathlib.Core.Path.{refl}
-use Rattle.bodies.proofs.Codes.{tree-start, five}
+use Rattle.sort_codes.proofs.Codes.{tree-start, five}
 use borrow.Author.Needs.{needs}
-use Rattle.bodies.proofs.tree_codes.Statement.{statement}
-use Rattle.bodies.proofs.tree_codes.Tie as tie
+use Rattle.sort_codes.proofs.tree_codes.Statement.{statement}
+use Rattle.sort_codes.proofs.tree_codes.Tie as tie
 
 next-tree-requires : tie.Need-next-tree-requires
 next-tree-requires c κs = search needs

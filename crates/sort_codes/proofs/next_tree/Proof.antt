@@ -1,8 +1,8 @@
 -- `next_tree` meets its contract.
-use Rattle.bodies.proofs.Codes.{next-unlisted, next-listed, next-missing}
+use Rattle.sort_codes.proofs.Codes.{next-unlisted, next-listed, next-missing}
 use borrow.Author.Needs.{needs}
-use Rattle.bodies.proofs.next_tree.Statement.{statement}
-use Rattle.bodies.proofs.next_tree.Tie as tie
+use Rattle.sort_codes.proofs.next_tree.Statement.{statement}
+use Rattle.sort_codes.proofs.next_tree.Tie as tie
 
 returns : tie.Need-returns
 returns c = λ sorts m w h e d. next-unlisted w m _ _ h e (c .if1 .taken) d

@@ -5,7 +5,7 @@ use mathlib.Core.List.{List, _∷_}
 use native.Mathlib.Omega.{arith}
 use lib.ListN.{length, getD}
 use Rattle.scheme.specs.Sorts.{Sort, o, arguments}
-use Rattle.bodies.specs.Sorted.{SortArrays, ParameterSort}
+use Rattle.sort_codes.specs.Sorted.{SortArrays, ParameterSort}
 
 -- a sort that has arguments is listed with the first one's number and that of the rest
 arguments-step : {sorts : List Sort} {n : ℕ} {froms tos : List ℕ} → SortArrays sorts n froms tos → (s l : ℕ) → s < n → l < length (arguments (getD sorts s o))

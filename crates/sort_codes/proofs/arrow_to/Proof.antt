@@ -4,10 +4,10 @@ use mathlib.Core.Path.{_≡_}
 use native.Mathlib.Omega.{arith}
 use borrow.Author.Count.{below-more}
 use lib.ListN.{getD}
-use Rattle.bodies.proofs.Codes.{arrow-yes, arrow-no}
+use Rattle.sort_codes.proofs.Codes.{arrow-yes, arrow-no}
 use borrow.Author.Needs.{needs}
-use Rattle.bodies.proofs.arrow_to.Statement.{statement}
-use Rattle.bodies.proofs.arrow_to.Tie as tie
+use Rattle.sort_codes.proofs.arrow_to.Statement.{statement}
+use Rattle.sort_codes.proofs.arrow_to.Tie as tie
 
 abbrev Inv-loop : tie.InvT-loop
 Inv-loop froms tos n to i₀ i = (0 < i) × ((k : ℕ) → k < i → 0 < k → getD froms k 0 ≡ 0 → getD tos k 0 ≡ to → ⊥)
