@@ -8,7 +8,7 @@ use Rattle.casefile.specs.Kinds.{Kind, payloads}
 use Rattle.casefile.specs.Cases.{refusedCase, bindingCase, pathCase, caseOf}
 use Rattle.casefile.specs.Cases
 use Rattle.casefile.proofs.Passed.{Passed}
-use Rattle.walk.specs.Known.{Known}
+use Rattle.kinds.specs.Known.{Known}
 use Rattle.whole_file.specs.declared.Case.{Case}
 use Rattle.whole_file.specs.declared.Case.the-variants.{Refused, Bindings, Path}
 

@@ -14,7 +14,7 @@ use Rattle.records.proofs.Fields.{Bytes}
 use Rattle.casefile.specs.Kinds.{Kind, nonterminal, rule, states, number, payloads, count}
 use Rattle.casefile.proofs.TypeTable.{count-payloads}
 use Rattle.entries.specs.Index.{base, Indexed}
-use Rattle.walk.specs.Known.{Known}
+use Rattle.kinds.specs.Known.{Known}
 
 nil-bytes : Bytes []
 nil-bytes i = omega arith

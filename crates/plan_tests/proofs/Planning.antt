@@ -17,9 +17,10 @@ use Rattle.casefile.specs.Kinds.{sort, constructor, nonterminal, rule, states, 
 use Rattle.casefile.specs.Refusals.{first, wrongLength, wrongStart}
 use Rattle.casefile.proofs.Passed.{Passed}
 use Rattle.entries.specs.Index.{Indexed}
-use Rattle.rules.specs.Rules.{nodesIn, Filed, FindsWrongBody, BodiesRead}
-use Rattle.walk.specs.Known.{Known}
-use Rattle.walk.proofs.Dispatch.{fitting}
+use Rattle.rule_bodies.specs.RuleBodies.{nodesIn}
+use Rattle.rules.specs.Rules.{Filed, FindsWrongBody, BodiesRead}
+use Rattle.kinds.specs.Known.{Known}
+use Rattle.kinds.proofs.Dispatch.{fitting}
 use Rattle.plan_tests.specs.declared.Plan.the-variants as plan
 use Rattle.plan_tests.specs.PlanTests.{PlanEnds}
 use Rattle.plan_tests.proofs.Whole.{met-8, met-start, met-body, start-wrong, start-right}

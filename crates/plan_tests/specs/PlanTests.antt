@@ -10,9 +10,9 @@ use Rattle.records.specs.Records.{Record}
 use Rattle.casefile.specs.Kinds.{Kind, ofKind, payloads, count}
 use Rattle.casefile.specs.Tables.{aritiesOf, signaturesOf}
 use Rattle.casefile.specs.Refusals.{first, wrongStart, wrongBodies, refuseWhole}
-use Rattle.rules.specs.Rules.{nodesIn}
+use Rattle.rule_bodies.specs.RuleBodies.{nodesIn}
 use Rattle.casefile.proofs.Passed.{Passed}
-use Rattle.walk.specs.Known.{Known}
+use Rattle.kinds.specs.Known.{Known}
 use Rattle.plan_tests.specs.declared.Plan.{Plan}
 use Rattle.plan_tests.specs.declared.Plan.the-variants.{Fine, Refused as Wrong}
 

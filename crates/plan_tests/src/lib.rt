@@ -10,7 +10,7 @@ ghost use Prim.Native.Nat.{ℕ};
 ghost use lib.Dec.{eqb};
 ghost use Rattle.records.specs.Records.{Record};
 ghost use Rattle.casefile.specs.Kinds.{Kind, count};
-ghost use Rattle.walk.specs.Known.{Known};
+ghost use Rattle.kinds.specs.Known.{Known};
 ghost use Rattle.plan_tests.specs.PlanTests.{TestsPlan};
 
 // What the tests of the plan come to.

@@ -26,7 +26,8 @@ use Rattle.sort_codes.specs.Sorted.{SortArrays, TreeCodes}
 use Rattle.bodies.specs.Bodies.{Setting}
 use Rattle.sort_codes.proofs.FileSorts.{sort-arrays}
 use Rattle.bodies.proofs.Nodes.{cells-length}
-use Rattle.rules.specs.Rules.{Filled, ruleOf, numbersOf, Judged, Filed}
+use Rattle.rules.specs.Rules.{Filled, Filed}
+use Rattle.rule_bodies.specs.RuleBodies.{ruleOf, numbersOf, Judged}
 
 pub getD-map-in : {A B : Type 0} (f : A → B) (l : List A) (n : ℕ) (d : A) (e : B) → n < length l → getD (map f l) n e ≡ f (getD l n d)
 getD-map-in f [] n d e h = absurd (omega arith)

@@ -16,10 +16,11 @@ use Rattle.casefile.specs.Refusals.{first, misfits}
 use Rattle.casefile.proofs.Passed.{Passed}
 use Rattle.casefile.proofs.TypeTable.{count-payloads}
 use Rattle.entries.specs.Index.{Indexed}
-use Rattle.fits.specs.Fitted.{Fills, FirstMisfit, FindsMisfit}
-use Rattle.fits.proofs.Misfits.{misfits-none, misfits-first}
-use Rattle.fits.proofs.Offers.{offered}
-use Rattle.walk.specs.Known.{Known}
+use Rattle.fits.specs.Filled.{Fills}
+use Rattle.misfits.specs.Misfits.{FirstMisfit, FindsMisfit}
+use Rattle.misfits.proofs.Misfits.{misfits-none, misfits-first}
+use Rattle.misfits.proofs.Offers.{offered}
+use Rattle.kinds.specs.Known.{Known}
 use Rattle.whole_file.specs.declared.Case.the-variants as is
 use Rattle.whole_file.specs.Whole.{WholeEnds, FindsFirst}
 use Rattle.plan_tests.specs.PlanTests.{PlanFine, PlanEnds}

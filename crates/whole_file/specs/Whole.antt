@@ -8,10 +8,10 @@ use Rattle.records.specs.Records.{Record}
 use Rattle.casefile.specs.Kinds.{Kind, payloads, count}
 use Rattle.casefile.specs.Refusals.{refuseWhole}
 use Rattle.entries.specs.Index.{Indexed}
-use Rattle.fits.specs.Fitted.{FirstMisfit}
-use Rattle.rules.specs.Rules.{nodesIn}
+use Rattle.misfits.specs.Misfits.{FirstMisfit}
+use Rattle.rule_bodies.specs.RuleBodies.{nodesIn}
 use Rattle.casefile.proofs.Passed.{Passed}
-use Rattle.walk.specs.Known.{Known}
+use Rattle.kinds.specs.Known.{Known}
 use Rattle.whole_file.specs.declared.Case.{Case}
 use Rattle.whole_file.specs.declared.Case.the-variants.{Refused, Bindings, Path}
 use Rattle.plan_tests.specs.PlanTests.{PlanFine}

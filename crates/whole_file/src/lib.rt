@@ -2,7 +2,7 @@
 use entries::place_at;
 use entries::place_of;
 use fits::fill_fits;
-use fits::first_misfit;
+use misfits::first_misfit;
 use plan_tests::Plan;
 use plan_tests::test_plan;
 ghost use Rattle.whole_file.specs.Whole.{TestsEvidence, FindsFirst, TestsWhole};
