@@ -4,7 +4,7 @@ ghost use mathlib.Core.Path.{_≡_};
 ghost use Prim.Native.Nat.{_+_, _≤_, _<_};
 ghost use lib.ListN.{getD};
 
-// The file offset that entry i of the index holds; 0 past the end.
+// Entry i of a table, as of the index, where it is a file offset; 0 past the end.
 pub fn place_at(index: &[u16], i: usize) -> usize
     ensures { λ r. ⌜ IsPlace (now (index .entry)) i r ⌝ }
 {

@@ -1,4 +1,4 @@
--- The fit of types to sorts, as a table of flags by number, and the bindings that it turns away. Refusal 11 of the scope.
+-- The fit of types to sorts, as a table of flags by number. Refusal 11 of the scope.
 use Prim.Native.Nat.{ℕ, _+_, _*_, _<_, _≤_}
 use mathlib.Core.Path.{_≡_}
 use mathlib.Core.Bool.{Bool, false, _&&_, not}

@@ -33,7 +33,14 @@ fn state_count(file: &[u8], index: &[u16], n: usize) -> usize
 }
 
 // The code of a record of a kind with the payload p: 0, or the number of the first of 3 to 7 that is met.
-pub fn test(file: &[u8], index: &[u16], lens: &[u16], counts: &[u16], kind: usize, p: &[u8]) -> usize
+pub fn test(
+    file: &[u8],
+    index: &[u16],
+    lens: &[u16],
+    counts: &[u16],
+    kind: usize,
+    p: &[u8],
+) -> usize
     ensures { λ r. ⌜ ((rs : List Record) → Known (now (file .entry)) (now (index .entry)) (now (lens .entry)) (now (counts .entry)) rs → Passed rs → r ≡ codeAs rs (now (p .entry)) (kindOf kind)) ⌝ }
 {
     let n = place_at(counts, kind);

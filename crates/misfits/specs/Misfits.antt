@@ -1,4 +1,4 @@
--- The first binding that does not fit.
+-- The bindings that the table of fits turns away, and the first of them. Refusal 11 of the scope.
 use Prim.Native.Nat.{ℕ, _<_, _≤_}
 use mathlib.Core.Path.{_≡_}
 use mathlib.Core.Bool.{Bool, true, false}

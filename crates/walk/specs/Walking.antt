@@ -1,4 +1,4 @@
--- The walk over a file: the code of each record, the entries it makes, and what the walk comes to.
+-- The walk over a file, and what it comes to.
 use Prim.Native.Nat.{ℕ, _≤_}
 use mathlib.Core.Path.{_≡_}
 use mathlib.Core.List.{List, []}
