@@ -1,13 +1,13 @@
 // The test of a record by its kind, 3 to 7.
 use entries::place_at;
+use lone::test_path;
+use lone::test_states;
 use pairs::test_binding;
 use pairs::test_transition;
 use records::byte_at;
 use rule_records::test_rule;
 use singles::test_constructor;
 use singles::test_nonterminal;
-use lone::test_path;
-use lone::test_states;
 use sort_records::test_sort;
 use type_records::test_type;
 ghost use mathlib.Core.Path.{_≡_};

@@ -9,7 +9,7 @@ use lib.ListN.{length, getD}
 use Rattle.scheme.specs.Sorts.{Sort, o}
 use Rattle.records.specs.Fields.{word}
 use Rattle.records.specs.Records.{Record}
-use Rattle.records.specs.Reading.{partOf}
+use Rattle.reading.specs.Reading.{partOf}
 use Rattle.casefile.specs.Kinds.{nonterminal, payloads}
 use Rattle.casefile.specs.Tables.{sortsOf, aritiesOf, signaturesOf}
 use Rattle.casefile.specs.Refusals.{wrongBody}

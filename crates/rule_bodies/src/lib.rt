@@ -1,7 +1,7 @@
 // The bodies of rules one after another: the first that does not fit, and the ends of subterms.
 use bodies::body_fits;
 use entries::place_at;
-use records::payload;
+use reading::payload;
 use records::word_at;
 ghost use Rattle.rule_bodies.specs.RuleBodies.{RuleRead, ReadsRules};
 

@@ -17,8 +17,8 @@ use Rattle.scheme.specs.Sorts.{Sort, o, arguments}
 use Rattle.records.specs.Fields.{field, word}
 use Rattle.records.specs.Records.{Record, whole, recordAt}
 use Rattle.records.proofs.Fields.{field-part}
-use Rattle.records.specs.Reading.{partOf}
-use Rattle.records.proofs.Reading.{payload-length, whole-end, part-of}
+use Rattle.reading.specs.Reading.{partOf}
+use Rattle.reading.proofs.Reading.{payload-length, whole-end, part-of}
 use Rattle.casefile.specs.Kinds.{Kind, sort, constructor, nonterminal, rule, states, transition, type, binding, path, number, ofKind, payloads, count, placeOf}
 use Rattle.casefile.specs.Tables.{grow, sortFrom, sortsOf}
 use Rattle.casefile.proofs.Passed.{payloads-more, payloads-other}

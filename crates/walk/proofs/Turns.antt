@@ -17,11 +17,11 @@ use Rattle.scheme.specs.Lists.{if_then_else_, lastOr, select}
 use Rattle.scheme.specs.Sorts.{o, arguments}
 use Rattle.records.specs.Fields.{word}
 use Rattle.records.specs.Records.{Record, recordAt, end, next, walk, recordsOf, listed}
-use Rattle.records.specs.Reading.{readAt, partOf}
-use Rattle.records.specs.declared.Cursor.{Cursor}
-use Rattle.records.specs.declared.Read.the-variants as read
-use Rattle.records.proofs.Read.{the-type}
-use Rattle.records.proofs.Reading.{RecordRead, read-record, read-refused, read-end, read-past}
+use Rattle.reading.specs.Reading.{readAt, partOf}
+use Rattle.reading.specs.declared.Cursor.{Cursor}
+use Rattle.reading.specs.declared.Read.the-variants as read
+use Rattle.reading.proofs.Read.{the-type}
+use Rattle.reading.proofs.Reading.{RecordRead, read-record, read-refused, read-end, read-past}
 use Rattle.casefile.specs.Kinds.{Kind, sort, constructor, nonterminal, rule, states, transition, type, binding, path, number, kindOf, payloads, count, ofKind}
 use Rattle.casefile.specs.Tables.{grow, sortsOf, signaturesOf}
 use Rattle.casefile.specs.Refusals.{Refusal, first, wrongLength, tooMany, tooLarge, outOfRange, misplaced, refuseAs, refuseKind, lastKind, refuseRecord, refuseWhole}
@@ -214,7 +214,7 @@ room-few path = omega arith
 
 module _ {file index lens counts : List ℕ} {at last : ℕ} (w : Walking file index lens counts at last) where
   -- the walk ends
-  pub ends : (g : Rattle.records.specs.declared.Read.Read) → OneOf (1 ∷ 2 ∷ []) (tagOf the-type g) → g ≡ readAt file at → (r : Walked) → r ≡ endOf g → WalkEnds file index lens counts r
+  pub ends : (g : Rattle.reading.specs.declared.Read.Read) → OneOf (1 ∷ 2 ∷ []) (tagOf the-type g) → g ≡ readAt file at → (r : Walked) → r ≡ endOf g → WalkEnds file index lens counts r
   unfolding WalkEnds caseFrom listed
   ends (read.Record place start len kind c) h e r er = absurd (⊎-elim (λ (e : 0 ≡ 1). omega arith) (λ (e : 0 ≡ 2). omega arith) h)
   ends (read.Refused n p) h e r er = subst (WalkEnds file index lens counts) (sym er) (λ flags. sym (w .same flags) ∙ by flags (w .fuel) (w .enough))

@@ -24,10 +24,10 @@ WalkEnds file index lens counts (Refused n p) = (flags : ℕ) → caseFrom flags
 WalkEnds file index lens counts Read = AllRead file index lens counts
 
 -- how a walk ends where no record is read
-abbrev pub endOf : Rattle.records.specs.declared.Read.Read → Walked
-endOf (Rattle.records.specs.declared.Read.Read.Record place start len kind c) = Read
-endOf (Rattle.records.specs.declared.Read.Read.Refused n p) = Refused n p
-endOf Rattle.records.specs.declared.Read.Read.End = Read
+abbrev pub endOf : Rattle.reading.specs.declared.Read.Read → Walked
+endOf (Rattle.reading.specs.declared.Read.Read.Record place start len kind c) = Read
+endOf (Rattle.reading.specs.declared.Read.Read.Refused n p) = Refused n p
+endOf Rattle.reading.specs.declared.Read.Read.End = Read
 
 -- the promise of the walk, for tables of the right sizes
 abbrev pub WalksTo : List ℕ → List ℕ → List ℕ → List ℕ → List ℕ → List ℕ → List ℕ → Walked → Type 0

@@ -2,9 +2,9 @@
 use enter::enter;
 use enter::store;
 use kinds::test;
-use records::Cursor;
-use records::Read;
-use records::payload;
+use reading::Cursor;
+use reading::Read;
+use reading::payload;
 ghost use mathlib.Core.Path.{_≡_};
 ghost use lib.ListN.{length, replicate};
 ghost use Rattle.walk.specs.Walking.{endOf, WalksTo};

@@ -1,6 +1,6 @@
 -- What reading at a place tells of the walk over the records.
 use Prim.Native.Nat.{ℕ, suc, _+_, _<_, _≤_}
-use mathlib.Core.Path.{_≡_, refl, sym, ap, _∙_}
+use mathlib.Core.Path.{_≡_, refl, ap}
 use mathlib.Core.Bool.{Bool, true, false, _&&_}
 use mathlib.Core.List.{List, []}
 use native.Mathlib.Omega.{arith}
@@ -8,13 +8,12 @@ use borrow.Author.Tests.{le-leb, lt-leb, leb-true, leb-false}
 use lib.Dec.{leb}
 use lib.ListN.{length, take, drop, length-drop}
 use lib.Seq.{length-take-le}
 use Rattle.records.specs.Fields.{word}
-use Rattle.records.specs.Records.{whole, Walk, end, cut, next, walk, recordAt}
-use Rattle.records.specs.Reading.{readRecord, readAt, partOf}
-use Rattle.records.specs.declared.Cursor.{Cursor}
-use Rattle.records.specs.declared.Read.{Read}
-use Rattle.records.specs.declared.Read.the-variants.{Record, Refused, End}
+use Rattle.records.specs.Records.{whole, end, cut, next, walk, recordAt}
+use Rattle.reading.specs.Reading.{readRecord, readAt, partOf}
+use Rattle.reading.specs.declared.Cursor.{Cursor}
+use Rattle.reading.specs.declared.Read.the-variants.{Record, Refused, End}
 use Rattle.records.proofs.Walk.{walk-end, walk-cut, walk-next}
 
 -- what is known of a record that was read
 pub record RecordRead (s : List ℕ) (at place start len kind : ℕ) (c : Cursor) : Type 0 where

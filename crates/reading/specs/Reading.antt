@@ -4,11 +4,10 @@ use mathlib.Core.List.{List, []}
 use lib.ListN.{length, take, drop}
 use lib.Dec.{leb}
 use Rattle.scheme.specs.Lists.{if_then_else_}
 use Rattle.records.specs.Fields.{word}
 use Rattle.records.specs.Records.{whole}
-use Rattle.records.specs.declared.Cursor.{Cursor}
-use Rattle.records.specs.declared.Read.{Read}
-use Rattle.records.specs.declared.Read.the-variants.{Record, Refused, End}
+use Rattle.reading.specs.declared.Read.{Read}
+use Rattle.reading.specs.declared.Read.the-variants.{Record, Refused, End}
 
 -- a whole record, as what reading it gives: its place, its payload's start and length, its kind, the place behind it
 abbrev pub readRecord : List ℕ → ℕ → Read

@@ -2,10 +2,10 @@
 use mathlib.Core.Path.{sym, _∙_}
 use native.Mathlib.Omega.{arith}
 use denote.Ref.{now}
-use Rattle.records.proofs.Reading.{read-past, read-whole, read-cut, whole-fits, whole-cut}
+use Rattle.reading.proofs.Reading.{read-past, read-whole, read-cut, whole-fits, whole-cut}
 use borrow.Author.Needs.{needs}
-use Rattle.records.proofs.Cursor.next.Statement.{statement}
-use Rattle.records.proofs.Cursor.next.Tie as tie
+use Rattle.reading.proofs.Cursor.next.Statement.{statement}
+use Rattle.reading.proofs.Cursor.next.Tie as tie
 
 returns : tie.Need-returns
 returns c = sym (read-past _ _ (c .if1 .taken))

@@ -5,10 +5,10 @@ use native.Mathlib.Nat.{add-sub-cancel-left}
 use native.Mathlib.Omega.{arith}
 use denote.Ref.{now}
 use lib.ListN.{take, drop}
-use Rattle.records.proofs.Reading.{part-of, part-out}
+use Rattle.reading.proofs.Reading.{part-of, part-out}
 use borrow.Author.Needs.{needs}
-use Rattle.records.proofs.payload.Statement.{statement}
-use Rattle.records.proofs.payload.Tie as tie
+use Rattle.reading.proofs.payload.Statement.{statement}
+use Rattle.reading.proofs.payload.Tie as tie
 
 slice-aggregate-result : tie.Need-slice-aggregate-result
 slice-aggregate-result c = search needs
