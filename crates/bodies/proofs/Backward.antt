@@ -18,12 +18,12 @@ use Rattle.scheme.proofs.Lists.{and-left, and-right, and-both, true→T}
 use Rattle.records.specs.Fields.{field}
 use Rattle.casefile.specs.Tables.{headOf, nodesOf, firstTerm}
 use Rattle.bodies.specs.Tables.{Stored}
-use Rattle.bodies.specs.Sorted.{Code}
-use Rattle.bodies.specs.Bodies.{Held, Fits, ArgumentsFit, Goods, Held-from, headsBy, Setting, cellAt, HeadCode, NodeRead}
+use Rattle.sort_codes.specs.Sorted.{Code}
+use Rattle.bodies.specs.Bodies.{Held, Fits, ArgumentsFit, Goods, Held-from, headsBy, Setting, HeadCode, NodeRead}
 use Rattle.bodies.specs.declared.Arguments.{Arguments}
-use Rattle.bodies.proofs.Codes.{code-small}
+use Rattle.sort_codes.proofs.Codes.{code-small}
 use Rattle.bodies.proofs.Loop.{after-out}
-use Rattle.bodies.proofs.Nodes.{nodeAt, nodes-length, nodes-drop}
+use Rattle.casefile.proofs.Cells.{cellAt, nodeAt, nodes-length, nodes-drop}
 
 -- a table after a store
 module _ {before after : List ℕ} {i v : ℕ} (s : Stored before after i v) where

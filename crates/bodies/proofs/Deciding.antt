@@ -16,11 +16,11 @@ use Rattle.scheme.specs.Prefix.{terms, complete, depth}
 use Rattle.scheme.proofs.Lists.{and-true, T→true, true→T}
 use Rattle.casefile.specs.Tables.{nodesOf, firstTerm, bodyOf}
 use Rattle.casefile.specs.Refusals.{wrongBody}
-use Rattle.bodies.specs.Sorted.{SortArrays}
+use Rattle.sort_codes.specs.Sorted.{SortArrays}
 use Rattle.bodies.specs.Bodies.{Held, Goods, headsBy, Setting, Scanned, BodyDecided}
-use Rattle.bodies.proofs.Codes.{code-listed, listed-code}
+use Rattle.sort_codes.proofs.Codes.{code-listed, listed-code}
 use Rattle.bodies.proofs.Loop.{same-true, same-refl}
-use Rattle.bodies.proofs.Nodes.{nodes-length}
+use Rattle.casefile.proofs.Cells.{nodes-length}
 
 no-true : (b : Bool) → (b ≡ true → ⊥) → b ≡ false
 no-true true f = absurd (f refl)

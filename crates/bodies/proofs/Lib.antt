@@ -1,8 +1,5 @@
-pub mod Codes
-pub mod Parameters
 pub mod Loop
 pub mod Nodes
 pub mod Backward
 pub mod Scanning
 pub mod Deciding
-pub mod FileSorts

@@ -12,7 +12,7 @@ use Rattle.scheme.specs.Sorting.{sortOf, sortAfter}
 use Rattle.scheme.specs.Terms.{Head, Term, Terms, []ᵗ, _∷ᵗ_, countᵗ, nodes, nodesAll}
 use Rattle.scheme.specs.Prefix.{takeᵗ, depth, deepest}
 use Rattle.scheme.proofs.Lists.{and-true}
-use Rattle.bodies.specs.Sorted.{Code, Coded, Off, misfit, off, Applied}
+use Rattle.sort_codes.specs.Sorted.{Code, Coded, Off, misfit, off, Applied}
 use Rattle.bodies.specs.Bodies.{Held, Fits, ArgumentsFit}
 use Rattle.bodies.specs.declared.Arguments.{Arguments}
 

@@ -11,7 +11,7 @@ use Rattle.scheme.specs.Terms.{Head}
 use Rattle.scheme.specs.Prefix.{Node, terms, complete}
 use Rattle.casefile.specs.Tables.{nodesOf}
 use Rattle.bodies.specs.Bodies.{Held, Held-from, headsBy, Setting, NodeRead, Scanned}
-use Rattle.bodies.proofs.Nodes.{nodes-length}
+use Rattle.casefile.proofs.Cells.{nodes-length}
 
 -- behind the last node there is nothing to hold
 held-none : (hs : Head → Sort) (sorts : List Sort) (ns : List Node) (ends codes depths : List ℕ) (i : ℕ) → i ≡ length ns → Held-from hs sorts ns ends codes depths i

@@ -14,7 +14,8 @@ use Rattle.scheme.specs.Prefix.{Node, takeᵗ, terms, complete, depth, deepest}
 use Rattle.records.specs.Fields.{field}
 use Rattle.casefile.specs.Tables.{Cell, cellsOf, headOf, nodesOf, firstTerm}
 use Rattle.casefile.specs.Refusals.{wrongCell, wrongBody}
-use Rattle.bodies.specs.Sorted.{Code, Coded}
+use Rattle.casefile.proofs.Cells.{cellAt}
+use Rattle.sort_codes.specs.Sorted.{Code, Coded}
 use Rattle.bodies.specs.declared.Arguments.{Arguments}
 
 -- the tables hold terms one after another from node `at` up to node n: where each ends, the code of its sort, its depth
@@ -53,10 +54,6 @@ pub record Setting (sorts : List Sort) (counts numbers p froms tos trees arities
   pub numbers-below : (f : ℕ) → f < length numbers → getD numbers f 0 < length sorts
   pub own-below : own < length sorts
   pub in-range : any (wrongCell (length counts) (length numbers) (length (arguments (getD sorts own o)))) (cellsOf p) ≡ false
-
--- node i of a body as the file has it
-abbrev pub cellAt : List ℕ → ℕ → Cell
-cellAt p i = record { tag = field 1 p (i * 4); number = field 2 p (i * 4 + 1); count = field 1 p (i * 4 + 3) }
 
 -- r is the code of the sort of the head of node i
 abbrev pub HeadCode : List ℕ → List ℕ → List ℕ → List ℕ → List ℕ → List ℕ → ℕ → ℕ → ℕ → Type 0

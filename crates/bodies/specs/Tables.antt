@@ -2,12 +2,7 @@
 use Prim.Native.Nat.{ℕ, _<_}
 use mathlib.Core.Path.{_≡_}
 use mathlib.Core.List.{List}
-use lib.ListN.{getD, set}
-
--- r is the entry of a table at a place, 0 past the end
-pub record IsEntry (a : List ℕ) (i r : ℕ) : Type 0 where
-  pub value : r ≡ getD a i 0
-  pub bound : r < 65536
+use lib.ListN.{set}
 
 -- a table after v was stored at a place; v is stored as it is where it fits an entry
 pub record Stored (before after : List ℕ) (i v : ℕ) : Type 0 where

@@ -1,15 +1,16 @@
 // The bodies of rules: whether one is a single term of sort o within 64 levels, and where each of its subterms ends.
+use entries::narrow;
+use entries::place_at;
 use records::byte_at;
 use records::word_at;
+use sort_steps::apply;
+use sort_steps::parameter;
 ghost use mathlib.Core.Path.{_≡_};
 ghost use mathlib.Core.Bool.{_&&_, false};
 ghost use Prim.Native.Nat.{_<_, _≤_, _/_, max};
 ghost use lib.Dec.{eqb};
 ghost use lib.ListN.{length, getD};
-ghost use Rattle.bodies.specs.Tables.{IsEntry, Stored};
-ghost use Rattle.bodies.specs.Sorted.{SortArrays, TreeCodes, Applied, ArrowTo, NextTree, ParameterSort};
-ghost use mathlib.Core.List.{List};
-ghost use Rattle.scheme.specs.Sorts.{Sort};
+ghost use Rattle.bodies.specs.Tables.{Stored};
 ghost use Rattle.bodies.specs.Bodies.{ArgumentsFit, HeadCode, NodeRead, Scanned, BodyDecided};
 
 // What the arguments of a node come to: whether they fit, the node behind them, the code of the sort that is left, their depth.
@@ -18,20 +19,6 @@ pub struct Arguments {
     pub end: usize,
     pub sort: usize,
     pub deep: usize,
-}
-
-// The entry of a table at a place; 0 past the end.
-pub fn entry_at(a: &[u16], i: usize) -> usize
-    ensures { λ r. ⌜ IsEntry (now (a .entry)) i r ⌝ }
-{
-    if i < a.len() { a[i] as usize } else { 0 }
-}
-
-// A number as an entry of a table; 0 where it does not fit one.
-fn narrow(v: usize) -> u16
-    ensures { λ r. ⌜ (v < 65536 → r ≡ v) ⌝ }
-{
-    if v < 65536 { v as u16 } else { 0 }
 }
 
 // Stores a number at a place of a table that has the place.
@@ -49,85 +36,6 @@ fn larger(a: usize, b: usize) -> usize
     ensures { λ r. ⌜ r ≡ max a b ⌝ }
 {
     if a < b { b } else { a }
-}
-
-// Is sort i from o to sort `to`?
-fn is_arrow(froms: &[u16], tos: &[u16], i: usize, to: usize) -> bool
-    ensures { λ r. ⌜ r ≡ (eqb (getD (now (froms .entry)) i 0) 0 && eqb (getD (now (tos .entry)) i 0) to) ⌝ }
-{
-    if entry_at(froms, i) != 0 {
-        return false;
-    }
-    entry_at(tos, i) == to
-}
-
-// The number of the sort from o to sort `to`, or n where none of the n sorts is it.
-fn arrow_to(froms: &[u16], tos: &[u16], n: usize, to: usize) -> usize
-    ensures { λ r. ⌜ ArrowTo (now (froms .entry)) (now (tos .entry)) n to r ⌝ }
-{
-    let mut i: usize = 1;
-    while i < n {
-        if is_arrow(froms, tos, i, to) {
-            return i;
-        }
-        i += 1;
-    }
-    n
-}
-
-// The code of the sort of constructors with one argument more than those of sort `code`; `other` where it is not listed.
-fn next_tree(froms: &[u16], tos: &[u16], n: usize, code: u16, other: u16) -> u16
-    ensures { λ r. ⌜ NextTree (now (froms .entry)) (now (tos .entry)) n code other r ⌝ }
-{
-    if 1000 <= code {
-        return other;
-    }
-    let r = arrow_to(froms, tos, n, code as usize);
-    if r < n { narrow(r) } else { other }
-}
-
-// The codes of the sorts of constructors with 0 to 4 arguments.
-pub fn tree_codes(froms: &[u16], tos: &[u16], n: usize) -> [u16; 5]
-    ensures { λ r. ⌜ ((sorts : List Sort) → SortArrays sorts n (now (froms .entry)) (now (tos .entry)) → TreeCodes sorts r) ⌝ }
-{
-    let one = next_tree(froms, tos, n, 0, 1001);
-    let two = next_tree(froms, tos, n, one, 1002);
-    let three = next_tree(froms, tos, n, two, 1003);
-    let four = next_tree(froms, tos, n, three, 1004);
-    [0, one, two, three, four]
-}
-
-// The number of the sort of parameter j of a nonterminal whose sort has the number `own`.
-fn parameter(froms: &[u16], tos: &[u16], own: usize, j: usize) -> usize
-    ensures { λ r. ⌜ ParameterSort (now (froms .entry)) (now (tos .entry)) own j r ⌝ }
-{
-    let mut s = own;
-    let mut steps = j;
-    while 0 < steps {
-        s = entry_at(tos, s);
-        steps -= 1;
-    }
-    entry_at(froms, s)
-}
-
-// The code of a head's sort with one argument off; 2000 where the argument does not fit.
-fn apply(froms: &[u16], tos: &[u16], trees: &[u16], head: usize, argument: usize) -> usize
-    ensures { λ r. ⌜ Applied (now (froms .entry)) (now (tos .entry)) (now (trees .entry)) head argument r ⌝ }
-{
-    if 1000 < head {
-        if argument != 0 {
-            return 2000;
-        }
-        return entry_at(trees, head - 1001);
-    }
-    if head == 0 {
-        return 2000;
-    }
-    let from = entry_at(froms, head);
-    if argument != from {
-        return 2000;
-    }
-    entry_at(tos, head)
 }
 
 // Arguments that do not fit.
@@ -165,12 +73,12 @@ fn arguments_fit(
         if n <= end {
             return misfit();
         }
-        sort = apply(froms, tos, trees, sort, entry_at(codes, end));
+        sort = apply(froms, tos, trees, sort, place_at(codes, end));
         if sort == 2000 {
             return misfit();
         }
-        deep = larger(deep, entry_at(depths, end));
-        end = entry_at(ends, end);
+        deep = larger(deep, place_at(depths, end));
+        end = place_at(ends, end);
         left -= 1;
     }
     Arguments {
@@ -198,10 +106,10 @@ fn head_code(
     let tag = byte_at(p, i * 4);
     let number = word_at(p, i * 4 + 1);
     if tag == 0 {
-        return entry_at(trees, entry_at(arities, number));
+        return place_at(trees, place_at(arities, number));
     }
     if tag == 1 {
-        return entry_at(signatures, number);
+        return place_at(signatures, number);
     }
     parameter(froms, tos, own, number)
 }
@@ -281,11 +189,11 @@ fn scan(
 fn one_tree(ends: &[u16], codes: &[u16], n: usize) -> bool
     ensures { λ r. ⌜ r ≡ (eqb (getD (now (ends .entry)) 0 0) n && eqb (getD (now (codes .entry)) 0 0) 0) ⌝ }
 {
-    let end = entry_at(ends, 0);
+    let end = place_at(ends, 0);
     if end != n {
         return false;
     }
-    entry_at(codes, 0) == 0
+    place_at(codes, 0) == 0
 }
 
 // Is the body one term of sort o within 64 levels? Where it is, `ends` has for each node the number of the node behind its subterm.

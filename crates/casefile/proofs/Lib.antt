@@ -5,3 +5,5 @@ pub mod TypeNumbers
 pub mod Repeats
 pub mod TypeTable
 pub mod SortTable
+pub mod Steps
+pub mod Cells

@@ -1,6 +1,6 @@
 -- The tests 4 to 7 of a record as one number: that of the first test met, or 0 where none is.
 use Prim.Native.Nat.{ℕ}
-use mathlib.Core.Bool.{Bool, true, false, _||_}
+use mathlib.Core.Bool.{Bool, _||_}
 use mathlib.Core.List.{List}
 use lib.ListN.{length}
 use Rattle.scheme.specs.Lists.{if_then_else_}

@@ -5,7 +5,7 @@ use mathlib.Core.List.{List, []}
 use lib.ListN.{length, getD}
 use Rattle.records.specs.Fields.{field, word}
 use Rattle.records.specs.Records.{Record}
-use Rattle.records.specs.Reading.{partOf}
+use Rattle.reading.specs.Reading.{partOf}
 use Rattle.casefile.specs.Kinds.{Kind, sort, constructor, nonterminal, rule, states, transition, type, binding, path, payloads, count, placeOf}
 
 -- where the entries of a kind begin in the index: behind as many as each kind before may have

@@ -1,11 +1,13 @@
 -- What the tests of one record give: the number of the first test met, whatever records came before that agree with the counts.
-use Prim.Native.Nat.{ℕ, _<_}
+use Prim.Native.Nat.{ℕ, suc, _<_, _≤_}
 use mathlib.Core.Path.{_≡_}
 use mathlib.Core.Bool.{false}
 use mathlib.Core.List.{List, []}
 use lib.ListN.{length, getD}
+use Rattle.scheme.specs.Sorts.{o, arguments}
+use Rattle.records.specs.Fields.{word}
 use Rattle.records.specs.Records.{Record}
-use Rattle.casefile.specs.Kinds.{Kind, constructor, nonterminal, transition, type, binding, payloads, count}
+use Rattle.casefile.specs.Kinds.{Kind, sort, constructor, nonterminal, rule, transition, type, binding, payloads, count}
 use Rattle.casefile.specs.Tables.{sortsOf, stateCount}
 use Rattle.casefile.specs.Refusals.{wrongLength}
 use Rattle.entries.specs.Codes.{codeFor}
@@ -41,3 +43,24 @@ module _ (file index : List ℕ) (n : ℕ) where
       (rs : List Record) → Indexed file index transition n rs → Fitting transition n rs
       → stateCount rs ≡ states → Indexed file index constructor constructors rs → Fitting constructor constructors rs
       → r ≡ codeFor rs p transition
+
+-- `lens` holds the argument counts of sort 0 and of n listed sorts
+abbrev pub SortLens : List ℕ → ℕ → List Record → Type 0
+SortLens lens n rs = (i : ℕ) → i < suc n → getD lens i 0 ≡ length (arguments (getD (sortsOf rs) i o))
+
+module _ (file index : List ℕ) where
+  -- a sort after n others
+  abbrev pub TestsSort : List ℕ → ℕ → List ℕ → ℕ → Type 0
+  TestsSort lens n p r = (rs : List Record) → Indexed file index sort n rs → SortLens lens n rs → r ≡ codeFor rs p sort
+
+  -- a rule after n others, with so many sorts, constructors and nonterminals
+  abbrev pub TestsRule : List ℕ → ℕ → ℕ → ℕ → ℕ → List ℕ → ℕ → Type 0
+  TestsRule lens n sorts constructors nonterminals p r =
+      (rs : List Record) → count rule rs ≡ n → SortLens lens sorts rs → count constructor rs ≡ constructors
+      → Indexed file index nonterminal nonterminals rs → Fitting nonterminal nonterminals rs → nonterminals ≤ 256
+      → ((i : ℕ) → i < nonterminals → word (getD (payloads nonterminal rs) i []) 0 < suc sorts)
+      → r ≡ codeFor rs p rule
+
+  -- a type after n others, with so many states
+  abbrev pub TestsType : ℕ → ℕ → List ℕ → ℕ → Type 0
+  TestsType n states p r = (rs : List Record) → Indexed file index type n rs → stateCount rs ≡ states → r ≡ codeFor rs p type

@@ -1,13 +1,10 @@
-// The tests of one record: 4 to 7, in number order.
-use records::byte_at;
-use records::word_at;
+// An entry of a table of two-byte numbers, as the index of a file is, and the place of its record.
+ghost use Rattle.entries.specs.Tests.{IsPlace};
 ghost use mathlib.Core.Path.{_≡_};
-ghost use lib.ListN.{drop};
-ghost use Rattle.casefile.specs.Kinds.{Kind};
-ghost use Rattle.casefile.specs.Refusals.{before, wrongTargets};
-ghost use Rattle.entries.specs.Tests.{IsPlace, Tests, TestsNonterminal, TestsBinding, TestsTransition};
+ghost use Prim.Native.Nat.{_+_, _≤_, _<_};
+ghost use lib.ListN.{getD};
 
-// The file offset that entry i of the index holds; 0 past the end.
+// Entry i of a table, as of the index, where it is a file offset; 0 past the end.
 pub fn place_at(index: &[u16], i: usize) -> usize
     ensures { λ r. ⌜ IsPlace (now (index .entry)) i r ⌝ }
 {
@@ -18,150 +15,20 @@ pub fn place_at(index: &[u16], i: usize) -> usize
     }
 }
 
-// The code of a constructor's payload p after n constructors.
-pub fn test_constructor(n: usize, p: &[u8]) -> usize
-    ensures { λ r. ⌜ Tests Kind.constructor n (now (p .entry)) r ⌝ }
+// The place of the record whose payload's offset is entry i of the index.
+pub fn place_of(index: &[u16], i: usize) -> usize
+    ensures { λ r. ⌜ (4 ≤ getD (now (index .entry)) i 0 → r + 4 ≡ getD (now (index .entry)) i 0) ⌝ }
 {
-    if p.len() != 1 {
-        return 4;
-    }
-    let arity = byte_at(p, 0);
-    if 32 <= n {
-        return 5;
-    }
-    if 4 < arity {
-        return 6;
-    }
-    0
-}
-
-// The code of a nonterminal's payload p after n nonterminals, with so many sorts.
-pub fn test_nonterminal(sorts: usize, n: usize, p: &[u8]) -> usize
-    ensures { λ r. ⌜ TestsNonterminal sorts n (now (p .entry)) r ⌝ }
-{
-    if p.len() != 2 {
-        return 4;
-    }
-    if 256 <= n {
-        return 5;
-    }
-    if sorts <= word_at(p, 0) {
-        return 6;
-    }
-    0
-}
-
-// The code of the payload p of a states record after n others.
-pub fn test_states(n: usize, p: &[u8]) -> usize
-    ensures { λ r. ⌜ Tests Kind.states n (now (p .entry)) r ⌝ }
-{
-    if p.len() != 1 {
-        return 4;
-    }
-    if 1 <= n {
-        return 5;
-    }
-    let count = byte_at(p, 0);
-    if count == 0 || 16 < count {
-        return 6;
-    }
-    0
-}
-
-// The code of the payload p of a path after n others.
-pub fn test_path(n: usize, p: &[u8]) -> usize
-    ensures { λ r. ⌜ Tests Kind.path n (now (p .entry)) r ⌝ }
-{
-    if 1 <= n || 4096 < p.len() {
-        return 5;
-    }
-    0
-}
-
-// Whether the pair (a, b) stands before the pair (c, d).
-fn precedes(a: usize, b: usize, c: usize, d: usize) -> bool
-    ensures { λ r. ⌜ r ≡ before a b c d ⌝ }
-{
-    a < c || (a == c && b < d)
-}
-
-// The code of the payload p of a binding after n bindings, with so many nonterminals and types.
-pub fn test_binding(
-    file: &[u8],
-    index: &[u16],
-    n: usize,
-    nonterminals: usize,
-    types: usize,
-    p: &[u8],
-) -> usize
-    ensures { λ r. ⌜ TestsBinding (now (file .entry)) (now (index .entry)) n nonterminals types (now (p .entry)) r ⌝ }
-{
-    if p.len() != 4 {
-        return 4;
-    }
-    if 1024 <= n {
-        return 5;
-    }
-    let f = word_at(p, 0);
-    let t = word_at(p, 2);
-    if nonterminals <= f || types <= t {
-        return 6;
-    }
-    if n == 0 {
+    let start = place_at(index, i);
+    if start < 4 {
         return 0;
     }
-    let last = place_at(index, 2144 + (n - 1));
-    let g = word_at(file, last);
-    let u = word_at(file, last + 2);
-    if precedes(g, u, f, t) { 0 } else { 7 }
+    start - 4
 }
 
-// Whether one of the first targets, as many as the arity, is no state, or one past them is not 0.
-fn wrong_targets(states: usize, arity: usize, p: &[u8]) -> bool
-    ensures { λ r. ⌜ r ≡ wrongTargets states arity (drop 2 (now (p .entry))) ⌝ }
+// A number as an entry of a table; 0 where it does not fit one.
+pub fn narrow(v: usize) -> u16
+    ensures { λ r. ⌜ (v < 65536 → r ≡ v) ⌝ }
 {
-    let mut i = 2;
-    while i < p.len() {
-        let limit = if i - 2 < arity { states } else { 1 };
-        if limit <= byte_at(p, i) {
-            return true;
-        }
-        i += 1;
-    }
-    false
-}
-
-// The code of the payload p of a transition after n transitions, with so many states and constructors.
-pub fn test_transition(
-    file: &[u8],
-    index: &[u16],
-    n: usize,
-    states: usize,
-    constructors: usize,
-    p: &[u8],
-) -> usize
-    ensures { λ r. ⌜ TestsTransition (now (file .entry)) (now (index .entry)) n states constructors (now (p .entry)) r ⌝ }
-{
-    if p.len() != 6 {
-        return 4;
-    }
-    if 512 <= n {
-        return 5;
-    }
-    let q = byte_at(p, 0);
-    let a = byte_at(p, 1);
-    if states <= q || constructors <= a {
-        return 6;
-    }
-    let arity = byte_at(file, place_at(index, 64 + a));
-    if wrong_targets(states, arity, p) {
-        return 6;
-    }
-    if n == 0 {
-        return 0;
-    }
-    let last = place_at(index, 608 + (n - 1));
-    let r = byte_at(file, last);
-    let b = byte_at(file, last + 1);
-    if precedes(r, b, q, a) { 0 } else { 7 }
+    if v < 65536 { v as u16 } else { 0 }
 }

@@ -9,7 +9,8 @@ use lib.ListN.{length, set}
 use lib.Seq.{getD-set-same, getD-set-other}
 use Rattle.scheme.specs.Flags.{bit}
 use Rattle.records.specs.Records.{Record}
-use Rattle.fits.specs.Fitted.{flag, fitsAt, Fitted, Listed, TypeFits, FillsRow}
+use Rattle.fit_flags.specs.Fitted.{flag, fitsAt, Fitted}
+use Rattle.fits.specs.Filled.{Listed, TypeFits, FillsRow}
 
 module _ (file index : List ℕ) (sorts t : ℕ) (old : List ℕ) where
   -- the rows before t are there, and the first s flags of row t

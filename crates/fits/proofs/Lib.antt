@@ -1,5 +1,2 @@
-pub mod Arrows
 pub mod Rows
 pub mod Filling
-pub mod Misfits
-pub mod Offers

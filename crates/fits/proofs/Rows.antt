@@ -3,7 +3,7 @@ use Prim.Native.Nat.{ℕ, zero, suc, _+_, _-_, _<_, _≤_}
 use native.Mathlib.Omega.{arith}
 use native.Mathlib.Nat.{zero-add, add-zero}
 use mathlib.Core.Path.{_≡_, refl, sym, ap, ap₂, subst, _∙_}
-use mathlib.Core.Bool.{Bool, true, false, _&&_, not}
+use mathlib.Core.Bool.{false, _&&_}
 use mathlib.Core.List.{List, [], _∷_, List·Memᴰ, List·Memᴰ·head, List·Memᴰ·tail}
 use borrow.Author.Tests.{eq-eqb, ne-eqb}
 use lib.Dec.{eqb}
@@ -20,13 +20,9 @@ use Rattle.casefile.proofs.Growth.{grow-grown}
 use Rattle.casefile.proofs.TypeNumbers.{Shape, a-state, an-arrow}
 use Rattle.casefile.proofs.TypeTable.{count-payloads, type-shape, type-made}
 use Rattle.casefile.proofs.SortTable.{sort-below, sort-made}
-use Rattle.fits.specs.Fitted.{flag, says, arrowSays, Holds, ArrowFits, fitsAt, Fitted, Listed}
-
--- a flag that is a bit says that bit
-pub bit-says : (b : Bool) (x : ℕ) → x ≡ bit b → not (eqb x 0) ≡ b
-unfolding bit
-bit-says true x e = ap (λ y. not (eqb y 0)) e
-bit-says false x e = ap (λ y. not (eqb y 0)) e
+use Rattle.fit_flags.specs.Fitted.{flag, says, arrowSays, Holds, ArrowFits, fitsAt, Fitted}
+use Rattle.fits.specs.Filled.{Listed}
+use Rattle.fit_flags.proofs.Arrows.{bit-says}
 
 -- The flags of the types before t.
 module _ (fit : List ℕ) (t sorts : ℕ) (rs : List Record) (rows : Fitted fit t sorts rs) where

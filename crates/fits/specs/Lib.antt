@@ -1,1 +1,1 @@
-pub mod Fitted
+pub mod Filled

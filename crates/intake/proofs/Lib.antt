@@ -1,5 +1,1 @@
-pub mod Whole
-pub mod Contents
-pub mod Evidence
 pub mod Taking
-pub mod Planning

@@ -2,24 +2,22 @@
 use Prim.Native.Nat.{ℕ, _<_, _≤_}
 use native.Mathlib.Omega.{arith}
 use mathlib.Core.Path.{_≡_, refl, sym, ap, _∙_}
-use mathlib.Core.Bool.{Bool, true, false}
 use mathlib.Core.List.{List, [], _∷_}
-use mathlib.Core.Option.{Option, none, some}
 use borrow.Author.Tests.{lt-ltb, le-ltb}
 use lib.ListN.{length, getD}
-use Rattle.scheme.specs.Lists.{if_then_else_}
 use Rattle.records.specs.Records.{Record, recordsOf, listed}
-use Rattle.casefile.specs.Kinds.{Kind, payloads, count}
-use Rattle.casefile.specs.Refusals.{Refusal, tooLong, refuseWhole}
-use Rattle.casefile.specs.Cases.{refusedCase, bindingCase, pathCase, unlessRefused, acceptedCase, caseFrom, caseOf}
+use Rattle.casefile.specs.Kinds.{Kind, payloads}
+use Rattle.casefile.specs.Refusals.{tooLong}
+use Rattle.casefile.specs.Cases.{pathCase, unlessRefused, acceptedCase, caseFrom, caseOf}
 use Rattle.casefile.proofs.TypeTable.{count-payloads}
 use Rattle.rules.proofs.Room.{room-enough}
 use Rattle.walk.specs.Walking.{AllRead, WalkEnds}
 use Rattle.walk.specs.declared.Walked.{Walked}
 use Rattle.walk.specs.declared.Walked.the-variants as walked
-use Rattle.intake.specs.declared.Case.{Case}
-use Rattle.intake.specs.declared.Case.the-variants as is
-use Rattle.intake.specs.Intake.{caseAs, Tables, Leaves, Taken, WholeEnds, TestsWhole}
+use Rattle.whole_file.specs.declared.Case.{Case}
+use Rattle.whole_file.specs.declared.Case.the-variants as is
+use Rattle.intake.specs.Intake.{caseAs, Tables, Leaves, Taken}
+use Rattle.whole_file.specs.Whole.{WholeEnds, TestsWhole}
 
 module _ (file : List ℕ) (flags : ℕ) (index lens counts : List ℕ) where
   -- 1

@@ -1,7 +1,7 @@
 // Reads each case file that its arguments name, with the number of lent flags behind its name, and prints a line for each:
 // `NAME: refused 3 at 12` or `NAME: accepted`. A flag that changed is reported as well.
-use intake::Case;
 use libc::STDOUT_FILENO;
+use whole_file::Case;
 ghost use Prim.Native.Nat.{_≤_};
 
 fn say(name: &[u8], case: Case) {

@@ -14,7 +14,7 @@ use Rattle.casefile.specs.Tables.{aritiesOf}
 use Rattle.casefile.specs.Refusals.{wrongLength}
 use Rattle.casefile.proofs.Passed.{Passed, entry}
 use Rattle.casefile.proofs.TypeTable.{count-payloads}
-use Rattle.bodies.proofs.Nodes.{getD-map-in}
+use Rattle.scheme.proofs.Lists.{getD-map-in}
 use Rattle.entries.specs.Index.{Indexed}
 use Rattle.moves.specs.Moves.{rowAt, targetsIn, TableFor}
 use Rattle.moves.proofs.Meaning.{no-state, no-constructor}

@@ -10,7 +10,7 @@ use lib.ListN.{getD, length, take}
 use Rattle.scheme.specs.Lists.{if_then_else_}
 use Rattle.records.specs.Fields.{word}
 use Rattle.records.specs.Records.{Record}
-use Rattle.records.specs.Reading.{partOf}
+use Rattle.reading.specs.Reading.{partOf}
 use Rattle.casefile.specs.Kinds.{Kind, payloads}
 use Rattle.entries.specs.Index.{base, Indexed}
 use Rattle.lookup.specs.Lookup.{entryOf}

@@ -5,7 +5,7 @@ use lib.Dec.{ltb}
 use lib.ListN.{getD}
 use Rattle.scheme.specs.Lists.{if_then_else_}
 use Rattle.records.specs.Fields.{word}
-use Rattle.records.specs.Reading.{partOf}
+use Rattle.reading.specs.Reading.{partOf}
 
 -- the payload of entry i of an index of a file; empty where the index has no such entry
 unfoldable pub entryOf : List ℕ → List ℕ → ℕ → List ℕ

@@ -1,6 +1,6 @@
 // The payload of an entry, found by its number in the index.
 use entries::place_at;
-use records::payload;
+use reading::payload;
 use records::word_at;
 ghost use mathlib.Core.Path.{_≡_};
 ghost use Rattle.lookup.specs.Lookup.{entryOf};

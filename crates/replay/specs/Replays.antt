@@ -11,7 +11,7 @@ use Rattle.casefile.specs.Kinds.{Kind, payloads, count}
 use Rattle.casefile.specs.Tables.{planOf, automatonOf}
 use Rattle.casefile.specs.Refusals.{refuseWhole}
 use Rattle.casefile.proofs.Passed.{Passed}
-use Rattle.walk.specs.Known.{Known}
+use Rattle.kinds.specs.Known.{Known}
 use Rattle.letters.specs.Letters.{Replaying, Holding}
 use Rattle.letters.specs.declared.Held.{Held}
 use Rattle.letters.specs.declared.Step.{Step}

@@ -6,7 +6,7 @@ use mathlib.Core.List.{List}
 use borrow.Author.Count.{below-more}
 use lib.ListN.{length, getD, set, length-set}
 use lib.Seq.{getD-set-same, getD-set-other}
-use Rattle.records.specs.Fields.{field, byte, IsField}
+use Rattle.records.specs.Fields.{field, IsField}
 use Rattle.rules.specs.Rules.{FieldOf, Filled}
 
 -- the first i entries are stored, each at its place, where h holds

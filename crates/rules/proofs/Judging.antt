@@ -12,7 +12,7 @@ use lib.ListN.{length, getD, take, length-map, length-append, List·getD-append,
 use lib.Seq.{ext-getD, getD-take, length-take-le}
 use Rattle.scheme.specs.Lists.{any}
 use Rattle.scheme.specs.Sorts.{Sort, o, arguments}
-use Rattle.scheme.proofs.Lists.{or-false, select-append}
+use Rattle.scheme.proofs.Lists.{or-false, select-append, getD-map-in}
 use Rattle.records.specs.Fields.{field, byte, word}
 use Rattle.records.specs.Records.{Record}
 use Rattle.casefile.specs.Kinds.{Kind, sort, constructor, nonterminal, rule, number, ofKind, payloads, count}
@@ -22,16 +22,12 @@ use Rattle.casefile.proofs.Growth.{grow-append, grow-grown, grown}
 use Rattle.casefile.proofs.Passed.{Passed, entry}
 use Rattle.casefile.proofs.TypeTable.{count-payloads}
 use Rattle.entries.specs.Index.{base, Indexed}
-use Rattle.bodies.specs.Sorted.{SortArrays, TreeCodes}
+use Rattle.sort_codes.specs.Sorted.{SortArrays, TreeCodes}
 use Rattle.bodies.specs.Bodies.{Setting}
-use Rattle.bodies.proofs.FileSorts.{sort-arrays}
-use Rattle.bodies.proofs.Nodes.{cells-length}
-use Rattle.rules.specs.Rules.{Filled, ruleOf, numbersOf, Judged, Filed}
-
-pub getD-map-in : {A B : Type 0} (f : A → B) (l : List A) (n : ℕ) (d : A) (e : B) → n < length l → getD (map f l) n e ≡ f (getD l n d)
-getD-map-in f [] n d e h = absurd (omega arith)
-getD-map-in f (x ∷ l) zero d e h = refl
-getD-map-in f (x ∷ l) (suc n) d e h = getD-map-in f l n d e (le-of-suc-le-suc h)
+use Rattle.sort_codes.proofs.FileSorts.{sort-arrays}
+use Rattle.casefile.proofs.Cells.{cells-length}
+use Rattle.rules.specs.Rules.{Filled, Filed}
+use Rattle.rule_bodies.specs.RuleBodies.{ruleOf, numbersOf, Judged}
 
 -- More records leave what the tables have.
 payloads-append : (k : Kind) (xs ys : List Record) → payloads k (xs ++ ys) ≡ payloads k xs ++ payloads k ys
@@ -61,7 +57,7 @@ sorts-grow xs ys = let e = ap length (sorts-append xs ys) ∙ length-append (sor
 -- the sort of a nonterminal by its number
 pub signature-at : (rs : List Record) (i : ℕ) → i < length (payloads nonterminal rs) → getD (signaturesOf rs) i o ≡ getD (sortsOf rs) (word (getD (payloads nonterminal rs) i []) 0) o
 unfolding signaturesOf
-signature-at rs i h = getD-map-in (λ (p : List ℕ). getD (sortsOf rs) (word p 0) o) (payloads nonterminal rs) i [] o h
+signature-at rs i h = getD-map-in (λ (p : List ℕ). getD (sortsOf rs) (word p 0) o) (payloads nonterminal rs) i o [] h
 
 pub signatures-length : (rs : List Record) → length (signaturesOf rs) ≡ length (payloads nonterminal rs)
 unfolding signaturesOf
@@ -106,7 +102,7 @@ module _ {rs : List Record} (ok : Passed rs) where
       by (yes h) =
           let n = entry ok constructor c h in
           let small = ltb-false 4 (byte (n .payload) 0) (n .passed-tests .ranges) in
-          let e : getD (map (λ (p : List ℕ). byte p 0) (payloads constructor rs)) c 0 ≡ byte (n .payload) 0 = getD-map-in (λ (p : List ℕ). byte p 0) (payloads constructor rs) c [] 0 h ∙ ap (λ z. byte z 0) (n .here) in
+          let e : getD (map (λ (p : List ℕ). byte p 0) (payloads constructor rs)) c 0 ≡ byte (n .payload) 0 = getD-map-in (λ (p : List ℕ). byte p 0) (payloads constructor rs) c 0 [] h ∙ ap (λ z. byte z 0) (n .here) in
           omega arith
       by (no h) =
           let l = length-map (payloads constructor rs) (λ (p : List ℕ). byte p 0) in
@@ -209,7 +205,7 @@ module _ {file index : List ℕ} {rs : List Record} (k : Kind) (n : ℕ) (there 
       let c = counted in
       let l : length (take (length vs) t) ≡ length vs = length-take-le (length vs) t (omega arith) in
       ext-getD 0 (take (length vs) t) vs l
-      (λ i hi. getD-take (length vs) t i 0 (omega arith) ∙ field-at z t fi room i (omega arith) (long i (omega arith)) ∙ sym (getD-map-in (λ (p : List ℕ). field w p 0) (payloads k rs) i [] 0 (omega arith)))
+      (λ i hi. getD-take (length vs) t i 0 (omega arith) ∙ field-at z t fi room i (omega arith) (long i (omega arith)) ∙ sym (getD-map-in (λ (p : List ℕ). field w p 0) (payloads k rs) i 0 [] (omega arith)))
 
 module _ {file index : List ℕ} {sorts constructors nonterminals rules : ℕ} {rs : List Record} (fi : Filed file index sorts constructors nonterminals rules rs)
     (z₁ z₂ z₃ z₄ froms tos trees arities signatures : List ℕ) (l₁ : length z₁ ≡ 65) (l₂ : length z₂ ≡ 65) (l₃ : length z₃ ≡ 32) (l₄ : length z₄ ≡ 256)
@@ -274,7 +270,7 @@ module _ {file index : List ℕ} {sorts constructors nonterminals rules : ℕ} {
   number-below : (f : ℕ) → f < length (numbersOf rs) → getD (numbersOf rs) f 0 < length (sortsOf rs)
   number-below f h =
       let h′ : f < length (payloads nonterminal rs) = (let l = length-map (payloads nonterminal rs) (λ (p : List ℕ). word p 0) in omega arith) in
-      subst (λ n. n < length (sortsOf rs)) (sym (getD-map-in (λ (p : List ℕ). word p 0) (payloads nonterminal rs) f [] 0 h′)) (sort-listed (fi .passed) f h′)
+      subst (λ n. n < length (sortsOf rs)) (sym (getD-map-in (λ (p : List ℕ). word p 0) (payloads nonterminal rs) f 0 [] h′)) (sort-listed (fi .passed) f h′)
 
   setting-at : (f : ℕ) → f < rules → Setting (sortsOf rs) (aritiesOf rs) (numbersOf rs) (ruleOf rs f) froms tos trees arities signatures (getD signatures f 0)
   setting-at f h =

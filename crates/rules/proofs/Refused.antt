@@ -15,8 +15,9 @@ use Rattle.casefile.specs.Kinds.{nonterminal, rule, ofKind, payloads, count}
 use Rattle.casefile.specs.Tables.{aritiesOf, signaturesOf}
 use Rattle.casefile.specs.Refusals.{Test, refuse_at_when_, first, wrongBody, wrongBodies}
 use Rattle.casefile.proofs.TypeTable.{count-payloads}
-use Rattle.bodies.specs.Sorted.{SortArrays, TreeCodes}
-use Rattle.rules.specs.Rules.{Filled, FirstWrong, ReadsRules, Filed, BodiesRead, WithinLimits, FindsWrongBody}
+use Rattle.sort_codes.specs.Sorted.{SortArrays, TreeCodes}
+use Rattle.rules.specs.Rules.{Filled, Filed, BodiesRead, WithinLimits, FindsWrongBody}
+use Rattle.rule_bodies.specs.RuleBodies.{FirstWrong, ReadsRules}
 use Rattle.rules.proofs.Judging.{signatures-length, judged}
 
 module _ (arities : List ℕ) (signatures : List Sort) where

@@ -11,9 +11,9 @@ use Rattle.scheme.specs.Lists.{select, keepIf}
 use Rattle.records.specs.Fields.{word}
 use Rattle.records.specs.Records.{Record, whole, recordAt, Walk, end, cut, next, walk, recordsOf, listed}
 use Rattle.records.proofs.Walk.{walk-end, walk-cut, walk-next}
-use Rattle.records.proofs.Reading.{whole-end, payload-length}
+use Rattle.reading.proofs.Reading.{whole-end, payload-length}
 use Rattle.casefile.specs.Kinds.{Kind, rule, number, ofKind, payloads}
-use Rattle.rules.specs.Rules.{nodesIn}
+use Rattle.rule_bodies.specs.RuleBodies.{nodesIn}
 
 module _ (s : List ℕ) (k : Kind) where
   -- the payloads from a place on, four bytes a node, end with the file

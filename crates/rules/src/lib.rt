@@ -1,12 +1,10 @@
 // The bodies of all rules of a file: the first that is no single term of sort o within 64 levels, and the ends of subterms.
-use bodies::body_fits;
-use bodies::entry_at;
-use bodies::tree_codes;
 use entries::place_at;
 use records::byte_at;
-use records::payload;
 use records::word_at;
-ghost use Rattle.rules.specs.Rules.{FieldOf, Filled, RuleRead, ReadsRules, WithinLimits, FindsWrongBody};
+use rule_bodies::read_rules;
+use sort_codes::tree_codes;
+ghost use Rattle.rules.specs.Rules.{FieldOf, Filled, WithinLimits, FindsWrongBody};
 
 // The field of one byte or of two at a place.
 fn field_of(file: &[u8], at: usize, width: usize) -> usize
@@ -53,79 +51,6 @@ fn fill(
         table[to + i] = v as u16;
         i = i + 1;
     }
-}
-
-// The number of nodes of rule f where its body fits, else 0; `ends` gets the ends of its subterms.
-fn read_rule(
-    file: &[u8],
-    index: &[u16],
-    froms: &[u16],
-    tos: &[u16],
-    trees: &[u16],
-    arities: &[u16],
-    signatures: &[u16],
-    f: usize,
-    ends: &mut [u16],
-) -> usize
-    ensures { λ r. ⌜ RuleRead (now (file .entry)) (now (index .entry)) (now (froms .entry)) (now (tos .entry)) (now (trees .entry)) (now (arities .entry)) (now (signatures .entry)) f (now (ends .entry)) (now (ends .exit)) r ⌝ }
-{
-    if 255 < f {
-        return 0;
-    }
-    let place = place_at(index, 352 + f);
-    if place < 4 {
-        return 0;
-    }
-    let len = word_at(file, place - 4);
-    if 1024 < len {
-        return 0;
-    }
-    if ends.len() < len / 4 {
-        return 0;
-    }
-    let p = payload(file, place, len);
-    let own = entry_at(signatures, f);
-    if !body_fits(p, froms, tos, trees, arities, signatures, own, ends) {
-        return 0;
-    }
-    len / 4
-}
-
-// The number of the first rule whose body does not fit, or of rules where all fit; `ends` gets the ends of subterms, rule after rule.
-fn read_rules(
-    file: &[u8],
-    index: &[u16],
-    froms: &[u16],
-    tos: &[u16],
-    trees: &[u16],
-    arities: &[u16],
-    signatures: &[u16],
-    rules: usize,
-    ends: &mut [u16],
-) -> usize
-    ensures { λ r. ⌜ ReadsRules (now (file .entry)) (now (index .entry)) (now (froms .entry)) (now (tos .entry)) (now (trees .entry)) (now (arities .entry)) (now (signatures .entry)) rules (now (ends .entry)) (now (ends .exit)) r ⌝ }
-{
-    let mut f: usize = 0;
-    let mut at: usize = 0;
-    while f < rules {
-        let n = read_rule(
-            file,
-            index,
-            froms,
-            tos,
-            trees,
-            arities,
-            signatures,
-            f,
-            &mut ends[at..],
-        );
-        if n == 0 {
-            return f;
-        }
-        at = at + n;
-        f = f + 1;
-    }
-    rules
 }
 
 // Are the counts within the limits of their kinds, and is there a nonterminal for each rule?

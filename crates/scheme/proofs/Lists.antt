@@ -1,14 +1,16 @@
 -- What the tests of specs/Lists.antt say, and what the lists hold that they make.
 -- A test is read as a statement by T (lib.Dec): T true holds, T false does not.
-use mathlib.Core.Path.{_≡_, refl, sym, subst}
+use mathlib.Core.Path.{_≡_, refl, sym, ap, subst, _∙_}
 use mathlib.Core.Logic.{_⊎_, inl, inr}
 use mathlib.Core.Bool.{Bool, true, false, _&&_, _||_, true≢false}
 use mathlib.Core.Option.{Option, none, some}
-use mathlib.Core.List.{List, [], _∷_, _++_, List·Memᴰ, List·Memᴰ·head, List·Memᴰ·tail, List·Memᴰ·not-nil, List·Memᴰ·cases-cons}
-use Prim.Native.Nat.{ℕ, suc, _≤_, zero-le, suc-le-suc}
+use mathlib.Core.List.{List, [], _∷_, _++_, map, List·Memᴰ, List·Memᴰ·head, List·Memᴰ·tail, List·Memᴰ·not-nil, List·Memᴰ·cases-cons}
+use Prim.Native.Nat.{ℕ, zero, suc, _<_, _≤_, zero-le, suc-le-suc}
 use native.Mathlib.Omega.{arith}
+use native.Mathlib.Nat.{le-of-suc-le-suc}
 use lib.Dec.{T}
-use lib.ListN.{length}
+use lib.ListN.{length, getD, take}
+use lib.Seq.{getD-take}
 use Rattle.scheme.specs.Lists.{found, any, all, keepIf, select}
 
 pub T→true : (b : Bool) → T b → b ≡ true
@@ -171,3 +173,20 @@ module _ {A : Type 0} where
   pub any-done : (p : A → Bool) (l : List A) → l ≡ [] → any p l ≡ false
   unfolding any
   any-done p l e = rw (e, any) refl
+
+-- elements by number
+module _ {A : Type 0} where
+  -- a test that no element passes
+  pub any-at : (q : A → Bool) (l : List A) (i : ℕ) (d : A) → any q l ≡ false → i < length l → q (getD l i d) ≡ false
+  unfolding any
+  any-at q [] i d e h = absurd (omega arith)
+  any-at q (x ∷ xs) zero d e h = or-false (q x) (any q xs) e .0
+  any-at q (x ∷ xs) (suc i) d e h = any-at q xs i d (or-false (q x) (any q xs) e .1) (le-of-suc-le-suc h)
+
+  pub getD-map-in : {B : Type 0} (f : B → A) (l : List B) (i : ℕ) (d : A) (d′ : B) → i < length l → getD (map f l) i d ≡ f (getD l i d′)
+  getD-map-in f [] i d d′ h = absurd (omega arith)
+  getD-map-in f (x ∷ xs) zero d d′ h = refl
+  getD-map-in f (x ∷ xs) (suc i) d d′ h = getD-map-in f xs i d d′ (le-of-suc-le-suc h)
+
+  pub getD-prefix : (l a : List A) (i : ℕ) (d : A) → take (length l) a ≡ l → i < length l → getD a i d ≡ getD l i d
+  getD-prefix l a i d e h = sym (getD-take (length l) a i d h) ∙ ap (λ x. getD x i d) e

@@ -14,7 +14,7 @@ use Rattle.records.specs.Records.{Record}
 use Rattle.casefile.specs.Kinds.{Kind, payloads}
 use Rattle.casefile.specs.Tables.{headOf, nodesOf, bodyOf, planOf}
 use Rattle.casefile.proofs.TypeTable.{count-payloads}
-use Rattle.bodies.proofs.Nodes.{getD-map-in}
+use Rattle.scheme.proofs.Lists.{getD-map-in}
 use Rattle.entries.specs.Index.{Indexed}
 use Rattle.lookup.specs.Lookup.{entryOf}
 use Rattle.lookup.proofs.Found.{entry-there}

@@ -6,15 +6,15 @@ use mathlib.Core.Path.{_≡_, refl, sym, ap, subst, _∙_}
 use mathlib.Core.Bool.{Bool, true, false, _&&_, _||_, not}
 use mathlib.Core.List.{List, [], _∷_, _++_, map, append-nil}
 use mathlib.Core.Option.{Option, none, some}
-use borrow.Author.Tests.{eqb-true, ltb-false, not-false}
-use lib.Dec.{T, eqb, leb, ltb}
+use borrow.Author.Tests.{eqb-true, not-false}
+use lib.Dec.{T, eqb, leb}
 use lib.ListN.{length, getD, length-map}
 use Rattle.scheme.specs.Lists.{if_then_else_, found, any}
 use Rattle.scheme.specs.Sorts.{Sort, o, sameSort, arguments}
 use Rattle.scheme.specs.Sorting.{headSort, sortOf}
 use Rattle.scheme.specs.Terms.{Terms, []ᵗ, _∷ᵗ_, countᵗ}
 use Rattle.scheme.specs.Prefix.{Node, terms, complete, flat, flats, depth}
-use Rattle.scheme.proofs.Lists.{true→T, or-false, and-true}
+use Rattle.scheme.proofs.Lists.{true→T, or-false, and-true, any-at, getD-map-in}
 use Rattle.scheme.proofs.Prefix.{flats-terms}
 use Rattle.records.specs.Fields.{byte}
 use Rattle.records.specs.Records.{Record}
@@ -23,8 +23,7 @@ use Rattle.casefile.specs.Tables.{sortsOf, aritiesOf, signaturesOf, Cell, cells
 use Rattle.casefile.specs.Refusals.{Refusal, Test, refuse_at_when_, first, wrongCell, outOfRange, wrongBody, wrongBodies, wrongStart, refuseWhole}
 use Rattle.casefile.proofs.Passed.{Passed, first-none, entry}
 use Rattle.casefile.proofs.TypeTable.{count-payloads}
-use Rattle.bodies.specs.Bodies.{cellAt}
-use Rattle.bodies.proofs.Nodes.{cells-length, cells-at, any-at, getD-map-in}
+use Rattle.casefile.proofs.Cells.{cellAt, cells-length, cells-at, cell-range}
 use Rattle.entries.specs.Index.{Indexed}
 use Rattle.steps.specs.Steps.{Whole, Bodies}
 
@@ -64,11 +63,6 @@ one-term arities sigs s p e =
     let (a, b) = and-true whole one (and-true (whole && one) sorted (and-true (whole && one && sorted) shallow (not-false (whole && one && sorted && shallow) e) .0) .0) in
     sym (flats-terms (nodesOf p) (true→T a)) ∙ single (terms (nodesOf p)) (eqb-true (countᵗ (terms (nodesOf p))) 1 b)
 
--- the tag of a node in range
-tag-small : (x y z : ℕ) (c : Cell) → wrongCell x y z c ≡ false → c .tag ≤ 2
-unfolding wrongCell
-tag-small x y z c e = ltb-false 2 (c .tag) (or-false (ltb 2 (c .tag)) (leb (getD (x ∷ y ∷ []) (c .tag) z) (c .number)) (or-false (ltb 2 (c .tag) || leb (getD (x ∷ y ∷ []) (c .tag) z) (c .number)) (ltb 8 (c .count)) e .0) .0)
-
 module _ {rs : List Record} (ok : Passed rs) where
   tags-small : (f : ℕ) → f < length (payloads Kind.rule rs) → (i : ℕ) → i < length (getD (payloads Kind.rule rs) f []) / 4 → byte (getD (payloads Kind.rule rs) f []) (i * 4) ≤ 2
   unfolding outOfRange
@@ -84,7 +78,7 @@ module _ {rs : List Record} (ok : Passed rs) where
       let d = cellAt p i in
       let l = cells-length p in
       let w = any-at (wrongCell (length (aritiesOf before)) (length sigs) (length (arguments (getD sigs n o)))) (cellsOf p) i d right (omega arith) in
-      subst (λ (c : Cell). c .tag ≤ 2) (cells-at p i d k) (tag-small (length (aritiesOf before)) (length sigs) (length (arguments (getD sigs n o))) (getD (cellsOf p) i d) w))
+      subst (λ (c : Cell). c .tag ≤ 2) (cells-at p i d k) (cell-range (length (aritiesOf before)) (length sigs) (length (arguments (getD sigs n o))) (getD (cellsOf p) i d) w .0))
 
   module _ (flags : ℕ) (e : refuseWhole rs flags ≡ none) where
     -- 8 and 9 are not met

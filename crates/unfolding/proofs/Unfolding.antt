@@ -15,8 +15,7 @@ use Rattle.scheme.specs.Prefix.{Node, flat, flats}
 use Rattle.scheme.proofs.Prefix.{length-flat}
 use Rattle.records.specs.Fields.{byte, word}
 use Rattle.casefile.specs.Tables.{Cell, headOf, nodesOf}
-use Rattle.bodies.specs.Bodies.{cellAt}
-use Rattle.bodies.proofs.Nodes.{nodeAt, nodes-length, nodes-drop}
+use Rattle.casefile.proofs.Cells.{nodeAt, nodes-length, nodes-drop}
 use Rattle.flat_terms.specs.Flat.{codeOf, nodeOf, nodesIn, IsNode, between}
 use Rattle.flat_terms.proofs.Codes.{headBy, node-code, node-more}
 use Rattle.flat_terms.proofs.Skipping.{count-nodes}

@@ -1,32 +1,32 @@
 -- One record more: the arrays of the walk go on to hold what they should.
 -- The blocks of the index do not meet, so an entry of one kind leaves the others as they are.
-use Prim.Native.Nat.{ℕ, zero, suc, _+_, _<_, _≤_}
+use Prim.Native.Nat.{ℕ, suc, _+_, _<_, _≤_}
 use native.Mathlib.Omega.{arith}
 use native.Mathlib.Decide.{ℕ-discrete, decLt}
-use mathlib.Core.Path.{_≡_, refl, sym, ap, ap₂, subst, _∙_}
+use mathlib.Core.Path.{_≡_, refl, sym, ap, subst, _∙_}
 use mathlib.Core.Logic.{_⊎_, inl, inr, _≢_}
-use mathlib.Core.Bool.{Bool, true, false, true≢false}
+use mathlib.Core.Bool.{true, false}
 use mathlib.Core.List.{List, [], _∷_, _++_, map, map-append, append-nil}
-use mathlib.Core.Option.{some}
-use borrow.Author.Tests.{eq-eqb, ne-eqb, eqb-true, le-ltb, lt-ltb}
+use borrow.Author.Tests.{eq-eqb, ne-eqb, le-ltb, lt-ltb}
 use lib.Dec.{eqb, ltb}
-use lib.ListN.{length, getD, take, drop, set, length-set, length-map, length-append, List·getD-append}
-use lib.Seq.{getD-at, getD-set-same, getD-set-other, getD-append-seam, getD-take, getD-drop}
+use lib.ListN.{length, getD, set, length-map, length-append, List·getD-append}
+use lib.Seq.{getD-at, getD-set-same, getD-set-other, getD-append-seam}
 use Rattle.scheme.specs.Lists.{if_then_else_, keepIf, select}
 use Rattle.scheme.proofs.Lists.{select-append}
-use Rattle.scheme.specs.Sorts.{Sort, o, _⇒_, arguments}
+use Rattle.scheme.specs.Sorts.{Sort, o, arguments}
 use Rattle.records.specs.Fields.{field, word}
 use Rattle.records.specs.Records.{Record, whole, recordAt}
 use Rattle.records.proofs.Fields.{field-part}
-use Rattle.records.specs.Reading.{partOf}
-use Rattle.records.proofs.Reading.{payload-length, whole-end, part-of}
-use Rattle.casefile.specs.Kinds.{Kind, sort, constructor, nonterminal, rule, states, transition, type, binding, path, number, kindOf, ofKind, payloads, count, placeOf}
+use Rattle.reading.specs.Reading.{partOf}
+use Rattle.reading.proofs.Reading.{payload-length, whole-end, part-of}
+use Rattle.casefile.specs.Kinds.{Kind, sort, constructor, nonterminal, rule, states, transition, type, binding, path, number, ofKind, payloads, count, placeOf}
 use Rattle.casefile.specs.Tables.{grow, sortFrom, sortsOf}
-use Rattle.casefile.proofs.Passed.{payloads-more, payloads-other, kindOf-number}
+use Rattle.casefile.proofs.Passed.{payloads-more, payloads-other}
 use Rattle.casefile.proofs.Growth.{grow-append, grow-length}
 use Rattle.casefile.proofs.TypeTable.{count-payloads}
 use Rattle.entries.specs.Index.{base, Indexed}
-use Rattle.walk.specs.Known.{room, Known}
+use Rattle.kinds.specs.Known.{room, Known}
+use Rattle.enter.proofs.Storing.{number-inj}
 
 -- the number of the kind whose block holds a place of the index
 blockOf : ℕ → ℕ
@@ -156,12 +156,6 @@ module _ (file index : List ℕ) (rs : List Record) (r : Record) (k : Kind) (n :
           payload-there = each (λ b p. partOf file b (length p) ≡ p) (λ i h. old .payload-there i h) new-part;
           field-there = each (λ b p. (w off : ℕ) → off + w ≤ length p → field w file (b + off) ≡ field w p off) (λ i h. old .field-there i h) new-field;
         }
-
-pub number-inj : (k k′ : Kind) → number k ≡ number k′ → k ≡ k′
-number-inj k k′ e = some-inj (sym (kindOf-number k) ∙ ap kindOf e ∙ kindOf-number k′)
-  where
-    some-inj : some k ≡ some k′ → k ≡ k′
-    some-inj f = cc
 
 pub number-few : (k : Kind) → number k < 10
 unfolding number

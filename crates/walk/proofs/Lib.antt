@@ -1,4 +1,3 @@
+pub mod Clearing
 pub mod Known
-pub mod Storing
-pub mod Dispatch
 pub mod Turns

@@ -2,7 +2,7 @@
 use Prim.Native.Nat.{ℕ, zero, suc, _+_, _-_, _<_, _≤_}
 use native.Mathlib.Omega.{arith}
 use mathlib.Core.Path.{_≡_, refl, sym, ap, ap₂, subst, _∙_}
-use mathlib.Core.Logic.{⊎-elim, _≢_}
+use mathlib.Core.Logic.{⊎-elim}
 use mathlib.Core.Bool.{Bool, true, false, _||_}
 use mathlib.Core.List.{List, [], _∷_, _++_, map, map-append, append-nil, append-assoc}
 use mathlib.Core.Option.{Option, none, some}
@@ -14,30 +14,32 @@ use lib.Dec.{ltb, leb, eqb}
 use lib.ListN.{length, getD, set, replicate, length-set, getD-replicate, length-replicate, length-map}
 use lib.Seq.{getD-set-same}
 use Rattle.scheme.specs.Lists.{if_then_else_, lastOr, select}
-use Rattle.scheme.specs.Sorts.{Sort, o, arguments}
+use Rattle.scheme.specs.Sorts.{o, arguments}
 use Rattle.records.specs.Fields.{word}
-use Rattle.records.specs.Records.{Record, whole, recordAt, Walk, end, cut, next, walk, recordsOf, listed}
-use Rattle.records.specs.Reading.{readAt, partOf}
-use Rattle.records.specs.declared.Cursor.{Cursor}
-use Rattle.records.specs.declared.Read.the-variants as read
-use Rattle.records.proofs.Read.{the-type}
-use Rattle.records.proofs.Reading.{RecordRead, read-record, read-refused, read-end, read-past}
+use Rattle.records.specs.Records.{Record, recordAt, end, next, walk, recordsOf, listed}
+use Rattle.reading.specs.Reading.{readAt, partOf}
+use Rattle.reading.specs.declared.Cursor.{Cursor}
+use Rattle.reading.specs.declared.Read.the-variants as read
+use Rattle.reading.proofs.Read.{the-type}
+use Rattle.reading.proofs.Reading.{RecordRead, read-record, read-refused, read-end, read-past}
 use Rattle.casefile.specs.Kinds.{Kind, sort, constructor, nonterminal, rule, states, transition, type, binding, path, number, kindOf, payloads, count, ofKind}
 use Rattle.casefile.specs.Tables.{grow, sortsOf, signaturesOf}
 use Rattle.casefile.specs.Refusals.{Refusal, first, wrongLength, tooMany, tooLarge, outOfRange, misplaced, refuseAs, refuseKind, lastKind, refuseRecord, refuseWhole}
-use Rattle.casefile.specs.Cases.{Case, refusedCase, unlessRefused, acceptedCase, caseFrom}
-use Rattle.casefile.proofs.Passed.{Passed, nothing, also, Tested, passed-tested, kindOf-number}
+use Rattle.casefile.specs.Cases.{refusedCase, unlessRefused, acceptedCase, caseFrom}
+use Rattle.casefile.proofs.Passed.{Passed, nothing, also, Tested, passed-tested}
 use Rattle.casefile.proofs.TypeTable.{count-payloads}
-use Rattle.walk.proofs.Dispatch.{sorts-length}
+use Rattle.kinds.proofs.Dispatch.{sorts-length}
 use Rattle.scheme.proofs.Lists.{or-false, and-false}
 use Rattle.entries.specs.Codes.{codeFor}
 use Rattle.entries.specs.Index.{base, Indexed}
 use Rattle.walk.specs.declared.Walked.{Walked}
 use Rattle.walk.specs.declared.Walked.the-variants as walked
-use Rattle.walk.specs.Known.{room, Known}
-use Rattle.walk.specs.Walking.{codeAs, stored, lensAfter, AllRead, WalkEnds, endOf}
-use Rattle.walk.proofs.Known.{known-more, known-sort, number-few, number-inj}
-use Rattle.walk.proofs.Storing.{stored-set, stored-length, lens-length, lens-other}
+use Rattle.kinds.specs.Known.{room, Known}
+use Rattle.kinds.specs.Codes.{codeAs}
+use Rattle.enter.specs.Entering.{stored, lensAfter}
+use Rattle.walk.specs.Walking.{WalkEnds, endOf}
+use Rattle.walk.proofs.Known.{known-more, known-sort, number-few}
+use Rattle.enter.proofs.Storing.{number-inj, stored-set, stored-length, lens-length, lens-other}
 
 -- the tables hold the records before `at`, whose last kind is `last`; what is left of the file decides
 pub record Walking (file index lens counts : List ℕ) (at last : ℕ) : Type 0 where
@@ -212,7 +214,7 @@ room-few path = omega arith
 
 module _ {file index lens counts : List ℕ} {at last : ℕ} (w : Walking file index lens counts at last) where
   -- the walk ends
-  pub ends : (g : Rattle.records.specs.declared.Read.Read) → OneOf (1 ∷ 2 ∷ []) (tagOf the-type g) → g ≡ readAt file at → (r : Walked) → r ≡ endOf g → WalkEnds file index lens counts r
+  pub ends : (g : Rattle.reading.specs.declared.Read.Read) → OneOf (1 ∷ 2 ∷ []) (tagOf the-type g) → g ≡ readAt file at → (r : Walked) → r ≡ endOf g → WalkEnds file index lens counts r
   unfolding WalkEnds caseFrom listed
   ends (read.Record place start len kind c) h e r er = absurd (⊎-elim (λ (e : 0 ≡ 1). omega arith) (λ (e : 0 ≡ 2). omega arith) h)
   ends (read.Refused n p) h e r er = subst (WalkEnds file index lens counts) (sym er) (λ flags. sym (w .same flags) ∙ by flags (w .fuel) (w .enough))

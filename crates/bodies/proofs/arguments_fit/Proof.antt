@@ -20,8 +20,8 @@ misfit-requires c κs = search needs
 returns : tie.Need-returns Inv-loop μ-loop
 returns c = leads-short (c .before .before .before .loop .inv) _ (c .misfit .ensures) (c .before .before .loop-test .taken) (c .before .if1 .taken)
 
-entry-at-requires : tie.Need-entry-at-requires Inv-loop μ-loop
-entry-at-requires c κs = search needs
+place-at-requires : tie.Need-place-at-requires Inv-loop μ-loop
+place-at-requires c κs = search needs
 
 apply-requires : tie.Need-apply-requires Inv-loop μ-loop
 apply-requires c κs = search needs
@@ -30,16 +30,16 @@ misfit-requires-2 : tie.Need-misfit-requires-2 Inv-loop μ-loop
 misfit-requires-2 c κs = search needs
 
 returns-2 : tie.Need-returns-2 Inv-loop μ-loop
-returns-2 c = leads-misfit (c .before .before .before .before .before .before .loop .inv) _ (c .misfit2 .ensures) (c .before .before .before .before .before .loop-test .taken) _ _ (c .before .before .apply .ensures) (c .before .before .before .entry-at .ensures .value) (c .before .if2 .taken)
+returns-2 c = leads-misfit (c .before .before .before .before .before .before .loop .inv) _ (c .misfit2 .ensures) (c .before .before .before .before .before .loop-test .taken) _ _ (c .before .before .apply .ensures) (c .before .before .before .place-at .ensures .value) (c .before .if2 .taken)
 
-entry-at-requires-2 : tie.Need-entry-at-requires-2 Inv-loop μ-loop
-entry-at-requires-2 c κs = search needs
+place-at-requires-2 : tie.Need-place-at-requires-2 Inv-loop μ-loop
+place-at-requires-2 c κs = search needs
 
 larger-requires : tie.Need-larger-requires Inv-loop μ-loop
 larger-requires c κs = search needs
 
-entry-at-requires-3 : tie.Need-entry-at-requires-3 Inv-loop μ-loop
-entry-at-requires-3 c κs = search needs
+place-at-requires-3 : tie.Need-place-at-requires-3 Inv-loop μ-loop
+place-at-requires-3 c κs = search needs
 
 sub-left : tie.Need-sub-left Inv-loop μ-loop
 sub-left c = search needs
@@ -48,7 +48,7 @@ loop-less : tie.Need-loop-less Inv-loop μ-loop
 loop-less c = search needs
 
 loop-again : tie.Need-loop-again Inv-loop μ-loop
-loop-again c = leads-next (c .before .before .before .before .before .before .before .before .loop .inv) _ _ _ _ (c .before .before .before .before .before .before .before .loop-test .taken) (c .before .before .before .before .before .before .if1 .left) (c .before .before .before .before .apply .ensures) (c .before .before .before .before .before .entry-at .ensures .value) (c .before .before .before .if2 .left) (c .entry-at3 .ensures .value) (let e = c .before .before .entry-at2 .ensures .value in rw (← e) (c .before .larger .ensures))
+loop-again c = leads-next (c .before .before .before .before .before .before .before .before .loop .inv) _ _ _ _ (c .before .before .before .before .before .before .before .loop-test .taken) (c .before .before .before .before .before .before .if1 .left) (c .before .before .before .before .apply .ensures) (c .before .before .before .before .before .place-at .ensures .value) (c .before .before .before .if2 .left) (c .place-at3 .ensures .value) (let e = c .before .before .place-at2 .ensures .value in rw (← e) (c .before .larger .ensures))
 
 returns-3 : tie.Need-returns-3 Inv-loop μ-loop
 returns-3 c = leads-end (c .before .loop .inv) (omega arith)
@@ -62,13 +62,13 @@ arguments-fit-spec =
     loop-holds
     misfit-requires
     returns
-    entry-at-requires
+    place-at-requires
     apply-requires
     misfit-requires-2
     returns-2
-    entry-at-requires-2
+    place-at-requires-2
     larger-requires
-    entry-at-requires-3
+    place-at-requires-3
     sub-left
     loop-less
     loop-again

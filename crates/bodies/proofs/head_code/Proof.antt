@@ -19,20 +19,20 @@ add-word-at c = search needs
 word-at-requires : tie.Need-word-at-requires
 word-at-requires c κs = search needs
 
-entry-at-requires : tie.Need-entry-at-requires
-entry-at-requires c κs = search needs
+place-at-requires : tie.Need-place-at-requires
+place-at-requires c κs = search needs
 
-entry-at-requires-2 : tie.Need-entry-at-requires-2
-entry-at-requires-2 c κs = search needs
+place-at-requires-2 : tie.Need-place-at-requires-2
+place-at-requires-2 c κs = search needs
 
 returns : tie.Need-returns
-returns c = λ sorts counts numbers w h. head-con w _ _ _ _ _ h (c .before .before .before .before .byte-at .ensures .value) (c .before .before .before .word-at .ensures .value) (c .before .before .if1 .taken) (c .before .entry-at .ensures .value) (c .entry-at2 .ensures .value)
+returns c = λ sorts counts numbers w h. head-con w _ _ _ _ _ h (c .before .before .before .before .byte-at .ensures .value) (c .before .before .before .word-at .ensures .value) (c .before .before .if1 .taken) (c .before .place-at .ensures .value) (c .place-at2 .ensures .value)
 
-entry-at-requires-3 : tie.Need-entry-at-requires-3
-entry-at-requires-3 c κs = search needs
+place-at-requires-3 : tie.Need-place-at-requires-3
+place-at-requires-3 c κs = search needs
 
 returns-2 : tie.Need-returns-2
-returns-2 c = λ sorts counts numbers w h. head-nt w _ _ _ _ h (c .before .before .before .before .byte-at .ensures .value) (c .before .before .before .word-at .ensures .value) (c .before .if2 .taken) (c .entry-at3 .ensures .value)
+returns-2 c = λ sorts counts numbers w h. head-nt w _ _ _ _ h (c .before .before .before .before .byte-at .ensures .value) (c .before .before .before .word-at .ensures .value) (c .before .if2 .taken) (c .place-at3 .ensures .value)
 
 parameter-requires : tie.Need-parameter-requires
 parameter-requires c κs = search needs
@@ -49,10 +49,10 @@ head-code-spec =
     mul-word-at
     add-word-at
     word-at-requires
-    entry-at-requires
-    entry-at-requires-2
+    place-at-requires
+    place-at-requires-2
     returns
-    entry-at-requires-3
+    place-at-requires-3
     returns-2
     parameter-requires
     returns-3)

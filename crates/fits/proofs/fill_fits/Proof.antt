@@ -4,7 +4,8 @@ use mathlib.Core.List.{List}
 use native.Mathlib.Omega.{arith}
 use borrow.Author.Needs.{needs}
 use Rattle.records.specs.Records.{Record}
-use Rattle.fits.specs.Fitted.{Fitted, Listed}
+use Rattle.fit_flags.specs.Fitted.{Fitted}
+use Rattle.fits.specs.Filled.{Listed}
 use Rattle.fits.proofs.fill_fits.Statement.{statement}
 use Rattle.fits.proofs.fill_fits.Tie as tie
 

@@ -1,15 +1,9 @@
-use Prim.Native.Nat.{ℕ, _+_, _-_, _<_, _≤_}
-use mathlib.Core.Path.{_≡_, refl, sym, ap, subst, _∙_}
-use mathlib.Core.Logic.{⊎-elim}
-use mathlib.Core.List.{List}
+use Prim.Native.Nat.{_-_}
+use mathlib.Core.Path.{refl}
 use native.Mathlib.Omega.{arith}
-use lib.ListN.{length, drop}
 use borrow.Author.Needs.{needs}
 use Rattle.intake.proofs.case_of.Statement.{statement}
 use Rattle.intake.proofs.case_of.Tie as tie
-use Rattle.intake.proofs.case_of.Reads as reads
-use Rattle.intake.proofs.case_of.Lts as lts
-use Rattle.intake.proofs.examine.Reads as examine-reads
 
 slice-aggregate-examine : tie.Need-slice-aggregate-examine
 slice-aggregate-examine c = search needs

@@ -1,17 +1,8 @@
-use Prim.Native.Nat.{ℕ, _+_, _-_, _<_, _≤_}
-use mathlib.Core.Path.{_≡_, refl, sym, ap, subst, _∙_}
-use mathlib.Core.Logic.{⊎-elim}
-use mathlib.Core.List.{List}
-use native.Mathlib.Omega.{arith}
-use lib.ListN.{length, drop}
+use Prim.Native.Nat.{_-_}
 use Rattle.intake.proofs.Taking.{taken-long, taken-refused, taken-whole}
 use borrow.Author.Needs.{needs}
 use Rattle.intake.proofs.examine.Statement.{statement}
 use Rattle.intake.proofs.examine.Tie as tie
-use Rattle.intake.proofs.examine.Reads as reads
-use Rattle.intake.proofs.examine.Lts as lts
-use Rattle.intake.proofs.test_whole.Reads as test-whole-reads
-use Rattle.walk.proofs.walk.Reads as walk-reads
 
 returns : tie.Need-returns
 returns c = λ hi hl hc he. taken-long _ _ _ _ _ (c .if1 .taken)

@@ -1,6 +1,6 @@
 -- `entry` meets its contract.
 use Rattle.lookup.proofs.Found.{entry-none, entry-some, part-none}
-use Rattle.records.specs.Reading.{partOf}
+use Rattle.reading.specs.Reading.{partOf}
 use denote.Ref.{now}
 use mathlib.Core.Path.{sym, ap, _∙_}
 use borrow.Author.Needs.{needs}

@@ -1,16 +1,10 @@
-use Prim.Native.Nat.{ℕ, _+_, _-_, _<_, _≤_}
-use mathlib.Core.Path.{_≡_, refl, sym, ap, subst, _∙_}
-use mathlib.Core.Logic.{⊎-elim}
-use mathlib.Core.List.{List}
+use Prim.Native.Nat.{_-_}
 use native.Mathlib.Omega.{arith}
 use borrow.Author.Needs.{needs}
-use lib.ListN.{length, drop}
-use lib.ListN.{set, replicate, length-set}
-use Rattle.walk.proofs.Storing.{Cleared, cleared-none, cleared-one, cleared-all}
+use lib.ListN.{length, length-set}
+use Rattle.walk.proofs.Clearing.{Cleared, cleared-none, cleared-one, cleared-all}
 use Rattle.walk.proofs.clear.Statement.{statement}
 use Rattle.walk.proofs.clear.Tie as tie
-use Rattle.walk.proofs.clear.Reads as reads
-use Rattle.walk.proofs.clear.Lts as lts
 
 abbrev Inv-loop : tie.InvT-loop
 Inv-loop a₀ i₀ a i = Cleared a₀ a i

@@ -1,15 +1,9 @@
-use Prim.Native.Nat.{ℕ, _+_, _-_, _<_, _≤_}
-use mathlib.Core.Path.{_≡_, refl, sym, ap, subst, _∙_}
-use mathlib.Core.Logic.{⊎-elim}
-use mathlib.Core.List.{List}
-use native.Mathlib.Omega.{arith}
-use lib.ListN.{length, drop}
+use Prim.Native.Nat.{_-_}
+use mathlib.Core.Path.{sym, ap}
 use Rattle.walk.specs.Walking.{endOf}
 use borrow.Author.Needs.{needs}
 use Rattle.walk.proofs.stopped.Statement.{statement}
 use Rattle.walk.proofs.stopped.Tie as tie
-use Rattle.walk.proofs.stopped.Reads as reads
-use Rattle.walk.proofs.stopped.Lts as lts
 
 enum-told : tie.Need-enum-told
 enum-told c = search needs

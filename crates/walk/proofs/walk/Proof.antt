@@ -1,23 +1,10 @@
-use Rattle.walk.proofs.Turns.{under-way, same-lens-as, same-counts-as, next-turn, next-less}
-use Prim.Native.Nat.{ℕ, _+_, _-_, _<_, _≤_}
-use mathlib.Core.Path.{_≡_, refl, sym, ap, subst, _∙_}
-use mathlib.Core.Logic.{⊎-elim}
-use mathlib.Core.List.{List}
-use native.Mathlib.Omega.{arith}
+use Rattle.walk.proofs.Turns.{under-way, same-lens-as, same-counts-as, next-turn, next-less, Turn, first-turn, ends, falls, turned}
+use Prim.Native.Nat.{_-_}
+use mathlib.Core.Path.{sym, _∙_}
 use borrow.Author.Needs.{needs}
-use lib.ListN.{length, drop}
-use Rattle.walk.proofs.Turns.{Turn, first-turn, ends, falls, turned, goes-on}
+use lib.ListN.{length}
 use Rattle.walk.proofs.walk.Statement.{statement}
 use Rattle.walk.proofs.walk.Tie as tie
-use Rattle.walk.proofs.walk.Reads as reads
-use Rattle.walk.proofs.walk.Lts as lts
-use Rattle.records.proofs.Cursor.next.Reads as next-reads
-use Rattle.records.proofs.payload.Reads as payload-reads
-use Rattle.walk.proofs.clear.Reads as clear-reads
-use Rattle.walk.proofs.enter.Reads as enter-reads
-use Rattle.walk.proofs.stopped.Reads as stopped-reads
-use Rattle.walk.proofs.store.Reads as store-reads
-use Rattle.walk.proofs.test.Reads as test-reads
 
 abbrev Inv-loop : tie.InvT-loop
 Inv-loop file index₀ lens₀ counts₀ c₀ last₀ index lens counts c last = Turn file index₀ lens₀ counts₀ index lens counts (c .at) last

@@ -1,0 +1,89 @@
+-- Tables after a store, and the entries of kinds by their numbers.
+use Prim.Native.Nat.{ℕ, _+_, _<_, _≤_}
+use native.Mathlib.Omega.{arith}
+use mathlib.Core.Path.{_≡_, refl, sym, ap, ap₂, _∙_}
+use mathlib.Core.Bool.{Bool, true, false}
+use mathlib.Core.List.{List}
+use borrow.Author.Tests.{lt-ltb, le-ltb, eq-eqb, ne-eqb}
+use lib.Dec.{ltb, eqb}
+use lib.ListN.{length, getD, set, length-set}
+use lib.Seq.{set-out}
+use Rattle.scheme.specs.Lists.{if_then_else_}
+use Rattle.records.specs.Fields.{word}
+use Rattle.casefile.specs.Kinds.{Kind, sort, constructor, nonterminal, rule, states, transition, type, binding, path, number, kindOf}
+use Rattle.entries.specs.Index.{base}
+use Rattle.enter.specs.Entering.{stored, lensAfter}
+use mathlib.Core.Option.{some}
+use Rattle.casefile.proofs.Passed.{kindOf-number}
+
+pub number-inj : (k k′ : Kind) → number k ≡ number k′ → k ≡ k′
+number-inj k k′ e = some-inj (sym (kindOf-number k) ∙ ap kindOf e ∙ kindOf-number k′)
+  where
+    some-inj : some k ≡ some k′ → k ≡ k′
+    some-inj f = cc
+
+pub stored-set : (a : List ℕ) (i v : ℕ) → v < 65536 → stored a i v ≡ set a i v
+unfolding stored
+stored-set a i v h = simp (lt-ltb v 65536 h)
+
+pub stored-large : (a : List ℕ) (i v : ℕ) → 65535 < v → a ≡ stored a i v
+unfolding stored
+stored-large a i v h = simp (le-ltb v 65536 h)
+
+pub stored-past : (a : List ℕ) (i v : ℕ) → v ≤ 65535 → length a ≤ i → a ≡ stored a i v
+stored-past a i v h l = sym (stored-set a i v (omega arith) ∙ set-out a i v l)
+
+pub stored-length : (a : List ℕ) (i v : ℕ) → length (stored a i v) ≡ length a
+unfolding stored
+stored-length a i v = by (ltb v 65536)
+  where
+    by : (b : Bool) → length (if b then set a i v else a) ≡ length a
+    by true = length-set a i v
+    by false = refl
+
+-- the argument counts after a sort, and after another record
+pub lens-sort : (lens : List ℕ) (kind n : ℕ) (p : List ℕ) (to x : ℕ) (after : List ℕ) → kind ≡ 1 → to ≡ word p 2 → x ≡ getD lens to 0 → after ≡ stored lens (n + 1) (x + 1) → after ≡ lensAfter lens kind n p
+unfolding lensAfter
+lens-sort lens kind n p to x after k et ex e = simp (eq-eqb kind 1 k) (e ∙ ap (λ z. stored lens (n + 1) (z + 1)) (ex ∙ ap (λ z. getD lens z 0) et))
+
+pub lens-other : (lens : List ℕ) (kind n : ℕ) (p : List ℕ) → (kind ≡ 1 → ⊥) → lens ≡ lensAfter lens kind n p
+unfolding lensAfter
+lens-other lens kind n p k = simp (ne-eqb kind 1 k)
+
+pub lens-length : (lens : List ℕ) (kind n : ℕ) (p : List ℕ) → length (lensAfter lens kind n p) ≡ length lens
+unfolding lensAfter
+lens-length lens kind n p = by (eqb kind 1)
+  where
+    by : (b : Bool) → length (if b then stored lens (n + 1) (getD lens (word p 2) 0 + 1) else lens) ≡ length lens
+    by true = stored-length lens (n + 1) (getD lens (word p 2) 0 + 1)
+    by false = refl
+
+-- the block of a kind, by its number
+module _ (kind : ℕ) where
+  abbrev pub Base : ℕ → Type 0
+  Base r = (k : Kind) → kind ≡ number k → r ≡ base k
+
+  pub base-is : (k : Kind) → kind ≡ number k → Base (base k)
+  base-is k e k′ f = ap base (number-inj k k′ (sym e ∙ f))
+
+  pub base-rest : (kind ≡ 1 → ⊥) → (kind ≡ 2 → ⊥) → (kind ≡ 3 → ⊥) → (kind ≡ 4 → ⊥) → (kind ≡ 5 → ⊥) → (kind ≡ 6 → ⊥) → (kind ≡ 7 → ⊥) → (kind ≡ 8 → ⊥) → Base 3169
+  unfolding number
+  base-rest a b c d e f g h sort x = absurd (a x)
+  base-rest a b c d e f g h constructor x = absurd (b x)
+  base-rest a b c d e f g h nonterminal x = absurd (c x)
+  base-rest a b c d e f g h rule x = absurd (d x)
+  base-rest a b c d e f g h states x = absurd (e x)
+  base-rest a b c d e f g h transition x = absurd (f x)
+  base-rest a b c d e f g h type x = absurd (g x)
+  base-rest a b c d e f g h binding x = absurd (h x)
+  base-rest a b c d e f g h path x = refl
+
+-- What a record enters, by what the steps of the program did.
+pub entered-index : (index counts : List ℕ) (kind start n b x : ℕ) {after : List ℕ} → n ≡ getD counts kind 0 → b ≡ x → after ≡ stored index (b + n) start → after ≡ stored index (x + getD counts kind 0) start
+entered-index index counts kind start n b x en eb e = e ∙ ap₂ (λ y z. stored index (y + z) start) eb en
+
+pub entered-lens : (lens counts : List ℕ) (kind n : ℕ) (p after : List ℕ) → n ≡ getD counts kind 0 → after ≡ lensAfter lens kind n p → after ≡ lensAfter lens kind (getD counts kind 0) p
+entered-lens lens counts kind n p after en e = e ∙ ap (λ z. lensAfter lens kind z p) en
+
+pub entered-counts : (counts : List ℕ) (kind n : ℕ) (after : List ℕ) → n ≡ getD counts kind 0 → after ≡ stored counts kind (n + 1) → after ≡ stored counts kind (getD counts kind 0 + 1)
+entered-counts counts kind n after en e = e ∙ ap (λ z. stored counts kind (z + 1)) en

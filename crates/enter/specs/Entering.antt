@@ -1,0 +1,15 @@
+-- The tables of the walk after a record is entered.
+use Prim.Native.Nat.{ℕ, _+_}
+use mathlib.Core.List.{List}
+use lib.Dec.{ltb, eqb}
+use lib.ListN.{getD, set}
+use Rattle.scheme.specs.Lists.{if_then_else_}
+use Rattle.records.specs.Fields.{word}
+
+-- a table after v was stored at i; a number of over two bytes is not stored
+unfoldable pub stored : List ℕ → ℕ → ℕ → List ℕ
+stored a i v = if ltb v 65536 then set a i v else a
+
+-- the argument counts of the sorts after a record of a kind, which is number n of its kind
+unfoldable pub lensAfter : List ℕ → ℕ → ℕ → List ℕ → List ℕ
+lensAfter lens kind n p = if eqb kind 1 then stored lens (n + 1) (getD lens (word p 2) 0 + 1) else lens

@@ -1,0 +1,2 @@
+pub mod Misfits
+pub mod Offers

@@ -1,0 +1,3 @@
+pub mod Whole
+pub mod Contents
+pub mod Planning

@@ -1,0 +1,32 @@
+-- What the tests of the plan give, 8 and 9, for records that all passed.
+use Prim.Native.Nat.{ℕ, _≤_}
+use mathlib.Core.Path.{_≡_}
+use mathlib.Core.Bool.{false, _||_, not}
+use mathlib.Core.List.{List}
+use mathlib.Core.Option.{none, some}
+use lib.Dec.{eqb}
+use lib.ListN.{length}
+use Rattle.records.specs.Records.{Record}
+use Rattle.casefile.specs.Kinds.{Kind, ofKind, payloads, count}
+use Rattle.casefile.specs.Tables.{aritiesOf, signaturesOf}
+use Rattle.casefile.specs.Refusals.{first, wrongStart, wrongBodies, refuseWhole}
+use Rattle.rule_bodies.specs.RuleBodies.{nodesIn}
+use Rattle.casefile.proofs.Passed.{Passed}
+use Rattle.kinds.specs.Known.{Known}
+use Rattle.plan_tests.specs.declared.Plan.{Plan}
+use Rattle.plan_tests.specs.declared.Plan.the-variants.{Fine, Refused as Wrong}
+
+-- 8 and 9 are not met
+pub record PlanFine (rs : List Record) : Type 0 where
+  pub counts-right : (eqb (count Kind.states rs) 0 || eqb (count Kind.nonterminal rs) 0 || not (eqb (count Kind.rule rs) (count Kind.nonterminal rs))) ≡ false
+  pub start-right : first (wrongStart (ofKind Kind.nonterminal rs)) ≡ none
+  pub bodies-right : first (wrongBodies (aritiesOf rs) (signaturesOf rs) (signaturesOf rs) (ofKind Kind.rule rs)) ≡ none
+
+-- what the tests of the plan come to, for any number of flags
+unfoldable pub PlanEnds : List Record → Plan → Type 0
+PlanEnds rs Fine = PlanFine rs
+PlanEnds rs (Wrong n p) = (flags : ℕ) → refuseWhole rs flags ≡ some (record { number = n; place = p })
+
+-- 8 and 9, where the table of ends has room
+abbrev pub TestsPlan : List ℕ → List ℕ → List ℕ → List ℕ → Plan → Type 0
+TestsPlan file index counts ends r = (lens : List ℕ) (rs : List Record) → Known file index lens counts rs → Passed rs → nodesIn (payloads Kind.rule rs) ≤ length ends → PlanEnds rs r

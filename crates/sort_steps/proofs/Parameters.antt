@@ -1,0 +1,50 @@
+-- The sorts of parameters, along the numbers of a nonterminal's sort.
+use Prim.Native.Nat.{ℕ, zero, suc, _-_, _<_}
+use mathlib.Core.Path.{_≡_, refl, ap, _∙_}
+use mathlib.Core.List.{List, _∷_}
+use native.Mathlib.Omega.{arith}
+use lib.ListN.{length, getD}
+use Rattle.scheme.specs.Sorts.{Sort, o, arguments}
+use Rattle.sort_codes.specs.Sorted.{SortArrays, ParameterSort}
+
+-- a sort that has arguments is listed with the first one's number and that of the rest
+arguments-step : {sorts : List Sort} {n : ℕ} {froms tos : List ℕ} → SortArrays sorts n froms tos → (s l : ℕ) → s < n → l < length (arguments (getD sorts s o))
+    → (0 < s) × (arguments (getD sorts s o) ≡ getD sorts (getD froms s 0) o ∷ arguments (getD sorts (getD tos s 0) o))
+unfolding arguments
+arguments-step w zero l h k = absurd (let e = w .start in let q = rw e at k in omega arith)
+arguments-step w (suc s) l h k = (omega arith, ap arguments (w .made (suc s) (omega arith) h))
+
+-- argument `left` of sort s is parameter j of sort own
+abbrev pub Along : List ℕ → List ℕ → ℕ → ℕ → ℕ → ℕ → Type 0
+Along froms tos own j s left =
+    (sorts : List Sort) → SortArrays sorts (length sorts) froms tos → own < length sorts → j < length (arguments (getD sorts own o))
+    → (s < length sorts) × (left < length (arguments (getD sorts s o))) × (getD (arguments (getD sorts s o)) left o ≡ getD (arguments (getD sorts own o)) j o)
+
+pub along-start : (froms tos : List ℕ) (own j : ℕ) → Along froms tos own j own j
+along-start froms tos own j sorts w h k = (h, k, refl)
+
+-- one argument on
+next-argument : {sorts : List Sort} {n : ℕ} {froms tos : List ℕ} → SortArrays sorts n froms tos → (s left : ℕ) (x : Sort) → 0 < left → s < n → left < length (arguments (getD sorts s o)) → getD (arguments (getD sorts s o)) left o ≡ x
+    → (getD tos s 0 < n) × (left - 1 < length (arguments (getD sorts (getD tos s 0) o))) × (getD (arguments (getD sorts (getD tos s 0) o)) (left - 1) o ≡ x)
+next-argument w s zero x p h k e = absurd (omega arith)
+next-argument {sorts} {n} {froms} {tos} w s (suc l) x p h k e =
+    let (q, f) = arguments-step w s (suc l) h k in
+    let b = w .to-below s q h in
+    let k′ = rw f at k in
+    let e′ = rw f at e in
+    let z : suc l - 1 ≡ l = omega arith in
+    (omega arith, omega arith, ap (λ i. getD (arguments (getD sorts (getD tos s 0) o)) i o) z ∙ e′)
+
+pub along-next : (froms tos : List ℕ) (own j s left r : ℕ) → Along froms tos own j s left → 0 < left → r ≡ getD tos s 0 → Along froms tos own j r (left - 1)
+along-next froms tos own j s left r a p er sorts w h k =
+    let (x, y, z) = a sorts w h k in
+    rw er (next-argument w s left (getD (arguments (getD sorts own o)) j o) p x y z)
+
+pub along-end : (froms tos : List ℕ) (own j s left r : ℕ) → Along froms tos own j s left → left ≡ 0 → r ≡ getD froms s 0 → ParameterSort froms tos own j r
+along-end froms tos own j s left r a z er sorts w h k =
+    let (x, y, e) = a sorts w h k in
+    let (p, f) = arguments-step w s left x y in
+    let b = w .from-below s p x in
+    let e₀ : getD (arguments (getD sorts s o)) 0 o ≡ getD (arguments (getD sorts own o)) j o = rw z at e in
+    let e₁ = rw f at e₀ in
+    rw er (omega arith, e₁)

@@ -1,0 +1,36 @@
+// Sorts by code, one step on: the sort of a parameter, and a sort with an argument off.
+use entries::place_at;
+ghost use Rattle.sort_codes.specs.Sorted.{Applied, ParameterSort};
+
+// The number of the sort of parameter j of a nonterminal whose sort has the number `own`.
+pub fn parameter(froms: &[u16], tos: &[u16], own: usize, j: usize) -> usize
+    ensures { λ r. ⌜ ParameterSort (now (froms .entry)) (now (tos .entry)) own j r ⌝ }
+{
+    let mut s = own;
+    let mut steps = j;
+    while 0 < steps {
+        s = place_at(tos, s);
+        steps -= 1;
+    }
+    place_at(froms, s)
+}
+
+// The code of a head's sort with one argument off; 2000 where the argument does not fit.
+pub fn apply(froms: &[u16], tos: &[u16], trees: &[u16], head: usize, argument: usize) -> usize
+    ensures { λ r. ⌜ Applied (now (froms .entry)) (now (tos .entry)) (now (trees .entry)) head argument r ⌝ }
+{
+    if 1000 < head {
+        if argument != 0 {
+            return 2000;
+        }
+        return place_at(trees, head - 1001);
+    }
+    if head == 0 {
+        return 2000;
+    }
+    let from = place_at(froms, head);
+    if argument != from {
+        return 2000;
+    }
+    place_at(tos, head)
+}

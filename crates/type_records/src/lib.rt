@@ -1,0 +1,94 @@
+// The test of a type record, 4 to 7.
+use records::byte_at;
+use records::word_at;
+use repeats::repeats;
+ghost use mathlib.Core.Path.{_≡_};
+ghost use Prim.Native.Nat.{ℕ};
+ghost use lib.ListN.{length, drop};
+ghost use lib.Dec.{leb};
+ghost use Rattle.scheme.specs.Lists.{any};
+ghost use Rattle.casefile.specs.Tables.{words};
+ghost use Rattle.casefile.specs.Refusals.{ascends};
+ghost use Rattle.entries.specs.Tests.{TestsType};
+
+// Whether one of the payload's numbers, of two bytes each, is n or more.
+fn names_later(p: &[u8], n: usize) -> bool
+    ensures { λ r. ⌜ r ≡ any (λ (t : ℕ). leb n t) (words (now (p .entry))) ⌝ }
+{
+    let mut i: usize = 0;
+    while 2 <= p.len() - i {
+        let t = word_at(p, i);
+        if n <= t {
+            return true;
+        }
+        i = i + 2;
+    }
+    false
+}
+
+// Whether the members of a type's payload ascend strictly; they stand behind its result.
+fn members_ascend(p: &[u8]) -> bool
+    ensures { λ r. ⌜ r ≡ ascends (words (drop 2 (now (p .entry)))) ⌝ }
+{
+    if p.len() < 4 {
+        return true;
+    }
+    let mut last = word_at(p, 2);
+    let mut i: usize = 4;
+    while 2 <= p.len() - i {
+        let m = word_at(p, i);
+        if m <= last {
+            return false;
+        }
+        last = m;
+        i = i + 2;
+    }
+    true
+}
+
+// The code of the payload p of a type after n types, with so many states.
+pub fn test_type(file: &[u8], index: &[u16], n: usize, states: usize, p: &[u8]) -> usize
+    ensures { λ r. ⌜ TestsType (now (file .entry)) (now (index .entry)) n states (now (p .entry)) r ⌝ }
+{
+    if p.len() == 1 {
+        return test_state(file, index, n, states, p);
+    }
+    if p.len() < 2 {
+        return 4;
+    }
+    if 34 < p.len() {
+        return 4;
+    }
+    if p.len() % 2 != 0 {
+        return 4;
+    }
+    if 1024 <= n {
+        return 5;
+    }
+    if names_later(p, n) {
+        return 6;
+    }
+    if !members_ascend(p) {
+        return 7;
+    }
+    if repeats(file, index, 1120, n, p) {
+        return 7;
+    }
+    0
+}
+
+// The same for a payload of one byte, a state.
+fn test_state(file: &[u8], index: &[u16], n: usize, states: usize, p: &[u8]) -> usize
+    ensures { λ r. ⌜ (length (now (p .entry)) ≡ 1 → TestsType (now (file .entry)) (now (index .entry)) n states (now (p .entry)) r) ⌝ }
+{
+    if 1024 <= n {
+        return 5;
+    }
+    if states <= byte_at(p, 0) {
+        return 6;
+    }
+    if repeats(file, index, 1120, n, p) {
+        return 7;
+    }
+    0
+}

@@ -1,0 +1,35 @@
+-- A table that is cleared.
+use Prim.Native.Nat.{ℕ, zero, suc, _+_, _<_, _≤_}
+use native.Mathlib.Omega.{arith}
+use mathlib.Core.Path.{_≡_, refl, sym, ap, _∙_}
+use mathlib.Core.List.{List, [], _∷_, _++_}
+use lib.ListN.{length, take, set, replicate, length-set}
+use lib.Seq.{take-length, take-suc-set}
+
+-- A table that is cleared from its start on.
+pub record Cleared (before after : List ℕ) (i : ℕ) : Type 0 where
+  pub inside : i ≤ length after
+  pub long : length after ≡ length before
+  pub zeros : take i after ≡ replicate i 0
+
+pub cleared-none : (a : List ℕ) → Cleared a a 0
+cleared-none a = record { inside = omega arith; long = refl; zeros = refl }
+
+replicate-more : (x n : ℕ) → replicate n x ++ (x ∷ []) ≡ replicate (suc n) x
+replicate-more x zero = refl
+replicate-more x (suc n) = ap (x ∷_) (replicate-more x n)
+
+pub cleared-one : (b a : List ℕ) (i : ℕ) → i < length a → Cleared b a i → Cleared b (set a i 0) (i + 1)
+cleared-one b a i h c =
+    let one : suc i ≡ i + 1 = omega arith in
+    let long = length-set a i 0 in
+    record {
+      inside = omega arith;
+      long = long ∙ c .long;
+      zeros = ap (λ m. take m (set a i 0)) (sym one) ∙ take-suc-set a i 0 h ∙ ap (λ l. l ++ (0 ∷ [])) (c .zeros) ∙ replicate-more 0 i ∙ ap (λ m. replicate m 0) one;
+    }
+
+pub cleared-all : (b a : List ℕ) (i : ℕ) → Cleared b a i → length a ≤ i → a ≡ replicate (length b) 0
+cleared-all b a i c h =
+    let e : i ≡ length a = (let l = c .inside in omega arith) in
+    sym (take-length a) ∙ ap (λ m. take m a) (sym e) ∙ c .zeros ∙ ap (λ m. replicate m 0) (e ∙ c .long)

@@ -1,0 +1,37 @@
+-- What the tests over the whole file give, 8 to 12, for records that all passed.
+use Prim.Native.Nat.{ℕ, _<_, _≤_}
+use mathlib.Core.Path.{_≡_}
+use mathlib.Core.List.{List, []}
+use mathlib.Core.Option.{none, some}
+use lib.ListN.{length}
+use Rattle.records.specs.Records.{Record}
+use Rattle.casefile.specs.Kinds.{Kind, payloads, count}
+use Rattle.casefile.specs.Refusals.{refuseWhole}
+use Rattle.entries.specs.Index.{Indexed}
+use Rattle.misfits.specs.Misfits.{FirstMisfit}
+use Rattle.rule_bodies.specs.RuleBodies.{nodesIn}
+use Rattle.casefile.proofs.Passed.{Passed}
+use Rattle.kinds.specs.Known.{Known}
+use Rattle.whole_file.specs.declared.Case.{Case}
+use Rattle.whole_file.specs.declared.Case.the-variants.{Refused, Bindings, Path}
+use Rattle.plan_tests.specs.PlanTests.{PlanFine}
+
+-- what the tests over the whole file come to, 8 to 12, for records that all passed
+unfoldable pub WholeEnds : List Record → ℕ → Case → Type 0
+WholeEnds rs flags (Refused n p) = refuseWhole rs flags ≡ some (record { number = n; place = p })
+WholeEnds rs flags Bindings = (refuseWhole rs flags ≡ none) × (payloads Kind.path rs ≡ [])
+WholeEnds rs flags Path = (refuseWhole rs flags ≡ none) × (0 < count Kind.path rs)
+
+-- the tests of the evidence, 10 to 12, after those of the plan
+abbrev pub TestsEvidence : List ℕ → List ℕ → List ℕ → ℕ → Case → Type 0
+TestsEvidence file index counts flags r = (lens : List ℕ) (rs : List Record) → Known file index lens counts rs → Passed rs → PlanFine rs → WholeEnds rs flags r
+
+-- the first binding that does not fit, or the number of bindings
+abbrev pub FindsFirst : List ℕ → List ℕ → ℕ → ℕ → ℕ → ℕ → Type 0
+FindsFirst file index types sorts bindings r =
+    (rs : List Record) → Passed rs → Indexed file index Kind.type types rs → Indexed file index Kind.sort sorts rs → Indexed file index Kind.binding bindings rs
+    → (n : ℕ) → Indexed file index Kind.nonterminal n rs → types ≤ 1024 → sorts ≤ 64 → bindings ≤ 1024 → FirstMisfit rs bindings r
+
+-- 8 to 12
+abbrev pub TestsWhole : List ℕ → List ℕ → List ℕ → ℕ → List ℕ → Case → Type 0
+TestsWhole file index counts flags ends r = (lens : List ℕ) (rs : List Record) → Known file index lens counts rs → Passed rs → nodesIn (payloads Kind.rule rs) ≤ length ends → WholeEnds rs flags r
