@@ -52,7 +52,7 @@ module _ (file : List ℕ) (flags : ℕ) (index lens counts : List ℕ) where
         by : (r : Case) → WholeEnds (listed (recordsOf file)) flags r → Taken file flags index lens counts r
         by (is.Refused n p) f = record { is-case = sym (case-is ∙ all .left flags ∙ ap (λ z. unlessRefused z (acceptedCase rs (payloads Kind.path rs))) f); tables = tt }
         by is.Bindings (f, g) = record { is-case = sym (case-is ∙ all .left flags ∙ ap (λ z. unlessRefused z (acceptedCase rs (payloads Kind.path rs))) f ∙ ap (acceptedCase rs) g); tables = tables }
-        by is.Path (f, g) = record { is-case = sym (case-is ∙ all .left flags ∙ ap (λ z. unlessRefused z (acceptedCase rs (payloads Kind.path rs))) f ∙ first-path (payloads Kind.path rs) (let a = count-payloads Kind.path rs in omega arith)); tables = tables }
+        by is.Path (f, g) = record { is-case = sym (case-is ∙ all .left flags ∙ ap (λ z. unlessRefused z (acceptedCase rs (payloads Kind.path rs))) f ∙ first-path (payloads Kind.path rs) (let a = count-payloads Kind.path rs in omega arith)); tables = (tables, g) }
           where
             first-path : (l : List (List ℕ)) → 0 < length l → acceptedCase rs l ≡ pathCase rs (getD l 0 [])
             first-path [] h = absurd (omega arith)

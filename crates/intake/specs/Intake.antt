@@ -1,10 +1,10 @@
 -- What the intake of a file answers: a refusal by 1 to 12, a binding case or a path case, with the tables of its records.
-use Prim.Native.Nat.{ℕ, _≤_}
+use Prim.Native.Nat.{ℕ, _<_, _≤_}
 use mathlib.Core.Path.{_≡_}
 use mathlib.Core.List.{List, []}
 use lib.ListN.{length, getD}
 use Rattle.records.specs.Records.{recordsOf, listed}
-use Rattle.casefile.specs.Kinds.{Kind, payloads}
+use Rattle.casefile.specs.Kinds.{Kind, payloads, count}
 use Rattle.casefile.specs.Cases.{refusedCase, bindingCase, pathCase, caseOf}
 use Rattle.casefile.specs.Cases
 use Rattle.casefile.proofs.Passed.{Passed}
@@ -23,11 +23,11 @@ pub record Tables (file index lens counts : List ℕ) : Type 0 where
   pub passed : Passed (listed (recordsOf file))
   pub known : Known file index lens counts (listed (recordsOf file))
 
--- a file that is not refused leaves its tables
+-- a file that is not refused leaves its tables; a path case has a path
 unfoldable pub Leaves : List ℕ → List ℕ → List ℕ → List ℕ → Case → Type 0
 Leaves file index lens counts (Refused n p) = Unit {0}
 Leaves file index lens counts Bindings = Tables file index lens counts
-Leaves file index lens counts Path = Tables file index lens counts
+Leaves file index lens counts Path = Tables file index lens counts × (0 < count Kind.path (listed (recordsOf file)))
 
 -- the promise of the intake: the case of the definitions, and its tables
 pub record Taken (file : List ℕ) (flags : ℕ) (index lens counts : List ℕ) (r : Case) : Type 0 where

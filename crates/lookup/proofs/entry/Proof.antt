@@ -6,11 +6,6 @@ use mathlib.Core.Path.{sym, ap, _∙_}
 use borrow.Author.Needs.{needs}
 use Rattle.lookup.proofs.entry.Statement.{statement}
 use Rattle.lookup.proofs.entry.Tie as tie
-use Rattle.lookup.proofs.entry.Reads as reads
-use Rattle.lookup.proofs.entry.Lts as lts
-use Rattle.entries.proofs.place_at.Reads as place-at-reads
-use Rattle.records.proofs.payload.Reads as payload-reads
-use Rattle.records.proofs.word_at.Reads as word-at-reads
 
 -- src/lib.rt:12:9
 place-at-requires : tie.Need-place-at-requires

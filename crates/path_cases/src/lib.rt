@@ -1,0 +1,68 @@
+// A case file with a path: refused by 1 to 15, or refuted. A binding case is named and not judged.
+use intake::examine;
+use replay::Replayed;
+use replay::replay_path;
+use whole_file::Case;
+ghost use mathlib.Core.Path.{_≡_};
+ghost use lib.ListN.{length};
+ghost use Rattle.casefile.specs.Cases.{caseOf};
+ghost use Rattle.path_cases.specs.PathAnswers.{answerTo, answerOf, RefutedExactly};
+
+// The answer to a file.
+pub enum Answer {
+    Refuted {
+        letters: usize,
+        state: usize,
+        constructor: usize,
+    },
+    Refused {
+        number: usize,
+        place: usize,
+    },
+    Bindings,
+}
+
+// What a path comes to, as the answer to its file.
+fn answered(path: Replayed) -> Answer
+    ensures { λ r. ⌜ r ≡ answerOf path ⌝ }
+{
+    match path {
+        Replayed::Refuted {
+            letters,
+            state,
+            constructor,
+        } => Answer::Refuted {
+            letters,
+            state,
+            constructor,
+        },
+        Replayed::Refused { number, place } => Answer::Refused { number, place },
+    }
+}
+
+// The answer to a file, with the flags that are lent; they are left as they are.
+pub fn path_case(file: &[u8], flags: &mut [u8]) -> Answer
+    ensures answer { λ r. ⌜ r ≡ answerTo (caseOf (now (file .entry)) (length (now (flags .entry)))) ⌝ }
+    ensures refuted { λ r. ⌜ RefutedExactly (now (file .entry)) (length (now (flags .entry))) r ⌝ }
+    ensures flags { λ _. ⌜ now (flags .exit) ≡ now (flags .entry) ⌝ }
+{
+    let mut index = [0u16; 3170];
+    let mut lens = [0u16; 65];
+    let mut counts = [0u16; 10];
+    let mut ends = [0u16; 15000];
+    let mut fit = [0u8; 66560];
+    let case = examine(
+        file,
+        flags.len(),
+        &mut index,
+        &mut lens,
+        &mut counts,
+        &mut ends,
+        &mut fit,
+    );
+    match case {
+        Case::Refused { number, place } => Answer::Refused { number, place },
+        Case::Bindings => Answer::Bindings,
+        Case::Path => answered(replay_path(file, &index, &counts)),
+    }
+}
