@@ -6,9 +6,9 @@ mod paths;
 mod reducer;
 
 use libc::STDOUT_FILENO;
+use path_cases::Answer;
 use reducer::Outcome;
 use reducer::Plan;
-use path_cases::Answer;
 ghost use Prim.Native.Nat.{_≤_};
 
 // How many paths are drawn for a plan.
