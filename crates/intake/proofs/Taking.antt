@@ -3,11 +3,12 @@ use Prim.Native.Nat.{ℕ, _<_, _≤_}
 use native.Mathlib.Omega.{arith}
 use mathlib.Core.Path.{_≡_, refl, sym, ap, _∙_}
 use mathlib.Core.List.{List, [], _∷_}
+use mathlib.Core.Option.{none}
 use borrow.Author.Tests.{lt-ltb, le-ltb}
 use lib.ListN.{length, getD}
 use Rattle.records.specs.Records.{Record, recordsOf, listed}
 use Rattle.casefile.specs.Kinds.{Kind, payloads}
-use Rattle.casefile.specs.Refusals.{tooLong}
+use Rattle.casefile.specs.Refusals.{tooLong, refuseWhole}
 use Rattle.casefile.specs.Cases.{pathCase, unlessRefused, acceptedCase, caseFrom, caseOf}
 use Rattle.casefile.proofs.TypeTable.{count-payloads}
 use Rattle.rules.proofs.Room.{room-enough}
@@ -17,11 +18,11 @@ use Rattle.walk.specs.declared.Walked.the-variants as walked
 use Rattle.whole_file.specs.declared.Case.{Case}
 use Rattle.whole_file.specs.declared.Case.the-variants as is
 use Rattle.intake.specs.Intake.{caseAs, Tables, Leaves, Taken}
-use Rattle.whole_file.specs.Whole.{WholeEnds, TestsWhole}
+use Rattle.whole_file.specs.Whole.{WholeEnds, WholeTested, TestsWhole}
 
-module _ (file : List ℕ) (flags : ℕ) (index lens counts : List ℕ) where
+module _ (file : List ℕ) (flags : ℕ) (index lens counts ends : List ℕ) where
   -- 1
-  pub taken-long : 60000 < length file → Taken file flags index lens counts (is.Refused 1 0)
+  pub taken-long : 60000 < length file → Taken file flags index lens counts ends (is.Refused 1 0)
   unfolding caseAs Leaves caseOf tooLong
   taken-long h = record { is-case = sym (simp (lt-ltb 60000 (length file) h)); tables = tt }
 
@@ -31,14 +32,14 @@ module _ (file : List ℕ) (flags : ℕ) (index lens counts : List ℕ) where
     case-is = simp (le-ltb 60000 (length file) short)
 
     -- 2 to 7
-    pub taken-refused : (n p : ℕ) (w : Walked) → w ≡ walked.Refused n p → WalkEnds file index lens counts w → Taken file flags index lens counts (is.Refused n p)
+    pub taken-refused : (n p : ℕ) (w : Walked) → w ≡ walked.Refused n p → WalkEnds file index lens counts w → Taken file flags index lens counts ends (is.Refused n p)
     unfolding WalkEnds caseAs Leaves
     taken-refused n p w e h = record { is-case = sym (case-is ∙ (let k : WalkEnds file index lens counts (walked.Refused n p) = rw e at h in k flags)); tables = tt }
 
     -- 8 to 12, or none
-    pub taken-whole : (w : Walked) → w ≡ walked.Read → WalkEnds file index lens counts w → (ends : List ℕ) → 15000 ≤ length ends → (r : Case) → TestsWhole file index counts flags ends r → Taken file flags index lens counts r
+    pub taken-whole : (w : Walked) → w ≡ walked.Read → WalkEnds file index lens counts w → (before : List ℕ) → 15000 ≤ length before → (r : Case) → TestsWhole file index counts flags before ends r → Taken file flags index lens counts ends r
     unfolding WalkEnds WholeEnds caseAs Leaves unlessRefused acceptedCase
-    taken-whole w e h ends room r tests = by r (tests lens rs (all .known) (all .passed) (room-enough file ends short room))
+    taken-whole w e h before room r tests = by r (tested .verdict)
       where
         all : AllRead file index lens counts
         all = rw e at h
@@ -46,13 +47,16 @@ module _ (file : List ℕ) (flags : ℕ) (index lens counts : List ℕ) where
         rs : List Record
         rs = listed (recordsOf file)
 
-        tables : Tables file index lens counts
-        tables = record { passed = all .passed; known = all .known }
+        tested : WholeTested rs flags ends r
+        tested = tests lens rs (all .known) (all .passed) (room-enough file before short room)
 
-        by : (r : Case) → WholeEnds (listed (recordsOf file)) flags r → Taken file flags index lens counts r
+        tables : refuseWhole rs flags ≡ none → Tables file index lens counts ends
+        tables f = record { passed = all .passed; known = all .known; ends-are = tested .ends-are f }
+
+        by : (r : Case) → WholeEnds (listed (recordsOf file)) flags r → Taken file flags index lens counts ends r
         by (is.Refused n p) f = record { is-case = sym (case-is ∙ all .left flags ∙ ap (λ z. unlessRefused z (acceptedCase rs (payloads Kind.path rs))) f); tables = tt }
-        by is.Bindings (f, g) = record { is-case = sym (case-is ∙ all .left flags ∙ ap (λ z. unlessRefused z (acceptedCase rs (payloads Kind.path rs))) f ∙ ap (acceptedCase rs) g); tables = tables }
-        by is.Path (f, g) = record { is-case = sym (case-is ∙ all .left flags ∙ ap (λ z. unlessRefused z (acceptedCase rs (payloads Kind.path rs))) f ∙ first-path (payloads Kind.path rs) (let a = count-payloads Kind.path rs in omega arith)); tables = (tables, g) }
+        by is.Bindings (f, g) = record { is-case = sym (case-is ∙ all .left flags ∙ ap (λ z. unlessRefused z (acceptedCase rs (payloads Kind.path rs))) f ∙ ap (acceptedCase rs) g); tables = tables f }
+        by is.Path (f, g) = record { is-case = sym (case-is ∙ all .left flags ∙ ap (λ z. unlessRefused z (acceptedCase rs (payloads Kind.path rs))) f ∙ first-path (payloads Kind.path rs) (let a = count-payloads Kind.path rs in omega arith)); tables = (tables f, g) }
           where
             first-path : (l : List (List ℕ)) → 0 < length l → acceptedCase rs l ≡ pathCase rs (getD l 0 [])
             first-path [] h = absurd (omega arith)

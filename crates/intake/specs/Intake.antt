@@ -9,6 +9,7 @@ use Rattle.casefile.specs.Cases.{refusedCase, bindingCase, pathCase, caseOf}
 use Rattle.casefile.specs.Cases
 use Rattle.casefile.proofs.Passed.{Passed}
 use Rattle.kinds.specs.Known.{Known}
+use Rattle.plan_tests.specs.PlanTests.{EndsAre}
 use Rattle.whole_file.specs.declared.Case.{Case}
 use Rattle.whole_file.specs.declared.Case.the-variants.{Refused, Bindings, Path}
 
@@ -18,22 +19,24 @@ caseAs file (Refused n p) = refusedCase (record { number = n; place = p })
 caseAs file Bindings = bindingCase (listed (recordsOf file))
 caseAs file Path = pathCase (listed (recordsOf file)) (getD (payloads Kind.path (listed (recordsOf file))) 0 [])
 
--- the tables hold the records of the file, which all passed
-pub record Tables (file index lens counts : List ℕ) : Type 0 where
+-- the tables hold the records of the file, which all passed, and the ends of the subterms of its bodies
+pub record Tables (file index lens counts ends : List ℕ) : Type 0 where
   pub passed : Passed (listed (recordsOf file))
   pub known : Known file index lens counts (listed (recordsOf file))
+  pub ends-are : EndsAre (listed (recordsOf file)) ends
 
 -- a file that is not refused leaves its tables; a path case has a path
-unfoldable pub Leaves : List ℕ → List ℕ → List ℕ → List ℕ → Case → Type 0
-Leaves file index lens counts (Refused n p) = Unit {0}
-Leaves file index lens counts Bindings = Tables file index lens counts
-Leaves file index lens counts Path = Tables file index lens counts × (0 < count Kind.path (listed (recordsOf file)))
+unfoldable pub Leaves : List ℕ → List ℕ → List ℕ → List ℕ → List ℕ → Case → Type 0
+Leaves file index lens counts ends (Refused n p) = Unit {0}
+Leaves file index lens counts ends Bindings = Tables file index lens counts ends
+Leaves file index lens counts ends Path = Tables file index lens counts ends × (0 < count Kind.path (listed (recordsOf file)))
 
 -- the promise of the intake: the case of the definitions, and its tables
-pub record Taken (file : List ℕ) (flags : ℕ) (index lens counts : List ℕ) (r : Case) : Type 0 where
+pub record Taken (file : List ℕ) (flags : ℕ) (index lens counts ends : List ℕ) (r : Case) : Type 0 where
   pub is-case : caseAs file r ≡ caseOf file flags
-  pub tables : Leaves file index lens counts r
+  pub tables : Leaves file index lens counts ends r
 
 -- the promise of the intake, for tables of the right sizes
-abbrev pub Examines : List ℕ → ℕ → List ℕ → List ℕ → List ℕ → List ℕ → List ℕ → List ℕ → List ℕ → Case → Type 0
-Examines file flags index lens counts ends index′ lens′ counts′ r = length index ≡ 3170 → length lens ≡ 65 → length counts ≡ 10 → 15000 ≤ length ends → Taken file flags index′ lens′ counts′ r
+abbrev pub Examines : List ℕ → ℕ → List ℕ → List ℕ → List ℕ → List ℕ → List ℕ → List ℕ → List ℕ → List ℕ → Case → Type 0
+Examines file flags index lens counts ends index′ lens′ counts′ ends′ r =
+    length index ≡ 3170 → length lens ≡ 65 → length counts ≡ 10 → 15000 ≤ length ends → Taken file flags index′ lens′ counts′ ends′ r

@@ -18,7 +18,7 @@ pub fn examine(
     ends: &mut [u16],
     fit: &mut [u8; 66560],
 ) -> Case
-    ensures { λ r. ⌜ Examines (now (file .entry)) flags (now (index .entry)) (now (lens .entry)) (now (counts .entry)) (now (ends .entry)) (now (index .exit)) (now (lens .exit)) (now (counts .exit)) r ⌝ }
+    ensures { λ r. ⌜ Examines (now (file .entry)) flags (now (index .entry)) (now (lens .entry)) (now (counts .entry)) (now (ends .entry)) (now (index .exit)) (now (lens .exit)) (now (counts .exit)) (now (ends .exit)) r ⌝ }
 {
     if 60000 < file.len() {
         return Case::Refused {

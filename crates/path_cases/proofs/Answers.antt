@@ -45,7 +45,7 @@ answer-path (Refuted′ n q c) = refl
 answer-path (Refused′ n k) = refl
 
 -- the answer, by what the intake took the file for
-module _ {file : List ℕ} {flags : ℕ} {index lens counts : List ℕ} {r : Case} (w : Taken file flags index lens counts r) where
+module _ {file : List ℕ} {flags : ℕ} {index lens counts ends : List ℕ} {r : Case} (w : Taken file flags index lens counts ends r) where
   pub answer-refused : (n p : ℕ) → r ≡ RefusedCase n p → Refused n p ≡ answerTo (caseOf file flags)
   unfolding answerTo caseAs
   answer-refused n p e = ap answerTo (sym (ap (caseAs file) e) ∙ w .is-case)
@@ -60,7 +60,7 @@ module _ {file : List ℕ} {flags : ℕ} {index lens counts : List ℕ} {r : Cas
       let rs = listed (recordsOf file) in
       let letters = getD (payloads Kind.path rs) 0 [] in
       let is : caseOf file flags ≡ pathCase rs letters = sym (w .is-case) ∙ ap (caseAs file) e in
-      let (tables, there) = subst (Leaves file index lens counts) e (w .tables) in
+      let (tables, there) = subst (Leaves file index lens counts ends) e (w .tables) in
       let accepted = path-case flags file rs letters is .0 in
       ea ∙ answer-path p
       ∙ ap answerTo-path (replays .answer lens rs flags (tables .known) (tables .passed) (accepted .whole-file) there)

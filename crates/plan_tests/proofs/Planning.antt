@@ -22,7 +22,7 @@ use Rattle.rules.specs.Rules.{Filed, FindsWrongBody, BodiesRead}
 use Rattle.kinds.specs.Known.{Known}
 use Rattle.kinds.proofs.Dispatch.{fitting}
 use Rattle.plan_tests.specs.declared.Plan.the-variants as plan
-use Rattle.plan_tests.specs.PlanTests.{PlanEnds}
+use Rattle.plan_tests.specs.PlanTests.{PlanEnds, EndsAre, PlanTested}
 use Rattle.plan_tests.proofs.Whole.{met-8, met-start, met-body, start-wrong, start-right}
 use Rattle.plan_tests.proofs.Contents.{payload-bytes}
 
@@ -113,3 +113,12 @@ module _ {file index counts lens : List ℕ} {rs : List Record} (known : Known f
         pub plan-fine : rules ≤ g → PlanEnds rs plan.Fine
         unfolding PlanEnds
         plan-fine h = record { counts-right = no8; start-right = start-fine; bodies-right = found .none-refused (let w = found .within in omega arith) }
+
+        -- the ends of the subterms
+        pub plan-ends : rules ≤ g → EndsAre rs ends′
+        unfolding number
+        plan-ends h f i hf hi = found .ends-are (let w = found .within in omega arith) f i (let c = known .entries rule .counted in omega arith) hi
+
+-- a refusal leaves nothing to say of the ends
+pub refused-tested : {rs : List Record} {ends : List ℕ} {n p : ℕ} → PlanEnds rs (plan.Refused n p) → PlanTested rs ends (plan.Refused n p)
+refused-tested v = record { verdict = v; ends-are = λ e. let z : _≡_ {A = ℕ} 0 1 = cc in absurd (omega arith) }

@@ -1,16 +1,16 @@
 -- What the tests of the plan give, 8 and 9, for records that all passed.
-use Prim.Native.Nat.{ℕ, _≤_}
+use Prim.Native.Nat.{ℕ, _+_, _/_, _<_, _≤_}
 use mathlib.Core.Path.{_≡_}
 use mathlib.Core.Bool.{false, _||_, not}
 use mathlib.Core.List.{List}
 use mathlib.Core.Option.{none, some}
 use lib.Dec.{eqb}
-use lib.ListN.{length}
+use lib.ListN.{length, getD}
 use Rattle.records.specs.Records.{Record}
 use Rattle.casefile.specs.Kinds.{Kind, ofKind, payloads, count}
 use Rattle.casefile.specs.Tables.{aritiesOf, signaturesOf}
 use Rattle.casefile.specs.Refusals.{first, wrongStart, wrongBodies, refuseWhole}
-use Rattle.rule_bodies.specs.RuleBodies.{nodesIn}
+use Rattle.rule_bodies.specs.RuleBodies.{nodesIn, ruleOf, firstNode, endAt}
 use Rattle.casefile.proofs.Passed.{Passed}
 use Rattle.kinds.specs.Known.{Known}
 use Rattle.plan_tests.specs.declared.Plan.{Plan}
@@ -27,6 +27,16 @@ unfoldable pub PlanEnds : List Record → Plan → Type 0
 PlanEnds rs Fine = PlanFine rs
 PlanEnds rs (Wrong n p) = (flags : ℕ) → refuseWhole rs flags ≡ some (record { number = n; place = p })
 
+-- the table has the end of each subterm of each body
+abbrev pub EndsAre : List Record → List ℕ → Type 0
+EndsAre rs ends = (f i : ℕ) → f < count Kind.rule rs → i < length (ruleOf rs f) / 4 → getD ends (firstNode rs f + i) 0 ≡ endAt rs f i
+
+-- what the tests of the plan come to, and the table of ends where they are not met
+pub record PlanTested (rs : List Record) (ends : List ℕ) (r : Plan) : Type 0 where
+  pub verdict : PlanEnds rs r
+  pub ends-are : r ≡ Fine → EndsAre rs ends
+
 -- 8 and 9, where the table of ends has room
-abbrev pub TestsPlan : List ℕ → List ℕ → List ℕ → List ℕ → Plan → Type 0
-TestsPlan file index counts ends r = (lens : List ℕ) (rs : List Record) → Known file index lens counts rs → Passed rs → nodesIn (payloads Kind.rule rs) ≤ length ends → PlanEnds rs r
+abbrev pub TestsPlan : List ℕ → List ℕ → List ℕ → List ℕ → List ℕ → Plan → Type 0
+TestsPlan file index counts before ends r =
+    (lens : List ℕ) (rs : List Record) → Known file index lens counts rs → Passed rs → nodesIn (payloads Kind.rule rs) ≤ length before → PlanTested rs ends r

@@ -37,7 +37,7 @@ fn counts_wrong(counts: &[u16]) -> bool
 
 // The tests of the plan, 8 and 9; `ends` gets the ends of the subterms of all bodies.
 pub fn test_plan(file: &[u8], index: &[u16], counts: &[u16], ends: &mut [u16]) -> Plan
-    ensures { λ r. ⌜ TestsPlan (now (file .entry)) (now (index .entry)) (now (counts .entry)) (now (ends .entry)) r ⌝ }
+    ensures { λ r. ⌜ TestsPlan (now (file .entry)) (now (index .entry)) (now (counts .entry)) (now (ends .entry)) (now (ends .exit)) r ⌝ }
 {
     if counts_wrong(counts) {
         return Plan::Refused {

@@ -22,8 +22,8 @@ use Rattle.misfits.proofs.Misfits.{misfits-none, misfits-first}
 use Rattle.misfits.proofs.Offers.{offered}
 use Rattle.kinds.specs.Known.{Known}
 use Rattle.whole_file.specs.declared.Case.the-variants as is
-use Rattle.whole_file.specs.Whole.{WholeEnds, FindsFirst}
-use Rattle.plan_tests.specs.PlanTests.{PlanFine, PlanEnds}
+use Rattle.whole_file.specs.Whole.{WholeEnds, WholeTested, FindsFirst}
+use Rattle.plan_tests.specs.PlanTests.{PlanFine, PlanEnds, PlanTested}
 use Rattle.plan_tests.proofs.Whole.{met-10, met-11, met-12, met-none}
 use Rattle.plan_tests.proofs.Contents.{payload-bytes}
 use Rattle.plan_tests.specs.declared.Plan.the-variants as plan
@@ -117,10 +117,12 @@ module _ {file index counts lens : List ℕ} {rs : List Record} (flags : ℕ) (k
           empty (x ∷ l) e = absurd (omega arith)
 
 -- From the plan's tests to those of the whole file.
-pub whole-refused : (rs : List Record) (flags n p : ℕ) (pl : Plan) → pl ≡ plan.Refused n p → PlanEnds rs pl → WholeEnds rs flags (is.Refused n p)
+pub whole-refused : (rs : List Record) (flags n p : ℕ) (ends : List ℕ) (pl : Plan) → pl ≡ plan.Refused n p → PlanTested rs ends pl → WholeTested rs flags ends (is.Refused n p)
 unfolding PlanEnds WholeEnds
-whole-refused rs flags n p pl e h = let k : PlanEnds rs (plan.Refused n p) = rw e at h in k flags
+whole-refused rs flags n p ends pl e h =
+    let k : PlanEnds rs (plan.Refused n p) = subst (PlanEnds rs) e (h .verdict) in
+    record { verdict = k flags; ends-are = λ f. let x = sym f ∙ k flags in let z : _≡_ {A = ℕ} 0 1 = cc in absurd (omega arith) }
 
-pub plan-is-fine : (rs : List Record) (pl : Plan) → pl ≡ plan.Fine → PlanEnds rs pl → PlanFine rs
+pub plan-is-fine : (rs : List Record) (ends : List ℕ) (pl : Plan) → pl ≡ plan.Fine → PlanTested rs ends pl → PlanFine rs
 unfolding PlanEnds
-plan-is-fine rs pl e h = rw e at h
+plan-is-fine rs ends pl e h = subst (PlanEnds rs) e (h .verdict)

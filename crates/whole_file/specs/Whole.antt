@@ -14,7 +14,7 @@ use Rattle.casefile.proofs.Passed.{Passed}
 use Rattle.kinds.specs.Known.{Known}
 use Rattle.whole_file.specs.declared.Case.{Case}
 use Rattle.whole_file.specs.declared.Case.the-variants.{Refused, Bindings, Path}
-use Rattle.plan_tests.specs.PlanTests.{PlanFine}
+use Rattle.plan_tests.specs.PlanTests.{PlanFine, EndsAre}
 
 -- what the tests over the whole file come to, 8 to 12, for records that all passed
 unfoldable pub WholeEnds : List Record → ℕ → Case → Type 0
@@ -32,6 +32,12 @@ FindsFirst file index types sorts bindings r =
     (rs : List Record) → Passed rs → Indexed file index Kind.type types rs → Indexed file index Kind.sort sorts rs → Indexed file index Kind.binding bindings rs
     → (n : ℕ) → Indexed file index Kind.nonterminal n rs → types ≤ 1024 → sorts ≤ 64 → bindings ≤ 1024 → FirstMisfit rs bindings r
 
+-- what the tests over the whole file come to, and the table of ends where none is met
+pub record WholeTested (rs : List Record) (flags : ℕ) (ends : List ℕ) (r : Case) : Type 0 where
+  pub verdict : WholeEnds rs flags r
+  pub ends-are : refuseWhole rs flags ≡ none → EndsAre rs ends
+
 -- 8 to 12
-abbrev pub TestsWhole : List ℕ → List ℕ → List ℕ → ℕ → List ℕ → Case → Type 0
-TestsWhole file index counts flags ends r = (lens : List ℕ) (rs : List Record) → Known file index lens counts rs → Passed rs → nodesIn (payloads Kind.rule rs) ≤ length ends → WholeEnds rs flags r
+abbrev pub TestsWhole : List ℕ → List ℕ → List ℕ → ℕ → List ℕ → List ℕ → Case → Type 0
+TestsWhole file index counts flags before ends r =
+    (lens : List ℕ) (rs : List Record) → Known file index lens counts rs → Passed rs → nodesIn (payloads Kind.rule rs) ≤ length before → WholeTested rs flags ends r

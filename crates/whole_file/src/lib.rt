@@ -75,7 +75,7 @@ pub fn test_whole(
     ends: &mut [u16],
     fit: &mut [u8; 66560],
 ) -> Case
-    ensures { λ r. ⌜ TestsWhole (now (file .entry)) (now (index .entry)) (now (counts .entry)) flags (now (ends .entry)) r ⌝ }
+    ensures { λ r. ⌜ TestsWhole (now (file .entry)) (now (index .entry)) (now (counts .entry)) flags (now (ends .entry)) (now (ends .exit)) r ⌝ }
 {
     let plan = test_plan(file, index, counts, ends);
     match plan {

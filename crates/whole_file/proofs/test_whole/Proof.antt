@@ -20,13 +20,13 @@ same-length : tie.Need-same-length
 same-length c = search needs
 
 returns : tie.Need-returns
-returns c = λ lens rs kn ok room. whole-refused rs _ _ _ _ (c .before .plan .given .1) (c .before .before .before .before .before .test-plan .ensures lens rs kn ok room)
+returns c = λ lens rs kn ok room. whole-refused rs _ _ _ _ _ (c .before .plan .given .1) (c .before .before .before .before .before .test-plan .ensures lens rs kn ok room)
 
 same-length-2 : tie.Need-same-length-2
 same-length-2 c = search needs
 
 returns-2 : tie.Need-returns-2
-returns-2 c = λ lens rs kn ok room. c .test-evidence .ensures lens rs kn ok (plan-is-fine rs _ (c .before .before .enum-told .given .1) (c .before .before .before .before .before .before .test-plan .ensures lens rs kn ok room))
+returns-2 c = λ lens rs kn ok room. record { verdict = c .test-evidence .ensures lens rs kn ok (plan-is-fine rs _ _ (c .before .before .enum-told .given .1) (c .before .before .before .before .before .before .test-plan .ensures lens rs kn ok room)); ends-are = λ e. (c .before .before .before .before .before .before .test-plan .ensures lens rs kn ok room) .ends-are (c .before .before .enum-told .given .1) }
 
 pub test-whole-spec : {M : Type 1} → statement M
 test-whole-spec =
