@@ -1,0 +1,28 @@
+-- `result_of` meets its contract.
+use Rattle.goals.proofs.Goals.{result-far, result-there}
+use borrow.Author.Needs.{needs}
+use Rattle.goals.proofs.result_of.Statement.{statement}
+use Rattle.goals.proofs.result_of.Tie as tie
+
+returns : tie.Need-returns
+returns c = result-far (c .if1 .taken)
+
+add-place-at : tie.Need-add-place-at
+add-place-at c = search needs
+
+place-at-requires : tie.Need-place-at-requires
+place-at-requires c κs = search needs
+
+word-at-requires : tie.Need-word-at-requires
+word-at-requires c κs = search needs
+
+goal-of-requires : tie.Need-goal-of-requires
+goal-of-requires c κs = search needs
+
+returns-2 : tie.Need-returns-2
+returns-2 c = result-there _ (c .before .before .place-at .ensures .value) _ _ (c .before .word-at .ensures .value) (c .goal-of .ensures)
+
+pub result-of-spec : {M : Type 1} → statement M
+result-of-spec =
+    tie.close
+    (tie.spec returns add-place-at place-at-requires word-at-requires goal-of-requires returns-2)
