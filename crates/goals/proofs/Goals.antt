@@ -105,7 +105,7 @@ module _ {file index : List ℕ} {n : ℕ} {rs : List Record} (w : Typed file in
 
   -- the record of an arrow by its goal
   pub arrow-record : (g : ℕ) (a : Tys) (τ : Ty) → Goal rs n g (arrow a τ) → ArrowRecord file index n rs g a τ
-  arrow-record g a τ (of-state q e f) = let z : _≡_ {A = ℕ} 0 1 = cc in absurd (omega arith)
+  arrow-record g a τ (of-state q small e f) = let z : _≡_ {A = ℕ} 0 1 = cc in absurd (omega arith)
   arrow-record g a τ (of-arrow b s h e f) =
       let c = type-count in
       by (type-shape (w .passed) (w .bytes) g (omega arith))
@@ -138,7 +138,7 @@ module _ {file index : List ℕ} {n : ℕ} {rs : List Record} (w : Typed file in
             result-is = ap (λ k. getD (typesOf rs) k (state 0)) hw ∙ er;
             member-below = λ j k. let l = hms (getD ms j 0) (getD-mem ms j 0 (omega arith)) in let q = number j k in omega arith;
             member-is = λ j k.
-              ap (λ i. getD (typesOf rs) i (state 0)) (number j k) ∙ sym (members-at (typesOf rs) ms j (omega arith)) ∙ ap (λ l. getD (members l) j (state 0)) ea;
+                ap (λ i. getD (typesOf rs) i (state 0)) (number j k) ∙ sym (members-at (typesOf rs) ms j (omega arith)) ∙ ap (λ l. getD (members l) j (state 0)) ea;
           }
 
   -- the length and the fields of a record, where the file has them
@@ -153,115 +153,127 @@ module _ {file index : List ℕ} {n : ℕ} {rs : List Record} (w : Typed file in
     field-there k at l = ap (λ x. field k file (x + at)) es ∙ w .there .field-there t h k at l
 
 -- the goal that a type is
-module _ {file index : List ℕ} {t : ℕ} where
-  pub goal-far : 1023 < t → IsGoal file index t t
-  goal-far h = record { goal = λ n rs w k. absurd (omega (arith, w .few)) }
+module _ {file index : List ℕ} {n t : ℕ} where
+  pub goal-many : 1024 < n → IsGoal file index n t t
+  goal-many h = record { goal = λ rs w k. absurd (omega (arith, w .few)) }
+
+  pub goal-far : n ≤ t → IsGoal file index n t t
+  goal-far h = record { goal = λ rs w k. absurd (omega arith) }
 
   module _ (start : ℕ) (es : start ≡ getD index (1120 + t) 0) where
-    pub goal-none : start < 4 → IsGoal file index t t
-    goal-none h = record { goal = λ n rs w k. let b = start-there w t k start es in absurd (omega arith) }
+    pub goal-none : start < 4 → IsGoal file index n t t
+    goal-none h = record { goal = λ rs w k. let b = start-there w t k start es in absurd (omega arith) }
 
-    pub goal-arrow : (len : ℕ) → len ≡ word file (start - 4) → (len ≡ 1 → ⊥) → IsGoal file index t t
+    pub goal-arrow : (len : ℕ) → len ≡ word file (start - 4) → (len ≡ 1 → ⊥) → IsGoal file index n t t
     goal-arrow len el ne =
         record {
-          goal = λ n rs w k.
-            let c = type-count w in
-            by n rs w k (type-shape (w .passed) (w .bytes) t (omega arith));
+          goal = λ rs w k.
+              let c = type-count w in
+              by rs w k (type-shape (w .passed) (w .bytes) t (omega arith));
         }
       where
-        by : (n : ℕ) (rs : List Record) (w : Typed file index n rs) → t < n → Shape t (getD (payloads Kind.type rs) t []) → Goal rs n t (getD (typesOf rs) t (state 0))
-        by n rs w k (a-state q e) = let l = length-there w t k start es in let m = ap length e in absurd (ne (omega arith))
-        by n rs w k (an-arrow r ms x y hr hms asc pairs) =
+        by : (rs : List Record) (w : Typed file index n rs) → t < n → Shape t (getD (payloads Kind.type rs) t []) → Goal rs n t (getD (typesOf rs) t (state 0))
+        by rs w k (a-state q e) = let l = length-there w t k start es in let m = ap length e in absurd (ne (omega arith))
+        by rs w k (an-arrow r ms x y hr hms asc pairs) =
             let m = arrow-made w t r ms k x y in
             of-arrow (membersAt (typesOf rs) ms) (getD (typesOf rs) r (state 0)) k m m
 
-    pub goal-state : (len : ℕ) → len ≡ word file (start - 4) → len ≡ 1 → (q : ℕ) → q ≡ byte file start → IsGoal file index t (1024 + q)
+    pub goal-state : (len : ℕ) → len ≡ word file (start - 4) → len ≡ 1 → (q : ℕ) → q ≡ byte file start → IsGoal file index n t (n + q)
     goal-state len el one q eq =
         record {
-          goal = λ n rs w k.
-            let c = type-count w in
-            by n rs w k (type-shape (w .passed) (w .bytes) t (omega arith));
+          goal = λ rs w k.
+              let c = type-count w in
+              by rs w k (type-shape (w .passed) (w .bytes) t (omega arith));
         }
       where
-        by : (n : ℕ) (rs : List Record) (w : Typed file index n rs) → t < n → Shape t (getD (payloads Kind.type rs) t []) → Goal rs n (1024 + q) (getD (typesOf rs) t (state 0))
-        by n rs w k (a-state p e) =
+        by : (rs : List Record) (w : Typed file index n rs) → t < n → Shape t (getD (payloads Kind.type rs) t []) → Goal rs n (n + q) (getD (typesOf rs) t (state 0))
+        by rs w k (a-state p e) =
             let l = length-there w t k start es in
             let f : byte file (start + 0) ≡ byte (getD (payloads Kind.type rs) t []) 0 = field-there w t k start es 1 0 (omega arith) in
             let z : start + 0 ≡ start = omega arith in
             let g : q ≡ p = eq ∙ ap (byte file) (sym z) ∙ f ∙ ap (λ y. byte y 0) e ∙ one-byte p in
-            of-state p (ap (1024 +_) g) (state-made w t p k e)
-        by n rs w k (an-arrow r ms x y hr hms asc pairs) =
+            of-state p (let b = w .bytes t 0 in omega (arith, ap (λ y. getD y 0 0) e)) (ap (n +_) g) (state-made w t p k e)
+        by rs w k (an-arrow r ms x y hr hms asc pairs) =
             let l = length-there w t k start es in
             absurd (eqb-false (length (getD (payloads Kind.type rs) t [])) 1 x (omega arith))
 
 -- the parts of an arrow
-module _ {file index : List ℕ} {g : ℕ} where
-  far-goal : {n : ℕ} {rs : List Record} → Typed file index n rs → 1023 < g → (a : Tys) (τ : Ty) → Goal rs n g (arrow a τ) → ⊥
-  far-goal w h a τ x = let i = arrow-record w g a τ x .inside in omega (arith, w .few)
+module _ {file index : List ℕ} {n g : ℕ} where
+  far-goal : {rs : List Record} → Typed file index n rs → n ≤ g → (a : Tys) (τ : Ty) → Goal rs n g (arrow a τ) → ⊥
+  far-goal w h a τ x = let i = arrow-record w g a τ x .inside in omega arith
 
-  pub result-far : 1023 < g → IsResult file index g 65535
-  result-far h = record { result = λ n rs w a τ x. absurd (far-goal w h a τ x) }
+  pub result-many : 1024 < n → IsResult file index n g 65535
+  result-many h = record { result = λ rs w a τ x. absurd (omega (arith, w .few)) }
 
-  pub result-there : (start : ℕ) → start ≡ getD index (1120 + g) 0 → (m r : ℕ) → m ≡ word file start → IsGoal file index m r → IsResult file index g r
+  pub result-far : n ≤ g → IsResult file index n g 65535
+  result-far h = record { result = λ rs w a τ x. absurd (far-goal w h a τ x) }
+
+  pub result-there : (start : ℕ) → start ≡ getD index (1120 + g) 0 → (m r : ℕ) → m ≡ word file start → IsGoal file index n m r → IsResult file index n g r
   result-there start es m r em is =
       record {
-        result = λ n rs w a τ x.
-          let k = arrow-record w g a τ x in
-          let z : start + 0 ≡ start = omega arith in
-          let f : m ≡ word (getD (payloads Kind.type rs) g []) 0 = em ∙ ap (word file) (sym z) ∙ field-there w g (k .inside) start es 2 0 (k .long) in
-          subst (Goal rs n r) (ap (λ i. getD (typesOf rs) i (state 0)) f ∙ k .result-is) (is .goal n rs w (omega (arith, k .result-below)));
+        result = λ rs w a τ x.
+            let k = arrow-record w g a τ x in
+            let z : start + 0 ≡ start = omega arith in
+            let f : m ≡ word (getD (payloads Kind.type rs) g []) 0 = em ∙ ap (word file) (sym z) ∙ field-there w g (k .inside) start es 2 0 (k .long) in
+            subst (Goal rs n r) (ap (λ i. getD (typesOf rs) i (state 0)) f ∙ k .result-is) (is .goal rs w (omega (arith, k .result-below)));
       }
 
-  pub members-far : 1023 < g → CountsMembers file index g 0
-  members-far h = record { many = λ n rs w a τ x. absurd (far-goal w h a τ x) }
+  pub members-many : 1024 < n → CountsMembers file index n g 0
+  members-many h = record { many = λ rs w a τ x. absurd (omega (arith, w .few)) }
+
+  pub members-far : n ≤ g → CountsMembers file index n g 0
+  members-far h = record { many = λ rs w a τ x. absurd (far-goal w h a τ x) }
 
   module _ (start : ℕ) (es : start ≡ getD index (1120 + g) 0) where
-    pub members-none : start < 4 → CountsMembers file index g 0
-    members-none h = record { many = λ n rs w a τ x. let k = arrow-record w g a τ x in let b = start-there w g (k .inside) start es in absurd (omega arith) }
+    pub members-none : start < 4 → CountsMembers file index n g 0
+    members-none h = record { many = λ rs w a τ x. let k = arrow-record w g a τ x in let b = start-there w g (k .inside) start es in absurd (omega arith) }
 
     module _ (len : ℕ) (el : len ≡ word file (start - 4)) where
-      pub members-short : len < 2 → CountsMembers file index g 0
-      members-short h = record { many = λ n rs w a τ x. let k = arrow-record w g a τ x in let l = length-there w g (k .inside) start es in absurd (omega (arith, k .long)) }
+      pub members-short : len < 2 → CountsMembers file index n g 0
+      members-short h = record { many = λ rs w a τ x. let k = arrow-record w g a τ x in let l = length-there w g (k .inside) start es in absurd (omega (arith, k .long)) }
 
-      pub members-there : CountsMembers file index g ((len - 2) / 2)
+      pub members-there : CountsMembers file index n g ((len - 2) / 2)
       members-there =
           record {
-            many = λ n rs w a τ x.
-              let k = arrow-record w g a τ x in
-              let l = length-there w g (k .inside) start es in
-              ap (λ y. (y - 2) / 2) (el ∙ l) ∙ sym (k .many);
+            many = λ rs w a τ x.
+                let k = arrow-record w g a τ x in
+                let l = length-there w g (k .inside) start es in
+                ap (λ y. (y - 2) / 2) (el ∙ l) ∙ sym (k .many);
           }
 
-  pub member-far : {j : ℕ} → 1023 < g → IsMember file index g j 65535
-  member-far h = record { member = λ n rs w a τ x k. absurd (far-goal w h a τ x) }
+  pub member-many : {j : ℕ} → 1024 < n → IsMember file index n g j 65535
+  member-many h = record { member = λ rs w a τ x k. absurd (omega (arith, w .few)) }
 
-  pub member-past : {j : ℕ} → 15 < j → IsMember file index g j 65535
-  member-past h = record { member = λ n rs w a τ x i. let k = arrow-record w g a τ x in absurd (omega (arith, k .many, k .few-bytes)) }
+  pub member-far : {j : ℕ} → n ≤ g → IsMember file index n g j 65535
+  member-far h = record { member = λ rs w a τ x k. absurd (far-goal w h a τ x) }
 
-  pub member-there : {j : ℕ} (start : ℕ) → start ≡ getD index (1120 + g) 0 → (m r : ℕ) → m ≡ word file (start + 2 + j * 2) → IsGoal file index m r → IsMember file index g j r
+  pub member-past : {j : ℕ} → 15 < j → IsMember file index n g j 65535
+  member-past h = record { member = λ rs w a τ x i. let k = arrow-record w g a τ x in absurd (omega (arith, k .many, k .few-bytes)) }
+
+  pub member-there : {j : ℕ} (start : ℕ) → start ≡ getD index (1120 + g) 0 → (m r : ℕ) → m ≡ word file (start + 2 + j * 2) → IsGoal file index n m r → IsMember file index n g j r
   member-there {j} start es m r em is =
       record {
-        member = λ n rs w a τ x i.
-          let k = arrow-record w g a τ x in
-          let z : start + 2 + j * 2 ≡ start + (2 + j * 2) = omega arith in
-          let f : m ≡ word (getD (payloads Kind.type rs) g []) (2 + j * 2) = em ∙ ap (word file) z ∙ field-there w g (k .inside) start es 2 (2 + j * 2) (omega (arith, k .many, k .long)) in
-          subst (Goal rs n r) (ap (λ y. getD (typesOf rs) y (state 0)) f ∙ k .member-is j i) (is .goal n rs w (let b = k .member-below j i in omega arith));
+        member = λ rs w a τ x i.
+            let k = arrow-record w g a τ x in
+            let z : start + 2 + j * 2 ≡ start + (2 + j * 2) = omega arith in
+            let f : m ≡ word (getD (payloads Kind.type rs) g []) (2 + j * 2) = em ∙ ap (word file) z ∙ field-there w g (k .inside) start es 2 (2 + j * 2) (omega (arith, k .many, k .long)) in
+            subst (Goal rs n r) (ap (λ y. getD (typesOf rs) y (state 0)) f ∙ k .member-is j i) (is .goal rs w (let b = k .member-below j i in omega arith));
       }
 
 -- EQUAL NUMBERS ARE EQUAL TYPES
 pub goals-same : {file index : List ℕ} {n : ℕ} {rs : List Record} → Typed file index n rs → (g h : ℕ) (τ σ : Ty) → Goal rs n g τ → Goal rs n h σ → same τ σ ≡ eqb g h
 unfolding same
-goals-same {rs = rs} w g h τ σ (of-state p e f) (of-state q x y) =
+goals-same {n = n} w g h τ σ (of-state p small e f) (of-state q small′ x y) =
     ap₂ same f y ∙ states-same p q ∙ sym (ap₂ eqb e x)
   where
-    states-same : (i j : ℕ) → eqb i j ≡ eqb (1024 + i) (1024 + j)
+    states-same : (i j : ℕ) → eqb i j ≡ eqb (n + i) (n + j)
     states-same i j = go (eqb i j) refl
       where
-        go : (b : Bool) → eqb i j ≡ b → b ≡ eqb (1024 + i) (1024 + j)
-        go true u = let v = eqb-true i j u in sym (eq-eqb (1024 + i) (1024 + j) (omega arith))
-        go false u = sym (ne-eqb (1024 + i) (1024 + j) (λ v. eqb-false i j u (omega arith)))
-goals-same w g h τ σ (of-state p e f) (of-arrow b s k x y) = ap₂ same f y ∙ sym (ne-eqb g h (λ u. omega (arith, w .few)))
-goals-same w g h τ σ (of-arrow a r k x y) (of-state q e f) = ap₂ same y f ∙ sym (ne-eqb g h (λ u. omega (arith, w .few)))
+        go : (b : Bool) → eqb i j ≡ b → b ≡ eqb (n + i) (n + j)
+        go true u = let v = eqb-true i j u in sym (eq-eqb (n + i) (n + j) (omega arith))
+        go false u = sym (ne-eqb (n + i) (n + j) (λ v. eqb-false i j u (omega arith)))
+goals-same w g h τ σ (of-state p small e f) (of-arrow b s k x y) = ap₂ same f y ∙ sym (ne-eqb g h (λ u. omega (arith, w .few)))
+goals-same w g h τ σ (of-arrow a r k x y) (of-state q small e f) = ap₂ same y f ∙ sym (ne-eqb g h (λ u. omega (arith, w .few)))
 goals-same {rs = rs} w g h τ σ (of-arrow a r k x y) (of-arrow b s l u v) = go (eqb g h) refl
   where
     go : (c : Bool) → eqb g h ≡ c → same τ σ ≡ c

@@ -1,14 +1,18 @@
-// Types by number, as the goals of a check: an arrow by its number, a state by 1,024 more than its own.
+// Types by number, as the goals of a check: of so many types, an arrow by its number, and a state by its number behind
+// those of the types.
 use entries::place_at;
 use records::byte_at;
 use records::word_at;
 ghost use Rattle.goals.specs.Goals.{IsGoal, IsResult, CountsMembers, IsMember};
 
 // The goal that type t is.
-pub fn goal_of(file: &[u8], index: &[u16], t: usize) -> usize
-    ensures { λ r. ⌜ IsGoal (now (file .entry)) (now (index .entry)) t r ⌝ }
+pub fn goal_of(file: &[u8], index: &[u16], types: usize, t: usize) -> usize
+    ensures { λ r. ⌜ IsGoal (now (file .entry)) (now (index .entry)) types t r ⌝ }
 {
-    if 1023 < t {
+    if 1024 < types {
+        return t;
+    }
+    if types <= t {
         return t;
     }
     let start = place_at(index, 1120 + t);
@@ -18,25 +22,31 @@ pub fn goal_of(file: &[u8], index: &[u16], t: usize) -> usize
     if word_at(file, start - 4) != 1 {
         return t;
     }
-    1024 + byte_at(file, start)
+    types + byte_at(file, start)
 }
 
 // The result of an arrow, as a goal.
-pub fn result_of(file: &[u8], index: &[u16], goal: usize) -> usize
-    ensures { λ r. ⌜ IsResult (now (file .entry)) (now (index .entry)) goal r ⌝ }
+pub fn result_of(file: &[u8], index: &[u16], types: usize, goal: usize) -> usize
+    ensures { λ r. ⌜ IsResult (now (file .entry)) (now (index .entry)) types goal r ⌝ }
 {
-    if 1023 < goal {
+    if 1024 < types {
         return 65535;
     }
-    let start = place_at(index, 1120 + goal);
-    goal_of(file, index, word_at(file, start))
+    if types <= goal {
+        return 65535;
+    }
+    let payload = place_at(index, 1120 + goal);
+    goal_of(file, index, types, word_at(file, payload))
 }
 
 // How many members an arrow has.
-pub fn members_of(file: &[u8], index: &[u16], goal: usize) -> usize
-    ensures { λ r. ⌜ CountsMembers (now (file .entry)) (now (index .entry)) goal r ⌝ }
+pub fn members_of(file: &[u8], index: &[u16], types: usize, goal: usize) -> usize
+    ensures { λ r. ⌜ CountsMembers (now (file .entry)) (now (index .entry)) types goal r ⌝ }
 {
-    if 1023 < goal {
+    if 1024 < types {
+        return 0;
+    }
+    if types <= goal {
         return 0;
     }
     let start = place_at(index, 1120 + goal);
@@ -51,15 +61,18 @@ pub fn members_of(file: &[u8], index: &[u16], goal: usize) -> usize
 }
 
 // Member j of an arrow, as a goal.
-pub fn member_of(file: &[u8], index: &[u16], goal: usize, j: usize) -> usize
-    ensures { λ r. ⌜ IsMember (now (file .entry)) (now (index .entry)) goal j r ⌝ }
+pub fn member_of(file: &[u8], index: &[u16], types: usize, goal: usize, j: usize) -> usize
+    ensures { λ r. ⌜ IsMember (now (file .entry)) (now (index .entry)) types goal j r ⌝ }
 {
-    if 1023 < goal {
+    if 1024 < types {
+        return 65535;
+    }
+    if types <= goal {
         return 65535;
     }
     if 15 < j {
         return 65535;
     }
-    let start = place_at(index, 1120 + goal);
-    goal_of(file, index, word_at(file, start + 2 + j * 2))
+    let numbers = place_at(index, 1120 + goal);
+    goal_of(file, index, types, word_at(file, numbers + 2 + j * 2))
 }

@@ -1,14 +1,17 @@
 -- `member_of` meets its contract.
-use Rattle.goals.proofs.Goals.{member-far, member-past, member-there}
+use Rattle.goals.proofs.Goals.{member-many, member-far, member-past, member-there}
 use borrow.Author.Needs.{needs}
 use Rattle.goals.proofs.member_of.Statement.{statement}
 use Rattle.goals.proofs.member_of.Tie as tie
 
 returns : tie.Need-returns
-returns c = member-far (c .if1 .taken)
+returns c = member-many (c .if1 .taken)
 
 returns-2 : tie.Need-returns-2
-returns-2 c = member-past (c .if2 .taken)
+returns-2 c = member-far (c .if2 .taken)
+
+returns-3 : tie.Need-returns-3
+returns-3 c = member-past (c .if3 .taken)
 
 add-place-at : tie.Need-add-place-at
 add-place-at c = search needs
@@ -31,8 +34,8 @@ word-at-requires c κs = search needs
 goal-of-requires : tie.Need-goal-of-requires
 goal-of-requires c κs = search needs
 
-returns-3 : tie.Need-returns-3
-returns-3 c = member-there _ (c .before .before .place-at .ensures .value) _ _ (c .before .word-at .ensures .value) (c .goal-of .ensures)
+returns-4 : tie.Need-returns-4
+returns-4 c = member-there _ (c .before .before .place-at .ensures .value) _ _ (c .before .word-at .ensures .value) (c .goal-of .ensures)
 
 pub member-of-spec : {M : Type 1} → statement M
 member-of-spec =
@@ -40,6 +43,7 @@ member-of-spec =
     (tie.spec
     returns
     returns-2
+    returns-3
     add-place-at
     place-at-requires
     add-word-at
@@ -47,4 +51,4 @@ member-of-spec =
     add-word-at-2
     word-at-requires
     goal-of-requires
-    returns-3)
+    returns-4)

@@ -1,11 +1,14 @@
 -- `members_of` meets its contract.
-use Rattle.goals.proofs.Goals.{members-far, members-none, members-short, members-there}
+use Rattle.goals.proofs.Goals.{members-many, members-far, members-none, members-short, members-there}
 use borrow.Author.Needs.{needs}
 use Rattle.goals.proofs.members_of.Statement.{statement}
 use Rattle.goals.proofs.members_of.Tie as tie
 
 returns : tie.Need-returns
-returns c = members-far (c .if1 .taken)
+returns c = members-many (c .if1 .taken)
+
+returns-2 : tie.Need-returns-2
+returns-2 c = members-far (c .if2 .taken)
 
 add-place-at : tie.Need-add-place-at
 add-place-at c = search needs
@@ -13,26 +16,27 @@ add-place-at c = search needs
 place-at-requires : tie.Need-place-at-requires
 place-at-requires c κs = search needs
 
-returns-2 : tie.Need-returns-2
-returns-2 c = members-none _ (c .before .place-at .ensures .value) (c .if2 .taken)
+returns-3 : tie.Need-returns-3
+returns-3 c = members-none _ (c .before .place-at .ensures .value) (c .if3 .taken)
 
 word-at-requires : tie.Need-word-at-requires
 word-at-requires c κs = search needs
 
-returns-3 : tie.Need-returns-3
-returns-3 c = members-short _ (c .before .before .before .place-at .ensures .value) _ (c .before .word-at .ensures .value) (c .if3 .taken)
-
 returns-4 : tie.Need-returns-4
-returns-4 c = members-there _ (c .before .before .before .place-at .ensures .value) _ (c .before .word-at .ensures .value)
+returns-4 c = members-short _ (c .before .before .before .place-at .ensures .value) _ (c .before .word-at .ensures .value) (c .if4 .taken)
+
+returns-5 : tie.Need-returns-5
+returns-5 c = members-there _ (c .before .before .before .place-at .ensures .value) _ (c .before .word-at .ensures .value)
 
 pub members-of-spec : {M : Type 1} → statement M
 members-of-spec =
     tie.close
     (tie.spec
     returns
+    returns-2
     add-place-at
     place-at-requires
-    returns-2
-    word-at-requires
     returns-3
-    returns-4)
+    word-at-requires
+    returns-4
+    returns-5)

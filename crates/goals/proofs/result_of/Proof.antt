@@ -1,11 +1,14 @@
 -- `result_of` meets its contract.
-use Rattle.goals.proofs.Goals.{result-far, result-there}
+use Rattle.goals.proofs.Goals.{result-many, result-far, result-there}
 use borrow.Author.Needs.{needs}
 use Rattle.goals.proofs.result_of.Statement.{statement}
 use Rattle.goals.proofs.result_of.Tie as tie
 
 returns : tie.Need-returns
-returns c = result-far (c .if1 .taken)
+returns c = result-many (c .if1 .taken)
+
+returns-2 : tie.Need-returns-2
+returns-2 c = result-far (c .if2 .taken)
 
 add-place-at : tie.Need-add-place-at
 add-place-at c = search needs
@@ -19,10 +22,17 @@ word-at-requires c κs = search needs
 goal-of-requires : tie.Need-goal-of-requires
 goal-of-requires c κs = search needs
 
-returns-2 : tie.Need-returns-2
-returns-2 c = result-there _ (c .before .before .place-at .ensures .value) _ _ (c .before .word-at .ensures .value) (c .goal-of .ensures)
+returns-3 : tie.Need-returns-3
+returns-3 c = result-there _ (c .before .before .place-at .ensures .value) _ _ (c .before .word-at .ensures .value) (c .goal-of .ensures)
 
 pub result-of-spec : {M : Type 1} → statement M
 result-of-spec =
     tie.close
-    (tie.spec returns add-place-at place-at-requires word-at-requires goal-of-requires returns-2)
+    (tie.spec
+    returns
+    returns-2
+    add-place-at
+    place-at-requires
+    word-at-requires
+    goal-of-requires
+    returns-3)
