@@ -30,11 +30,12 @@ use Rattle.steps.specs.Steps.{UnfoldsFront, Descends}
 use Rattle.steps.specs.declared.Descent.{Descent}
 use Rattle.steps.specs.declared.Descent.the-variants.{None, Argument}
 use Rattle.steps.proofs.Fronts.{nonterminal-tag, constructor-tag, parameter-tag, front-head}
-use Rattle.letters.specs.Letters.{IsRow, IsArity, settled, Replaying, Holding, LeadsTo, UnfoldsHeld, DescendsHeld, Follows, bufferOf, Reaches, Turns}
+use Rattle.rows.specs.Rows.{IsRow, IsArity}
+use Rattle.rows.proofs.Rows.{constructor-count}
+use Rattle.letters.specs.Letters.{settled, Replaying, Holding, LeadsTo, UnfoldsHeld, DescendsHeld, Follows, bufferOf, Reaches, Turns}
 use Rattle.letters.specs.declared.Held.{Held}
 use Rattle.letters.specs.declared.Step.{Step}
 use Rattle.letters.specs.declared.Step.the-variants.{Lost, TooLarge, At}
-use Rattle.letters.proofs.Rows.{constructor-count}
 
 -- a term has a node
 pub no-nodes : (term : List ℕ) (t : Term) → nodesIn term ≡ flat t → length term ≡ 0 → ⊥

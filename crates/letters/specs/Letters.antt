@@ -4,7 +4,7 @@ use mathlib.Core.Path.{_≡_}
 use mathlib.Core.Bool.{Bool, true, false, not}
 use mathlib.Core.List.{List}
 use mathlib.Core.Option.{Option, none, some}
-use lib.ListN.{length, getD}
+use lib.ListN.{length}
 use Rattle.scheme.specs.Lists.{if_then_else_}
 use Rattle.scheme.specs.Terms.{Term, nodes}
 use Rattle.scheme.specs.Prefix.{flat}
@@ -12,10 +12,10 @@ use Rattle.scheme.specs.Replay
 use Rattle.scheme.specs.Replay.{exceeds}
 use Rattle.records.specs.Records.{Record}
 use Rattle.casefile.specs.Kinds.{Kind}
-use Rattle.casefile.specs.Tables.{aritiesOf, transitionsOf, targetsAt, planOf, automatonOf}
+use Rattle.casefile.specs.Tables.{planOf, automatonOf}
 use Rattle.casefile.proofs.Passed.{Passed}
 use Rattle.entries.specs.Index.{Indexed}
-use Rattle.moves.specs.Moves.{targetsIn, TableFor}
+use Rattle.moves.specs.Moves.{TableFor}
 use Rattle.flat_terms.specs.Flat.{nodesIn, between}
 use Rattle.unfolding.specs.declared.Unfolded.{Unfolded}
 use Rattle.unfolding.specs.declared.Unfolded.the-variants.{Term as Unfolding, TooLarge as Larger}
@@ -23,15 +23,6 @@ use Rattle.steps.specs.Steps.{Bodies}
 use Rattle.letters.specs.declared.Held.{Held}
 use Rattle.letters.specs.declared.Step.{Step}
 use Rattle.letters.specs.declared.Step.the-variants.{Lost, TooLarge, At}
-
--- r is the row of a table for a state and a constructor, of so many constructors: the targets of the definitions
-pub record IsRow (table : List (List (List ℕ))) (constructors q c : ℕ) (r : List ℕ) : Type 0 where
-  pub targets : (rs : List Record) → Passed rs → TableFor rs table → length (aritiesOf rs) ≡ constructors → constructors ≤ 32 → targetsIn (getD (aritiesOf rs) c 0) r ≡ targetsAt (transitionsOf rs) q c
-  pub four : (rs : List Record) → TableFor rs table → length r ≡ 4
-
--- r is the argument count of a constructor, 0 where there is none
-abbrev pub IsArity : List ℕ → List ℕ → ℕ → ℕ → ℕ → Type 0
-IsArity file index constructors c r = (rs : List Record) → Passed rs → Indexed file index Kind.constructor constructors rs → constructors ≤ 32 → r ≡ getD (aritiesOf rs) c 0
 
 -- where the term stands after an unfolding into the other buffer
 unfoldable pub settled : Held → Unfolded → Step

@@ -1,13 +1,13 @@
 // One letter of a path, with the term held in one of two buffers.
-use entries::place_at;
 use flat_terms::part;
-use records::byte_at;
+use rows::arity_of;
+use rows::row_of;
 use steps::Descent;
 use steps::descend;
 use steps::unfold_front;
 use unfolding::Unfolded;
 ghost use mathlib.Core.Path.{_≡_};
-ghost use Rattle.letters.specs.Letters.{IsRow, IsArity, settled, UnfoldsHeld, DescendsHeld, Follows, Turns};
+ghost use Rattle.letters.specs.Letters.{settled, UnfoldsHeld, DescendsHeld, Follows, Turns};
 
 // Where the term held stands: in the first buffer or in the second, from which node up to which; and the state.
 pub struct Held {
@@ -22,35 +22,6 @@ pub enum Step {
     Lost,
     TooLarge,
     At { held: Held },
-}
-
-// The row of the table for a state and a constructor; 255 where there is no transition.
-pub fn row_of(table: [[[u8; 4]; 32]; 16], constructors: usize, state: usize, c: usize) -> [u8; 4]
-    ensures { λ r. ⌜ IsRow table constructors state c r ⌝ }
-{
-    if 16 <= state {
-        return [255; 4];
-    }
-    if constructors <= c {
-        return [255; 4];
-    }
-    if 32 <= c {
-        return [255; 4];
-    }
-    table[state][c]
-}
-
-// The argument count of a constructor; 0 where there is none.
-fn arity_of(file: &[u8], index: &[u16], constructors: usize, c: usize) -> usize
-    ensures { λ r. ⌜ IsArity (now (file .entry)) (now (index .entry)) constructors c r ⌝ }
-{
-    if constructors <= c {
-        return 0;
-    }
-    if 32 <= c {
-        return 0;
-    }
-    byte_at(file, place_at(index, 64 + c))
 }
 
 // Where the term stands after an unfolding into the other buffer.

@@ -25,12 +25,13 @@ use Rattle.moves.specs.Moves.{targetsIn}
 use Rattle.flat_terms.specs.Flat.{nodeOf, nodesIn, between}
 use Rattle.flat_terms.proofs.Parts.{between-in}
 use Rattle.steps.proofs.Fronts.{nonterminal-tag, constructor-tag, parameter-tag, front-head}
-use Rattle.letters.specs.Letters.{IsRow, Replaying, Holding, bufferOf, Reaches, Turns}
+use Rattle.rows.specs.Rows.{IsRow}
+use Rattle.letters.specs.Letters.{Replaying, Holding, bufferOf, Reaches, Turns}
 use Rattle.letters.specs.declared.Held.{Held}
 use Rattle.letters.specs.declared.Step.{Step}
 use Rattle.letters.specs.declared.Step.the-variants.{Lost, TooLarge, At}
 use Rattle.letters.proofs.Step.{the-type}
-use Rattle.letters.proofs.Rows.{constructor-count}
+use Rattle.rows.proofs.Rows.{constructor-count}
 use Rattle.letters.proofs.Letters.{no-nodes}
 use Rattle.replay.specs.PathCases.{PathAnswer, refutedPath, refusedPath, nodeLimit, pathAnswer, replayed}
 use Rattle.replay.specs.Replays.{pathAs, stoppedAt, Arrives, Runs}

@@ -1,9 +1,9 @@
 -- `row_of` meets its contract.
 use native.Mathlib.Omega.{arith}
-use Rattle.letters.proofs.Rows.{row-past-states, row-past-constructors, row-past-all, row-there}
+use Rattle.rows.proofs.Rows.{row-past-states, row-past-constructors, row-past-all, row-there}
 use borrow.Author.Needs.{needs}
-use Rattle.letters.proofs.row_of.Statement.{statement}
-use Rattle.letters.proofs.row_of.Tie as tie
+use Rattle.rows.proofs.row_of.Statement.{statement}
+use Rattle.rows.proofs.row_of.Tie as tie
 
 returns : tie.Need-returns
 returns c = row-past-states (c .if1 .taken)

@@ -1,9 +1,9 @@
 -- `arity_of` meets its contract.
 use native.Mathlib.Omega.{arith}
-use Rattle.letters.proofs.Rows.{arity-past, arity-past-all, arity-there}
+use Rattle.rows.proofs.Rows.{arity-past, arity-past-all, arity-there}
 use borrow.Author.Needs.{needs}
-use Rattle.letters.proofs.arity_of.Statement.{statement}
-use Rattle.letters.proofs.arity_of.Tie as tie
+use Rattle.rows.proofs.arity_of.Statement.{statement}
+use Rattle.rows.proofs.arity_of.Tie as tie
 
 returns : tie.Need-returns
 returns c = arity-past (c .if1 .taken)

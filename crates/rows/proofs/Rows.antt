@@ -18,7 +18,7 @@ use Rattle.scheme.proofs.Lists.{getD-map-in}
 use Rattle.entries.specs.Index.{Indexed}
 use Rattle.moves.specs.Moves.{rowAt, targetsIn, TableFor}
 use Rattle.moves.proofs.Meaning.{no-state, no-constructor}
-use Rattle.letters.specs.Letters.{IsRow, IsArity}
+use Rattle.rows.specs.Rows.{IsRow, IsArity}
 
 -- a row that says that there is no transition
 abbrev pub noRow : List ℕ
