@@ -2,9 +2,6 @@
 // answer: `NAME: refuted letters 5 state 1 constructor 0`, `NAME: refused 13 at 2` or `NAME: bindings`. A flag that changed
 // is reported. Where the answer is refuted or 13 to 15, a reducer on its own has to say the same, of the file and of
 // cases with the same plan and paths drawn by a seed; where it does not, a line says so. The last line counts these cases.
-mod paths;
-mod reducer;
-
 use libc::STDOUT_FILENO;
 use path_cases::Answer;
 use reducer::Outcome;
@@ -192,8 +189,8 @@ fn drawn_case(
     cells: &mut [u16],
 ) -> usize {
     let mut letters = io::buffer();
-    let drawn = paths::draw(file, plan, cells, seed, &mut letters);
-    let end = paths::set_path(file, plan.path, &letters, drawn.length);
+    let drawn = drawn_paths::draw(file, plan, cells, seed, &mut letters);
+    let end = drawn_paths::set_path(file, plan.path, &letters, drawn.length);
     let case = first_bytes(file, end);
     let answer = answer_of(case, 16);
     compare(name, case, plan.path, k, answer, cells);

@@ -2,8 +2,8 @@ use Prim.Native.Nat.{_-_}
 use lib.ListN.{length}
 use mathlib.Core.Path.{_≡_}
 use borrow.Author.Needs.{needs}
-use Rattle.replay_cases.proofs.reducer.size.Statement.{statement}
-use Rattle.replay_cases.proofs.reducer.size.Tie as tie
+use Rattle.reducer.proofs.size.Statement.{statement}
+use Rattle.reducer.proofs.size.Tie as tie
 
 abbrev Inv-loop : tie.InvT-loop
 Inv-loop cells₀ term waiting₀ nodes₀ cells waiting nodes = length cells ≡ length cells₀

@@ -2,8 +2,8 @@ use Prim.Native.Nat.{_-_}
 use lib.ListN.{length}
 use mathlib.Core.Path.{_≡_}
 use borrow.Author.Needs.{needs}
-use Rattle.replay_cases.proofs.reducer.unfold.Statement.{statement}
-use Rattle.replay_cases.proofs.reducer.unfold.Tie as tie
+use Rattle.reducer.proofs.unfold.Statement.{statement}
+use Rattle.reducer.proofs.unfold.Tie as tie
 
 abbrev Inv-loop : tie.InvT-loop
 Inv-loop cells₀ term body list base end top₀ at₀ cells top at = length cells ≡ length cells₀

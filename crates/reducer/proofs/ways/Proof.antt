@@ -1,7 +1,7 @@
 use Prim.Native.Nat.{_-_}
 use borrow.Author.Needs.{needs}
-use Rattle.replay_cases.proofs.reducer.ways.Statement.{statement}
-use Rattle.replay_cases.proofs.reducer.ways.Tie as tie
+use Rattle.reducer.proofs.ways.Statement.{statement}
+use Rattle.reducer.proofs.ways.Tie as tie
 
 abbrev Inv-loop : tie.InvT-loop
 Inv-loop file cells term at₀ n₀ at n = Unit {0}

@@ -1,7 +1,7 @@
 use Prim.Native.Nat.{_-_}
 use borrow.Author.Needs.{needs}
-use Rattle.replay_cases.proofs.reducer.transition.Statement.{statement}
-use Rattle.replay_cases.proofs.reducer.transition.Tie as tie
+use Rattle.reducer.proofs.transition.Statement.{statement}
+use Rattle.reducer.proofs.transition.Tie as tie
 
 abbrev Inv-loop : tie.InvT-loop
 Inv-loop file state constructor path at₀ at = Unit {0}

@@ -2,8 +2,8 @@ use Prim.Native.Nat.{_-_}
 use lib.ListN.{length}
 use mathlib.Core.Path.{_≡_}
 use borrow.Author.Needs.{needs}
-use Rattle.replay_cases.proofs.paths.draw.Statement.{statement}
-use Rattle.replay_cases.proofs.paths.draw.Tie as tie
+use Rattle.drawn_paths.proofs.draw.Statement.{statement}
+use Rattle.drawn_paths.proofs.draw.Tie as tie
 
 abbrev Inv-loop : tie.InvT-loop
 Inv-loop file plan cells₀ first letters₀ rate seed₀ most spot₀ i₀ cells letters seed spot i = (length cells ≡ length cells₀) × (length letters ≡ length letters₀)

@@ -1,7 +1,7 @@
 use Prim.Native.Nat.{_-_}
 use borrow.Author.Needs.{needs}
-use Rattle.replay_cases.proofs.reducer.along.Statement.{statement}
-use Rattle.replay_cases.proofs.reducer.along.Tie as tie
+use Rattle.reducer.proofs.along.Statement.{statement}
+use Rattle.reducer.proofs.along.Tie as tie
 
 abbrev Inv-loop : tie.InvT-loop
 Inv-loop cells cell n at₀ counter₀ at counter = Unit {0}

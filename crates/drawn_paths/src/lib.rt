@@ -1,6 +1,5 @@
 // Paths drawn by a seed. Most letters are such as can be followed; the reducer says which these are.
-use super::reducer;
-use super::reducer::Plan;
+use reducer::Plan;
 ghost use Prim.Native.Nat.{_≤_};
 
 // A path's length, and the seed for what is drawn next.

@@ -2,8 +2,8 @@ use Prim.Native.Nat.{_-_}
 use lib.ListN.{length}
 use mathlib.Core.Path.{_≡_}
 use borrow.Author.Needs.{needs}
-use Rattle.replay_cases.proofs.paths.set_path.Statement.{statement}
-use Rattle.replay_cases.proofs.paths.set_path.Tie as tie
+use Rattle.drawn_paths.proofs.set_path.Statement.{statement}
+use Rattle.drawn_paths.proofs.set_path.Tie as tie
 
 abbrev Inv-loop : tie.InvT-loop
 Inv-loop file₀ path letters n i₀ file i = length file ≡ length file₀

@@ -2,8 +2,8 @@ use Prim.Native.Nat.{_-_}
 use lib.ListN.{length}
 use mathlib.Core.Path.{_≡_}
 use borrow.Author.Needs.{needs}
-use Rattle.replay_cases.proofs.reducer.replay.Statement.{statement}
-use Rattle.replay_cases.proofs.reducer.replay.Tie as tie
+use Rattle.reducer.proofs.replay.Statement.{statement}
+use Rattle.reducer.proofs.replay.Tie as tie
 
 abbrev Inv-loop : tie.InvT-loop
 Inv-loop file cells₀ plan path letters spot₀ i₀ cells spot i = length cells ≡ length cells₀

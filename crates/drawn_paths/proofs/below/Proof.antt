@@ -2,8 +2,8 @@ use Prim.Native.Nat.{_/_}
 use native.Mathlib.Nat.{mod-lt}
 use native.Mathlib.Omega.{arith}
 use borrow.Author.Needs.{needs}
-use Rattle.replay_cases.proofs.paths.below.Statement.{statement}
-use Rattle.replay_cases.proofs.paths.below.Tie as tie
+use Rattle.drawn_paths.proofs.below.Statement.{statement}
+use Rattle.drawn_paths.proofs.below.Tie as tie
 
 returns : tie.Need-returns
 returns c = search needs

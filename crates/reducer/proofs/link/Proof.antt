@@ -2,8 +2,8 @@ use Prim.Native.Nat.{_≤_}
 use lib.ListN.{length}
 use mathlib.Core.Path.{_≡_}
 use borrow.Author.Needs.{needs}
-use Rattle.replay_cases.proofs.reducer.link.Statement.{statement}
-use Rattle.replay_cases.proofs.reducer.link.Tie as tie
+use Rattle.reducer.proofs.link.Statement.{statement}
+use Rattle.reducer.proofs.link.Tie as tie
 
 abbrev Inv-loop : tie.InvT-loop
 Inv-loop file at nodes cells₀ cell right₀ left₀ cells right left = (length cells ≡ length cells₀) × (left ≤ nodes)
