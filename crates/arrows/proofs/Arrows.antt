@@ -11,6 +11,7 @@ use lib.Dec.{eqb}
 use lib.ListN.{length, getD, take, drop, drop-of-length-le}
 use lib.Seq.{length-take-le, drop-cons, getD-take}
 use Rattle.scheme.specs.Types.{Ty, state, arrow, Tys, []ʸ, _∷ʸ_, members, same, sames, takes}
+use Rattle.scheme.proofs.Lists.{and-no}
 use Rattle.records.specs.Records.{Record}
 use Rattle.records.proofs.Fields.{Bytes}
 use Rattle.goals.specs.Goals.{Goal, of-state, of-arrow, Typed, IsResult, CountsMembers, IsMember}
@@ -102,11 +103,7 @@ sames-one p (m ∷ʸ []ʸ) r s = and-assoc (same (state p) m) (same r s)
 sames-one p (m ∷ʸ (o ∷ʸ ms)) r s = two (same (state p) m) (length (members ms))
   where
     two : (x : Bool) (j : ℕ) → ((x && false) && same r s) ≡ (eqb (suc (suc j)) 1 && x && same r s)
-    two x j = ap₂ _&&_ (no x) refl ∙ sym (ap (λ b. b && x && same r s) (ne-eqb (suc (suc j)) 1 (λ e. omega arith)))
-      where
-        no : (y : Bool) → (y && false) ≡ false
-        no true = refl
-        no false = refl
+    two x j = ap₂ _&&_ (and-no x) refl ∙ sym (ap (λ b. b && x && same r s) (ne-eqb (suc (suc j)) 1 (λ e. omega arith)))
 
 module _ {file index : List ℕ} {n : ℕ} {row : List ℕ} {k arity q goal g i : ℕ} (o : Matching file index n row k arity q goal g i) where
   abbrev Decides : Bool → Type 0

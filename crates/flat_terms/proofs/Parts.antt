@@ -10,6 +10,7 @@ use lib.Dec.{leb}
 use lib.ListN.{length, take, drop, length-drop}
 use lib.Seq.{length-take-le, take-nil, take-take, drop-drop}
 use Rattle.scheme.specs.Lists.{if_then_else_}
+use Rattle.scheme.proofs.Lists.{and-no}
 use Rattle.flat_terms.specs.Flat.{between}
 
 -- the first n elements are at most n, and at most all
@@ -22,10 +23,6 @@ pub take-short : (n : ℕ) (l : List ℕ) → length (take n l) ≤ length l
 take-short zero l = omega arith
 take-short (suc n) [] = omega arith
 take-short (suc n) (x ∷ l) = let e = take-short n l in omega arith
-
-and-no : (b : Bool) → b && false ≡ false
-and-no true = refl
-and-no false = refl
 
 module _ (l : List ℕ) (from to : ℕ) where
   pub between-in : from ≤ to → to ≤ length l → between l from to ≡ take (to - from) (drop from l)

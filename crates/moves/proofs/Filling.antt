@@ -11,6 +11,7 @@ use lib.Dec.{eqb}
 use lib.ListN.{length, getD, set, take, drop, replicate, length-set, getD-replicate}
 use lib.Seq.{getD-set-same, getD-set-other, drop-cons, drop-length}
 use Rattle.scheme.specs.Lists.{if_then_else_}
+use Rattle.scheme.proofs.Lists.{and-no}
 use Rattle.records.specs.Fields.{byte}
 use Rattle.records.specs.Records.{Record}
 use Rattle.casefile.specs.Kinds.{Kind, payloads}
@@ -114,9 +115,5 @@ module _ (file index : List ℕ) (n : ℕ) where
           count = omega (arith, so .count);
           few = so .few;
           shaped = so .shaped;
-          rows = λ rs ok ix x y hx hy. skip x y (rw (ne-eqb c y (λ z. omega arith)) (neither (eqb q x))) ∙ sym (here ok ix x y hx hy);
+          rows = λ rs ok ix x y hx hy. skip x y (rw (ne-eqb c y (λ z. omega arith)) (and-no (eqb q x))) ∙ sym (here ok ix x y hx hy);
         }
-      where
-        neither : (b : Bool) → (b && false) ≡ false
-        neither true = refl
-        neither false = refl

@@ -8,6 +8,7 @@ use borrow.Author.Tests.{le-leb, lt-leb, leb-true, leb-false}
 use lib.Dec.{leb}
 use lib.ListN.{length, take, drop, length-drop}
 use lib.Seq.{length-take-le}
+use Rattle.scheme.proofs.Lists.{and-no}
 use Rattle.records.specs.Fields.{word}
 use Rattle.records.specs.Records.{whole, end, cut, next, walk, recordAt}
 use Rattle.reading.specs.Reading.{readRecord, readAt, partOf}
@@ -49,10 +50,6 @@ module _ (s : List ℕ) (start len : ℕ) where
   unfolding partOf
   part-out h = simp (lt-leb (start + len) (length s) h)
 
-and-false : (b : Bool) → b && false ≡ false
-and-false true = refl
-and-false false = refl
-
 module _ (s : List ℕ) (at : ℕ) where
   -- a record is whole where its last byte is inside
   pub whole-fits : at + 4 + word s at ≤ length s → whole s at ≡ true
@@ -61,7 +58,7 @@ module _ (s : List ℕ) (at : ℕ) where
 
   pub whole-cut : length s < at + 4 + word s at → whole s at ≡ false
   unfolding whole
-  whole-cut h = rw (lt-leb (at + 4 + word s at) (length s) h) (and-false (leb (at + 4) (length s)))
+  whole-cut h = rw (lt-leb (at + 4 + word s at) (length s) h) (and-no (leb (at + 4) (length s)))
 
   whole-last : (b : Bool) → leb (at + 4 + word s at) (length s) ≡ b → whole s at ≡ true → at + 4 + word s at ≤ length s
   whole-last true e w = leb-true (at + 4 + word s at) (length s) e

@@ -7,7 +7,7 @@ use mathlib.Core.Bool.{false}
 use mathlib.Core.List.{List, [], _∷_, _++_}
 use borrow.Author.Count.{below-more}
 use borrow.Rule.Slice.PartMut.{putMid, postOf, same-len-mid}
-use lib.ListN.{length, getD, take, drop, length-drop, List·getD-append}
+use lib.ListN.{length, getD, take, drop, List·getD-append}
 use lib.Seq.{getD-take, getD-append-add, length-take-le}
 use Rattle.records.specs.Records.{Record}
 use Rattle.casefile.specs.Kinds.{rule, payloads}
@@ -46,9 +46,6 @@ pub record Changed (ends ends′ part : List ℕ) (at : ℕ) : Type 0 where
   pub changed : (k : ℕ) → k < length part → getD ends′ (at + k) 0 ≡ getD part k 0
 
 -- the part from a place on
-pub part-size : (ends : List ℕ) (at : ℕ) → length (take (length ends - at) (drop at ends)) ≡ length ends - at
-part-size ends at = length-take-le (length ends - at) (drop at ends) (rw length-drop (omega arith))
-
 pub changed-put : (ends part : List ℕ) (at : ℕ) → at ≤ length ends → length part ≡ length (take (length ends - at) (drop at ends)) → Changed ends (putMid at (length ends - at) ends part) part at
 changed-put ends part at h e =
     let post = postOf at (length ends - at) ends in

@@ -5,12 +5,12 @@ use mathlib.Core.Logic.{_⊎_, inl, inr}
 use mathlib.Core.Bool.{Bool, true, false, _&&_, _||_, true≢false}
 use mathlib.Core.Option.{Option, none, some}
 use mathlib.Core.List.{List, [], _∷_, _++_, map, List·Memᴰ, List·Memᴰ·head, List·Memᴰ·tail, List·Memᴰ·not-nil, List·Memᴰ·cases-cons}
-use Prim.Native.Nat.{ℕ, zero, suc, _<_, _≤_, zero-le, suc-le-suc}
+use Prim.Native.Nat.{ℕ, zero, suc, _-_, _<_, _≤_, zero-le, suc-le-suc}
 use native.Mathlib.Omega.{arith}
 use native.Mathlib.Nat.{le-of-suc-le-suc}
 use lib.Dec.{T}
-use lib.ListN.{length, getD, take}
-use lib.Seq.{getD-take}
+use lib.ListN.{length, getD, take, drop, length-drop}
+use lib.Seq.{length-take-le, getD-take}
 use Rattle.scheme.specs.Lists.{found, any, all, keepIf, select}
 
 pub T→true : (b : Bool) → T b → b ≡ true
@@ -55,6 +55,10 @@ or-false false b e = (refl, e)
 pub and-false : (a b : Bool) → (a && b) ≡ false → a ≡ true → b ≡ false
 and-false true b e t = e
 and-false false b e t = absurd (true≢false (sym t))
+
+pub and-no : (a : Bool) → (a && false) ≡ false
+and-no true = refl
+and-no false = refl
 
 pub and-true : (a b : Bool) → (a && b) ≡ true → (a ≡ true) × (b ≡ true)
 and-true true b e = (refl, e)
@@ -190,3 +194,7 @@ module _ {A : Type 0} where
 
   pub getD-prefix : (l a : List A) (i : ℕ) (d : A) → take (length l) a ≡ l → i < length l → getD a i d ≡ getD l i d
   getD-prefix l a i d e h = sym (getD-take (length l) a i d h) ∙ ap (λ x. getD x i d) e
+
+  -- how much of a list is left behind its first elements
+  pub part-size : (l : List A) (at : ℕ) → length (take (length l - at) (drop at l)) ≡ length l - at
+  part-size l at = length-take-le (length l - at) (drop at l) (rw length-drop (omega arith))

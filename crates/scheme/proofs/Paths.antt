@@ -17,7 +17,7 @@ use Rattle.scheme.specs.Reduction.{Plan, body, start}
 use Rattle.scheme.specs.Typing.{Automaton}
 use Rattle.scheme.specs.Replay.{At, argument, descend, follow, unless, stuck, isErrorPath, Ending, refutes, lost, outgrown, elsewhere, arrived, exceeds, followed, replay}
 use Rattle.scheme.specs.Paths.{starting, IsArgument, IsTarget, Step, unfolds, descends, Within, AnySize, Replays, Stuck, ReplaysTo, At-letter, Ends}
-use Rattle.scheme.proofs.Lists.{T→true, true→T, and-left, and-right}
+use Rattle.scheme.proofs.Lists.{T→true, true→T, and-left, and-right, and-no}
 
 none-some : {A : Type 0} {a : A} {x : Option A} → x ≡ none → x ≡ some a → ⊥
 none-some e f = let z : _≡_ {A = ℕ} 0 1 = cc in omega arith
@@ -169,11 +169,7 @@ module _ (aut : Automaton) (plan : Plan) where
 
   exceeds-within : (limit l : ℕ) (t : Term) → nodes t ≤ limit → exceeds limit l t ≡ false
   unfolding exceeds
-  exceeds-within limit l t h = rw (le-ltb limit (nodes t) h) (and-false (eqb l 0))
-    where
-      and-false : (b : Bool) → (b && false) ≡ false
-      and-false true = refl
-      and-false false = refl
+  exceeds-within limit l t h = rw (le-ltb limit (nodes t) h) (and-no (eqb l 0))
 
   -- and a path that replays within the limit to a constructor without a transition is refuted
   pub replay-refutes : (limit n : ℕ) (ls : List ℕ) (a : At) (q c : ℕ) → ReplaysTo aut plan (Within limit) ls a q c → replay limit aut plan n ls (a .term) (a .state) ≡ refutes (n + length ls) q c

@@ -8,10 +8,11 @@ use mathlib.Core.List.{List, [], _∷_, _++_, map-append, append-nil}
 use borrow.Author.Tests.{leb-true, leb-false}
 use borrow.Rule.Slice.PartMut.{putMid, postOf, same-len-mid}
 use lib.Dec.{leb}
-use lib.ListN.{length, getD, take, drop, length-map, length-append, length-drop, take-append-drop}
+use lib.ListN.{length, getD, take, drop, length-map, length-append, take-append-drop}
 use lib.Seq.{take-append-add, take-append-le, length-take-le, take-suc, take-all, drop-cons}
 use Rattle.scheme.specs.Terms.{Head, con, nt, par, Term, node, Terms, []ᵗ, _∷ᵗ_, countᵗ, termAt, nodes, nodesAll, put}
 use Rattle.scheme.specs.Prefix.{Node, flat, flats}
+use Rattle.scheme.proofs.Lists.{part-size}
 use Rattle.scheme.proofs.Prefix.{length-flat}
 use Rattle.records.specs.Fields.{byte, word}
 use Rattle.casefile.specs.Tables.{Cell, headOf, nodesOf}
@@ -168,10 +169,6 @@ replaced-some xs (par j) count = some-nodes (termAt xs j (node (par j) []ᵗ))
   where
     some-nodes : (t : Term) → 0 < length (withMore count (flat t))
     some-nodes (node h ts) = omega arith
-
--- how much of a buffer is left
-pub part-size : (out : List ℕ) (at : ℕ) → length (take (length out - at) (drop at out)) ≡ length out - at
-part-size out at = length-take-le (length out - at) (drop at out) (rw length-drop (omega arith))
 
 -- the buffer after its nodes behind the first were written
 module _ (out part : List ℕ) (at n : ℕ) (h : at ≤ length out) (k : length part ≡ length (take (length out - at) (drop at out))) where

@@ -8,6 +8,7 @@ use mathlib.Core.Option.{none, some}
 use borrow.Author.Tests.{lt-ltb, le-ltb}
 use lib.Dec.{ltb}
 use lib.ListN.{length, getD}
+use Rattle.scheme.proofs.Lists.{and-no}
 use Rattle.records.specs.Records.{Record}
 use Rattle.records.proofs.Fields.{Bytes}
 use Rattle.casefile.specs.Kinds.{sort, nonterminal, type, binding, path, number, ofKind, payloads, count, placeOf}
@@ -73,11 +74,7 @@ module _ {file index counts lens : List ℕ} {rs : List Record} (flags : ℕ) (k
 
   module _ (hp : paths ≤ 0) where
     no10 : wrong10 ≡ false
-    no10 = ap (λ b. ltb 0 (count type rs + count binding rs) && b) (le-ltb 0 (count path rs) (omega (arith, paths-are))) ∙ and-false (ltb 0 (count type rs + count binding rs))
-      where
-        and-false : (b : Bool) → (b && false) ≡ false
-        and-false true = refl
-        and-false false = refl
+    no10 = ap (λ b. ltb 0 (count type rs + count binding rs) && b) (le-ltb 0 (count path rs) (omega (arith, paths-are))) ∙ and-no (ltb 0 (count type rs + count binding rs))
 
     -- what the program found of the bindings
     module _ (sorts : ℕ) (es : sorts ≡ getD counts 1 0) (b : ℕ) (found : FindsFirst file index types sorts bindings b) where

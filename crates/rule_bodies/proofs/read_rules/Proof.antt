@@ -2,7 +2,8 @@
 use native.Mathlib.Omega.{arith}
 use mathlib.Core.Path.{_∙_}
 use borrow.Author.Needs.{needs}
-use Rattle.rule_bodies.proofs.AllRules.{Going, going-none, going-stop, going-more, going-end, part-size, changed-put}
+use Rattle.scheme.proofs.Lists.{part-size}
+use Rattle.rule_bodies.proofs.AllRules.{Going, going-none, going-stop, going-more, going-end, changed-put}
 use Prim.Native.Nat.{_-_, _≤_}
 use Rattle.rule_bodies.proofs.read_rules.Statement.{statement}
 use Rattle.rule_bodies.proofs.read_rules.Tie as tie

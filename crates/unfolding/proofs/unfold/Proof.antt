@@ -3,7 +3,8 @@ use Prim.Native.Nat.{_-_, _/_}
 use native.Mathlib.Omega.{arith}
 use mathlib.Core.Path.{refl, _∙_}
 use lib.ListN.{length}
-use Rattle.unfolding.proofs.Unfolding.{Unfolding, unfold-start, unfold-next, unfold-over, unfold-end, part-size}
+use Rattle.scheme.proofs.Lists.{part-size}
+use Rattle.unfolding.proofs.Unfolding.{Unfolding, unfold-start, unfold-next, unfold-over, unfold-end}
 use borrow.Author.Needs.{needs}
 use Rattle.unfolding.proofs.unfold.Statement.{statement}
 use Rattle.unfolding.proofs.unfold.Tie as tie
