@@ -13,10 +13,9 @@ use lib.Seq.{length-take-le, drop-cons, getD-take}
 use Rattle.scheme.specs.Types.{Ty, state, arrow, Tys, []ʸ, _∷ʸ_, members, same, sames, takes}
 use Rattle.scheme.proofs.Lists.{and-no}
 use Rattle.records.specs.Records.{Record}
-use Rattle.records.proofs.Fields.{Bytes}
 use Rattle.goals.specs.Goals.{Goal, of-state, of-arrow, Typed, IsResult, CountsMembers, IsMember}
 use Rattle.goals.proofs.Goals.{goals-same}
-use Rattle.arrows.specs.Arrows.{off, GoalIf, TakesOff, Matches}
+use Rattle.arrows.specs.Arrows.{Small, off, GoalIf, TakesOff, Matches}
 
 -- while arrows are taken off: i are off, and the others are still on
 pub record Off (file index : List ℕ) (n goal k g i : ℕ) : Type 0 where
@@ -71,20 +70,20 @@ module _ {file index : List ℕ} {n goal k g i : ℕ} (o : Off file index n goal
 -- while targets are matched: those before number i did
 pub record Matching (file index : List ℕ) (n : ℕ) (row : List ℕ) (k arity q goal g i : ℕ) : Type 0 where
   pub upTo : k ≤ i
-  pub here : (rs : List Record) → Typed file index n rs → (τ : Ty) → Goal rs n goal τ → length row ≡ 4 → Bytes row → arity ≤ 4 → k ≤ arity
+  pub here : (rs : List Record) → Typed file index n rs → (τ : Ty) → Goal rs n goal τ → length row ≡ 4 → Small arity row → arity ≤ 4 → k ≤ arity
       → (σ : Ty) × Goal rs n g σ × (same (takes (drop i (take arity row)) q) σ ≡ same (takes (drop k (take arity row)) q) τ)
 
 pub match-start : (file index : List ℕ) (n : ℕ) (row : List ℕ) (k arity q goal : ℕ) → Matching file index n row k arity q goal goal k
 match-start file index n row k arity q goal = record { upTo = omega arith; here = λ rs w τ x l y a b. (τ, x, refl) }
 
 -- one target
-takes-step : (row : List ℕ) (i arity q : ℕ) → i < arity → arity ≤ 4 → length row ≡ 4 → takes (drop i (take arity row)) q ≡ arrow (state (getD row i 0) ∷ʸ []ʸ) (takes (drop (suc i) (take arity row)) q)
+pub takes-step : (row : List ℕ) (i arity q : ℕ) → i < arity → arity ≤ 4 → length row ≡ 4 → takes (drop i (take arity row)) q ≡ arrow (state (getD row i 0) ∷ʸ []ʸ) (takes (drop (suc i) (take arity row)) q)
 unfolding takes
 takes-step row i arity q h a l =
     let t : length (take arity row) ≡ arity = length-take-le arity row (omega arith) in
     ap (λ z. takes z q) (drop-cons (take arity row) i 0 (omega arith) ∙ ap (_∷ drop (suc i) (take arity row)) (getD-take arity row i 0 h))
 
-takes-none : (row : List ℕ) (i arity q : ℕ) → arity ≤ i → arity ≤ 4 → length row ≡ 4 → takes (drop i (take arity row)) q ≡ state q
+pub takes-none : (row : List ℕ) (i arity q : ℕ) → arity ≤ i → arity ≤ 4 → length row ≡ 4 → takes (drop i (take arity row)) q ≡ state q
 unfolding takes
 takes-none row i arity q h a l =
     let t : length (take arity row) ≡ arity = length-take-le arity row (omega arith) in
@@ -110,7 +109,7 @@ module _ {file index : List ℕ} {n : ℕ} {row : List ℕ} {k arity q goal g i 
   Decides r = Matches file index n row k arity q goal r
 
   -- what is left to decide
-  left-to : (r : Bool) → ((rs : List Record) → Typed file index n rs → (σ : Ty) → Goal rs n g σ → length row ≡ 4 → Bytes row → arity ≤ 4 → r ≡ same (takes (drop i (take arity row)) q) σ) → Decides r
+  left-to : (r : Bool) → ((rs : List Record) → Typed file index n rs → (σ : Ty) → Goal rs n g σ → length row ≡ 4 → Small arity row → arity ≤ 4 → r ≡ same (takes (drop i (take arity row)) q) σ) → Decides r
   left-to r f = record { decided = λ rs w τ x l z a b. let (σ, y, e) = o .here rs w τ x l z a b in f rs w σ y l z a ∙ e }
 
   pub match-state : i < arity → n ≤ g → Decides false
@@ -142,13 +141,13 @@ module _ {file index : List ℕ} {n : ℕ} {row : List ℕ} {k arity q goal g i 
 
     module _ (m : ℕ) (is : CountsMembers file index n g m) (one : m ≡ 1) (x : ℕ) (is-x : IsMember file index n g 0 x) where
       -- one member, by its number
-      by-member : (rs : List Record) → Typed file index n rs → (σ : Ty) → Goal rs n g σ → length row ≡ 4 → Bytes row → arity ≤ 4
+      by-member : (rs : List Record) → Typed file index n rs → (σ : Ty) → Goal rs n g σ → length row ≡ 4 → Small arity row → arity ≤ 4
           → (b : Tys) × (s : Ty) × Goal rs n g (arrow b s) × (same (takes (drop i (take arity row)) q) σ ≡ (eqb (n + getD row i 0) x && same (takes (drop (suc i) (take arity row)) q) s))
       by-member rs w σ y l bytes a =
           let (b, s, e, v) = arrow-here rs σ y in
           let c : length (members b) ≡ 1 = sym (is .many rs w b s v) ∙ one in
           let d = is-x .member rs w b s v (omega arith) in
-          let f : same (state (getD row i 0)) (getD (members b) 0 (state 0)) ≡ eqb (n + getD row i 0) x = goals-same w (n + getD row i 0) x (state (getD row i 0)) (getD (members b) 0 (state 0)) (of-state (getD row i 0) (bytes i) refl refl) d in
+          let f : same (state (getD row i 0)) (getD (members b) 0 (state 0)) ≡ eqb (n + getD row i 0) x = goals-same w (n + getD row i 0) x (state (getD row i 0)) (getD (members b) 0 (state 0)) (of-state (getD row i 0) (bytes i h) refl refl) d in
           (b, s, v, by-members σ b s e l a ∙ ap₂ (λ t u. t && u && same (takes (drop (suc i) (take arity row)) q) s) (eq-eqb (length (members b)) 1 c) f)
 
       pub match-member : (x ≡ n + getD row i 0 → ⊥) → Decides false

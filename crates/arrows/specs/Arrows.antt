@@ -7,7 +7,6 @@ use mathlib.Core.Option.{Option, none, some}
 use lib.ListN.{length, getD, take, drop}
 use Rattle.scheme.specs.Types.{Ty, state, arrow, same, takes}
 use Rattle.records.specs.Records.{Record}
-use Rattle.records.proofs.Fields.{Bytes}
 use Rattle.goals.specs.Goals.{Goal, Typed}
 
 -- a type with k arrows off, where it has so many
@@ -25,7 +24,11 @@ GoalIf rs n (some τ) r = Goal rs n r τ
 pub record TakesOff (file index : List ℕ) (n g k r : ℕ) : Type 0 where
   pub goal-off : (rs : List Record) → Typed file index n rs → (τ : Ty) → Goal rs n g τ → GoalIf rs n (off k τ) r
 
+-- the first n numbers of a row are bytes
+abbrev pub Small : ℕ → List ℕ → Type 0
+Small n row = (i : ℕ) → i < n → getD row i 0 < 256
+
 -- r says whether a goal is the type that takes the targets of a row, from number k on up to the arity, to a state
 pub record Matches (file index : List ℕ) (n : ℕ) (row : List ℕ) (k arity q g : ℕ) (r : Bool) : Type 0 where
-  pub decided : (rs : List Record) → Typed file index n rs → (τ : Ty) → Goal rs n g τ → length row ≡ 4 → Bytes row → arity ≤ 4 → k ≤ arity
+  pub decided : (rs : List Record) → Typed file index n rs → (τ : Ty) → Goal rs n g τ → length row ≡ 4 → Small arity row → arity ≤ 4 → k ≤ arity
       → r ≡ same (takes (drop k (take arity row)) q) τ

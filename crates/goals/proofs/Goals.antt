@@ -260,6 +260,11 @@ module _ {file index : List ℕ} {n g : ℕ} where
             subst (Goal rs n r) (ap (λ y. getD (typesOf rs) y (state 0)) f ∙ k .member-is j i) (is .goal rs w (let b = k .member-below j i in omega arith));
       }
 
+-- a goal's number is below 65,535
+pub goal-below : {rs : List Record} {n g : ℕ} {τ : Ty} → n ≤ 1024 → Goal rs n g τ → g < 65535
+goal-below few (of-state q small e f) = omega arith
+goal-below few (of-arrow a r inside e f) = omega arith
+
 -- EQUAL NUMBERS ARE EQUAL TYPES
 pub goals-same : {file index : List ℕ} {n : ℕ} {rs : List Record} → Typed file index n rs → (g h : ℕ) (τ σ : Ty) → Goal rs n g τ → Goal rs n h σ → same τ σ ≡ eqb g h
 unfolding same

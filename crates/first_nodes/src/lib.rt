@@ -1,0 +1,42 @@
+// Where the nodes of each rule begin, where the nodes of all rules are numbered one after another.
+use entries::place_at;
+use records::word_at;
+ghost use Rattle.first_nodes.specs.FirstNodes.{CountsNodes, FillsFirsts};
+
+// The number of nodes of rule f, four bytes each; 0 where the index has no such rule.
+fn nodes_of(file: &[u8], index: &[u16], f: usize) -> usize
+    ensures { λ r. ⌜ CountsNodes (now (file .entry)) (now (index .entry)) f r ⌝ }
+{
+    if 255 < f {
+        return 0;
+    }
+    let place = place_at(index, 352 + f);
+    if place < 4 {
+        return 0;
+    }
+    let len = word_at(file, place - 4);
+    if 1024 < len {
+        return 0;
+    }
+    len / 4
+}
+
+// Fills a table: entry f gets the number of the first node of rule f. The table stays as it is where there are more
+// than 256 rules, or more rules than entries.
+pub fn fill_firsts(file: &[u8], index: &[u16], rules: usize, firsts: &mut [u16])
+    ensures { λ _. ⌜ FillsFirsts (now (file .entry)) (now (index .entry)) rules (now (firsts .entry)) (now (firsts .exit)) ⌝ }
+{
+    if 256 < rules {
+        return;
+    }
+    if firsts.len() < rules {
+        return;
+    }
+    let mut at: usize = 0;
+    let mut f: usize = 0;
+    while f < rules {
+        firsts[f] = at as u16;
+        at = at + nodes_of(file, index, f);
+        f = f + 1;
+    }
+}

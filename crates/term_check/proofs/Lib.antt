@@ -1,0 +1,4 @@
+pub mod Places
+pub mod Arguments
+pub mod Heads
+pub mod Choices

@@ -1,0 +1,55 @@
+-- Terms by their first node in a body: the head and the arguments, and where each subterm ends.
+use Prim.Native.Nat.{ℕ, zero, suc, _+_, _*_, _/_, _<_, _≤_}
+use native.Mathlib.Omega.{arith}
+use native.Mathlib.Decide.{decLt}
+use mathlib.Core.Path.{_≡_, refl, sym, ap, subst, _∙_}
+use mathlib.Core.List.{List, [], _∷_, _++_, append-assoc}
+use lib.ListN.{length, getD, drop, length-drop, length-append}
+use lib.Seq.{drop-drop, drop-append-seam}
+use Rattle.scheme.specs.Terms.{Head, Term, node, Terms, []ᵗ, _∷ᵗ_, countᵗ, nodes, nodesAll}
+use Rattle.scheme.specs.Prefix.{Node, flat, flats, terms}
+use Rattle.scheme.proofs.Prefix.{terms-flat, length-flat}
+use Rattle.records.specs.Fields.{field}
+use Rattle.casefile.specs.Tables.{headOf, nodesOf, firstTerm}
+use Rattle.casefile.proofs.Cells.{cellAt, nodeAt, nodes-length, nodes-drop}
+use Rattle.term_check.specs.Checking.{At, AllAt}
+
+-- a term has a node
+pub nodes-some : (t : Term) → 0 < nodes t
+unfolding nodes
+nodes-some (node h ts) = omega arith
+
+module _ (p : List ℕ) where
+  pub at-inside : (i : ℕ) (t : Term) → At (nodesOf p) i t → i < length p / 4
+  at-inside i t (rest, e) =
+      let a = length-drop i (nodesOf p) in
+      let b = ap length e in
+      let c = length-append (flat t) rest in
+      let d = length-flat t in
+      let f = nodes-some t in
+      let g = nodes-length p in
+      omega arith
+
+  -- the head of a term, its argument count, and its arguments behind it
+  pub at-head : (i : ℕ) (h : Head) (ts : Terms) → At (nodesOf p) i (node h ts) → (headOf (cellAt p i) ≡ h) × (field 1 p (i * 4 + 3) ≡ countᵗ ts) × AllAt (nodesOf p) (suc i) ts
+  unfolding flat
+  at-head i h ts (rest, e) =
+      let both : nodeAt p i ∷ drop (suc i) (nodesOf p) ≡ record { head = h; count = countᵗ ts } ∷ (flats ts ++ rest) = sym (nodes-drop p i (at-inside i (node h ts) (rest, e))) ∙ e in
+      let first : nodeAt p i ≡ record { head = h; count = countᵗ ts } = ap (λ l. getD l 0 (nodeAt p i)) both in
+      (ap (λ (n : Node). n .head) first, ap (λ (n : Node). n .count) first, (rest, ap (drop 1) both))
+
+-- the first of several terms, and the others behind it
+module _ (ns : List Node) (i : ℕ) (t : Term) (ts : Terms) where
+  pub first-at : AllAt ns i (t ∷ᵗ ts) → At ns i t
+  unfolding flats
+  first-at (rest, e) = (flats ts ++ rest, e ∙ append-assoc (flat t) (flats ts) rest)
+
+  pub others-at : AllAt ns i (t ∷ᵗ ts) → AllAt ns (i + nodes t) ts
+  unfolding flats
+  others-at (rest, e) =
+      (rest, sym (drop-drop (nodes t) i ns) ∙ ap (drop (nodes t)) (e ∙ append-assoc (flat t) (flats ts) rest) ∙ ap (λ n. drop n (flat t ++ (flats ts ++ rest))) (sym (length-flat t)) ∙ drop-append-seam (flat t) (flats ts ++ rest))
+
+-- the term at a node, as the definitions of the ends have it
+pub term-at : (ns : List Node) (i : ℕ) (t : Term) → At ns i t → firstTerm (terms (drop i ns)) ≡ t
+unfolding firstTerm
+term-at ns i t (rest, e) = ap (λ l. firstTerm (terms l)) e ∙ ap firstTerm (terms-flat t rest)

@@ -1,0 +1,98 @@
+-- The check of a term and of its arguments, by the nodes of a body and by the numbers of goals. Section "Types and
+-- shrinking" of the scope: "Checking a term calls for its arguments, and each argument is again a term".
+use Prim.Native.Nat.{ℕ, zero, suc, _+_, _*_, _/_, _<_, _≤_}
+use mathlib.Core.Path.{_≡_}
+use mathlib.Core.Bool.{Bool, true, false, _&&_}
+use mathlib.Core.List.{List, [], _∷_, _++_}
+use mathlib.Core.Option.{Option, none, some}
+use lib.ListN.{length, getD, drop}
+use Rattle.scheme.specs.Terms.{Head, nt, Term, Terms, []ᵗ, _∷ᵗ_, countᵗ, nodes}
+use Rattle.scheme.specs.Prefix.{Node, flat, flats, terms}
+use Rattle.scheme.specs.Types.{Ty, state, arrow, members, same, domains}
+use Rattle.scheme.specs.Typing.{headTypes, has}
+use Rattle.scheme.specs.Flags.{chosen}
+use Rattle.records.specs.Fields.{byte}
+use Rattle.records.specs.Records.{Record}
+use Rattle.casefile.specs.Kinds.{Kind, payloads, count}
+use Rattle.casefile.specs.Tables.{headOf, nodesOf, firstTerm, automatonOf, bindingsOf}
+use Rattle.casefile.proofs.Cells.{cellAt}
+use Rattle.entries.specs.Index.{Indexed}
+use Rattle.groups.specs.Groups.{Grouped}
+use Rattle.moves.specs.Moves.{TableFor}
+use Rattle.goals.specs.Goals.{Goal}
+use Rattle.arrows.specs.Arrows.{off}
+use Rattle.serving.specs.Serving.{Given}
+use Rattle.serving.specs.Leading.{argsHave}
+use Rattle.memo.specs.Memo.{Under, Faithful}
+use Rattle.wants.specs.Wants.{HeadType}
+use Rattle.term_check.specs.declared.Test.{Test}
+
+-- term t stands at node i
+abbrev pub At : List Node → ℕ → Term → Type 0
+At ns i t = (rest : List Node) × (drop i ns ≡ flat t ++ rest)
+
+-- terms ts stand one after another from node i on
+abbrev pub AllAt : List Node → ℕ → Terms → Type 0
+AllAt ns i ts = (rest : List Node) × (drop i ns ≡ flats ts ++ rest)
+
+-- what a check is given beside a node and a goal: the file with its index, the groups of its bindings, those that are
+-- kept, the body with the ends of its subterms, the transitions, and the numbers of the test
+pub record Body : Type 0 where
+  pub file : List ℕ
+  pub index : List ℕ
+  pub groups : List ℕ
+  pub kept : List ℕ
+  pub ends : List ℕ
+  pub body : List ℕ
+  pub table : List (List (List ℕ))
+  pub test : Test
+
+abbrev pub ns : Body → List Node
+ns x = nodesOf (x .body)
+
+-- how many entries of the memo a node has
+abbrev pub width : Body → ℕ
+width x = x .test .types + 16
+
+-- the tables are those of the records, and the binding tested has type τ
+pub record Setting (x : Body) (rs : List Record) (τ : Ty) : Type 0 where
+  pub given : Given (x .file) (x .index) (x .test .types) (x .test .constructors) rs
+  pub one-states : length (payloads Kind.states rs) ≤ 1
+  pub table-is : TableFor rs (x .table)
+  pub bindings-there : Indexed (x .file) (x .index) Kind.binding (count Kind.binding rs) rs
+  pub bindings-few : count Kind.binding rs ≤ 1024
+  pub groups-long : length (x .groups) ≡ 257
+  pub grouped : Grouped rs (count Kind.binding rs) (x .groups)
+  pub own-type : Goal rs (x .test .types) (x .test .own) τ
+  pub tags : (i : ℕ) → i < length (x .body) / 4 → byte (x .body) (i * 4) ≤ 2
+  pub named : (i f : ℕ) → i < length (x .body) / 4 → headOf (cellAt (x .body) i) ≡ nt f → f < 256
+  pub ends-are : (i : ℕ) → i < length (x .body) / 4 → getD (x .ends) i 0 ≡ i + nodes (firstTerm (terms (drop i (ns x))))
+
+-- a term has a type, by the definitions
+abbrev pub hasIn : Body → List Record → Ty → Term → Ty → Bool
+hasIn x rs τ = has same (headTypes (automatonOf rs) (chosen (x .kept) (bindingsOf rs)) (domains τ))
+
+-- b is the answer for a node and a goal
+abbrev pub Right : Body → List Record → Ty → ℕ → ℕ → Bool → Type 0
+Right x rs τ i goal b = (t : Term) → At (ns x) i t → (σ : Ty) → Goal rs (x .test .types) goal σ → b ≡ hasIn x rs τ t σ
+
+-- all that is remembered in this test is right
+abbrev pub Remembers : Body → List Record → Ty → List ℕ → Type 0
+Remembers x rs τ memo = Faithful (Right x rs τ) memo (width x) (x .test .stamp)
+
+-- a check keeps what is remembered right, and enters nothing larger than an answer of this test
+pub record Keeps (x : Body) (memo after : List ℕ) : Type 0 where
+  pub long : length after ≡ length memo
+  pub remembers : (rs : List Record) (τ : Ty) → Setting x rs τ → Remembers x rs τ memo → Remembers x rs τ after
+  pub under : (n bound : ℕ) → x .test .stamp * 2 + 1 < bound → Under memo n bound → Under after n bound
+
+-- r is the answer for the term at a node
+pub record ChecksTerm (x : Body) (memo : List ℕ) (i goal : ℕ) (after : List ℕ) (r : Bool) : Type 0 where
+  pub keeps : Keeps x memo after
+  pub answer : (rs : List Record) (τ : Ty) → Setting x rs τ → Remembers x rs τ memo → Right x rs τ i goal r
+
+-- r is the answer for the arguments from a node on, where the head's type has an arrow for each
+pub record ChecksArgs (x : Body) (memo : List ℕ) (first count head : ℕ) (row : List ℕ) (after : List ℕ) (r : Bool) : Type 0 where
+  pub keeps : Keeps x memo after
+  pub answer : (rs : List Record) (τ : Ty) → Setting x rs τ → Remembers x rs τ memo → (ts : Terms) → AllAt (ns x) first ts → countᵗ ts ≡ count
+      → (σ ρ : Ty) → HeadType rs (x .test .types) row 0 head σ → off count σ ≡ some ρ → r ≡ argsHave (hasIn x rs τ) ts σ
