@@ -28,24 +28,26 @@ use Rattle.candidates.proofs.Spanning.{binding-made}
 
 -- The type of a binding.
 -- the records before are among all
-fewer : (k : Kind) (xs ys : List Record) → count k xs ≤ count k (xs ++ ys)
+pub fewer : (k : Kind) (xs ys : List Record) → count k xs ≤ count k (xs ++ ys)
 unfolding count ofKind
 fewer k xs ys =
     let e = ap length (select-append (λ (r : Record). eqb (r .kind) (number k)) xs ys) ∙ length-append (ofKind k xs) (ofKind k ys) in
     omega arith
 
--- a binding's payload, and the number of its type
-binding-there : {rs : List Record} → Passed rs → (j : ℕ) → j < length (payloads Kind.binding rs)
-    → (length (getD (payloads Kind.binding rs) j []) ≡ 4) × (word (getD (payloads Kind.binding rs) j []) 2 < count Kind.type rs)
+-- a binding's payload, and the numbers of its nonterminal and its type
+pub binding-there : {rs : List Record} → Passed rs → (j : ℕ) → j < length (payloads Kind.binding rs)
+    → (length (getD (payloads Kind.binding rs) j []) ≡ 4) × (word (getD (payloads Kind.binding rs) j []) 0 < count Kind.nonterminal rs) × (word (getD (payloads Kind.binding rs) j []) 2 < count Kind.type rs)
 unfolding wrongLength outOfRange
 binding-there {rs} ok j h =
     let e = entry ok Kind.binding j h in
     let p = e .payload in
     let four = eqb-true (length p) 4 (not-false (eqb (length p) 4) (e .passed-tests .fits)) in
-    let named = or-false (leb (count Kind.nonterminal (e .earlier)) (word p 0)) (leb (count Kind.type (e .earlier)) (word p 2)) (e .passed-tests .ranges) .1 in
-    let below = leb-false (count Kind.type (e .earlier)) (word p 2) named in
+    let named = or-false (leb (count Kind.nonterminal (e .earlier)) (word p 0)) (leb (count Kind.type (e .earlier)) (word p 2)) (e .passed-tests .ranges) in
+    let symbol = leb-false (count Kind.nonterminal (e .earlier)) (word p 0) (named .0) in
+    let below = leb-false (count Kind.type (e .earlier)) (word p 2) (named .1) in
+    let symbols = subst (λ l. count Kind.nonterminal (e .earlier) ≤ count Kind.nonterminal l) (e .together) (fewer Kind.nonterminal (e .earlier) (e .later)) in
     let more = subst (λ l. count Kind.type (e .earlier) ≤ count Kind.type l) (e .together) (fewer Kind.type (e .earlier) (e .later)) in
-    subst (λ l. (length l ≡ 4) × (word l 2 < count Kind.type rs)) (sym (e .here)) (four, omega arith)
+    subst (λ l. (length l ≡ 4) × (word l 0 < count Kind.nonterminal rs) × (word l 2 < count Kind.type rs)) (sym (e .here)) (four, omega arith, omega arith)
 
 kept-byte : (kept : List ℕ) (j b : ℕ) → b ≡ byte kept j → b ≡ getD kept j 0
 unfolding field
@@ -82,7 +84,7 @@ module _ {file index : List ℕ} {n : ℕ} {kept : List ℕ} {j : ℕ} where
           goal-kept = λ rs m w ix few l.
               let c : length (payloads Kind.binding rs) ≡ m = sym (count-payloads Kind.binding rs) ∙ ix .counted in
               let k = kept-yes (getD kept j 0) (λ e. z (kept-byte kept j b eb ∙ e)) in
-              let (four, below) = binding-there (w .passed) j (omega arith) in
+              let (four, symbol, below) = binding-there (w .passed) j (omega arith) in
               let f : t ≡ word (getD (payloads Kind.binding rs) j []) 2 = et ∙ ap (λ x. word file (x + 2)) es ∙ ix .field-there j l 2 2 (omega arith) in
               let e : getD (typesOf rs) t (state 0) ≡ getD (bindingsOf rs) j noBinding .type = ap (λ x. getD (typesOf rs) x (state 0)) f ∙ sym (binding-made rs j (omega arith) .1) in
               let g = is .goal rs w (let d = w .there .counted in omega arith) in

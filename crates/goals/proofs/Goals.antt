@@ -84,7 +84,7 @@ type-short k e = go (eqb k 1) (leb 2 k) (leb k 34) (eqb (k % 2) 0) refl refl (no
     go false false c d f g h = let z : _≡_ {A = ℕ} 0 1 = cc in absurd (omega arith)
 
 module _ {file index : List ℕ} {n : ℕ} {rs : List Record} (w : Typed file index n rs) where
-  type-count : length (payloads Kind.type rs) ≡ n
+  pub type-count : length (payloads Kind.type rs) ≡ n
   type-count = sym (count-payloads Kind.type rs) ∙ w .there .counted
 
   payload-short : (t : ℕ) → t < n → length (getD (payloads Kind.type rs) t []) ≤ 34
@@ -94,11 +94,11 @@ module _ {file index : List ℕ} {n : ℕ} {rs : List Record} (w : Typed file in
       subst (λ l. length l ≤ 34) (sym (e .here)) (type-short (length (e .payload)) (e .passed-tests .fits))
 
   -- what a record makes: a state, or an arrow of its numbers
-  state-made : (t q : ℕ) → t < n → getD (payloads Kind.type rs) t [] ≡ q ∷ [] → getD (typesOf rs) t (state 0) ≡ state q
+  pub state-made : (t q : ℕ) → t < n → getD (payloads Kind.type rs) t [] ≡ q ∷ [] → getD (typesOf rs) t (state 0) ≡ state q
   unfolding typeFrom field
   state-made t q h e = let c = type-count in type-made (w .passed) (w .bytes) t (omega arith) ∙ ap (typeFrom (typesOf rs)) e ∙ ap state (omega arith)
 
-  arrow-made : (t r : ℕ) (ms : List ℕ) → t < n → eqb (length (getD (payloads Kind.type rs) t [])) 1 ≡ false → words (getD (payloads Kind.type rs) t []) ≡ r ∷ ms
+  pub arrow-made : (t r : ℕ) (ms : List ℕ) → t < n → eqb (length (getD (payloads Kind.type rs) t [])) 1 ≡ false → words (getD (payloads Kind.type rs) t []) ≡ r ∷ ms
       → getD (typesOf rs) t (state 0) ≡ arrow (membersAt (typesOf rs) ms) (getD (typesOf rs) r (state 0))
   unfolding typeFrom arrowFrom
   arrow-made t r ms h a b = let c = type-count in type-made (w .passed) (w .bytes) t (omega arith) ∙ rw (a, b)

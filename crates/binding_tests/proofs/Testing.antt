@@ -1,0 +1,215 @@
+-- The test of a binding is the check of its nonterminal's body, at the final state of its type.
+use Prim.Native.Nat.{ℕ, zero, suc, _+_, _-_, _*_, _/_, _<_, _≤_}
+use native.Mathlib.Omega.{arith}
+use mathlib.Core.Path.{_≡_, refl, sym, ap, ap₂, subst, _∙_}
+use mathlib.Core.Bool.{Bool, false, _||_}
+use mathlib.Core.List.{List, [], _∷_, _++_, map, append-nil}
+use lib.Dec.{leb}
+use lib.ListN.{length, getD, take, drop, length-map, length-drop, drop-of-length-le}
+use lib.Seq.{getD-drop, take-all}
+use Rattle.scheme.specs.Lists.{any}
+use Rattle.scheme.specs.Sorts.{o, arguments}
+use Rattle.scheme.specs.Terms.{Head, con, nt, par, Term, node, []ᵗ, nodes}
+use Rattle.scheme.specs.Prefix.{terms, flat}
+use Rattle.scheme.specs.Reduction.{body}
+use Rattle.scheme.specs.Types.{Ty, state, same, domains, final}
+use Rattle.scheme.specs.Typing.{Binding, headTypes, has, holds}
+use Rattle.scheme.specs.Flags.{chosen}
+use Rattle.scheme.specs.Acceptance.{holdsExactly}
+use Rattle.scheme.proofs.Lists.{or-false, any-at, getD-map-in}
+use Rattle.records.specs.Fields.{field, word}
+use Rattle.records.specs.Records.{Record}
+use Rattle.casefile.specs.Kinds.{Kind, number, payloads, count}
+use Rattle.casefile.specs.Tables.{Cell, cellsOf, headOf, nodesOf, firstTerm, bodyOf, aritiesOf, signaturesOf, typesOf, planOf, automatonOf, bindingsOf}
+use Rattle.casefile.specs.Refusals.{wrongCell, outOfRange}
+use Rattle.casefile.proofs.Passed.{Passed, entry}
+use Rattle.casefile.proofs.TypeTable.{count-payloads}
+use Rattle.casefile.proofs.Cells.{cellAt, cells-length, cells-at, cell-range}
+use Rattle.entries.specs.Index.{Indexed}
+use Rattle.lookup.specs.Lookup.{entryOf}
+use Rattle.lookup.proofs.Found.{entry-there}
+use Rattle.kinds.specs.Known.{room}
+use Rattle.rule_bodies.specs.RuleBodies.{ruleOf, firstNode}
+use Rattle.plan_tests.proofs.Contents.{payload-bytes}
+use Rattle.moves.proofs.Targets.{arity-small}
+use Rattle.goals.specs.Goals.{Goal, Typed, IsGoal}
+use Rattle.finals.specs.Finals.{IsFinal}
+use Rattle.serving.specs.Serving.{Given}
+use Rattle.memo.specs.Memo.{Under}
+use Rattle.memo.proofs.Remembering.{faithful-none}
+use Rattle.candidates.proofs.Spanning.{binding-made}
+use Rattle.candidates.proofs.Choosing.{fewer, binding-there}
+use Rattle.term_check.specs.Checking.{Body, Setting, Right, ChecksTerm}
+use Rattle.binding_tests.specs.BindingTests.{noBinding, Ready, entriesFor, TestsBinding}
+
+-- a nonterminal in a body is one of the file's
+head-nonterminal : (c : Cell) (g x y z : ℕ) → headOf c ≡ nt g → c .number < getD (x ∷ y ∷ []) (c .tag) z → g < y
+unfolding headOf
+head-nonterminal c g x y z = go (c .tag) (c .number)
+  where
+    go : (t n : ℕ) → getD (con n ∷ nt n ∷ []) t (par n) ≡ nt g → n < getD (x ∷ y ∷ []) t z → g < y
+    go zero n e h = let w : _≡_ {A = ℕ} 0 1 = cc in absurd (omega arith)
+    go (suc zero) n e h = let w : n ≡ g = cc in omega arith
+    go (suc (suc t)) n e h = let w : _≡_ {A = ℕ} 0 1 = cc in absurd (omega arith)
+
+named-known : {rs : List Record} → Passed rs → (f : ℕ) → f < length (payloads Kind.rule rs) → (i g : ℕ) → i < length (getD (payloads Kind.rule rs) f []) / 4 → headOf (cellAt (getD (payloads Kind.rule rs) f []) i) ≡ nt g → g < count Kind.nonterminal rs
+unfolding outOfRange signaturesOf
+named-known {rs} ok f h =
+    let e = entry ok Kind.rule f h in
+    let before = e .earlier in
+    let p = e .payload in
+    let n = count Kind.rule before in
+    let sigs = signaturesOf before in
+    let x = length (aritiesOf before) in
+    let z = length (arguments (getD sigs n o)) in
+    let right = or-false (leb (length sigs) n) (any (wrongCell x (length sigs) z) (cellsOf p)) (e .passed-tests .ranges) .1 in
+    let many : length sigs ≡ count Kind.nonterminal before = length-map (payloads Kind.nonterminal before) _ ∙ sym (count-payloads Kind.nonterminal before) in
+    let more = subst (λ l. count Kind.nonterminal before ≤ count Kind.nonterminal l) (e .together) (fewer Kind.nonterminal before (e .later)) in
+    subst (λ l. (i g : ℕ) → i < length l / 4 → headOf (cellAt l i) ≡ nt g → g < count Kind.nonterminal rs) (sym (e .here))
+    (λ i g k q.
+    let d = cellAt p i in
+    let l = cells-length p in
+    let w = any-at (wrongCell x (length sigs) z) (cellsOf p) i d right (omega arith) in
+    let r : d .number < getD (x ∷ length sigs ∷ []) (d .tag) z = subst (λ (c : Cell). c .number < getD (x ∷ length sigs ∷ []) (c .tag) z) (cells-at p i d k) (cell-range x (length sigs) z (getD (cellsOf p) i d) w .1) in
+    let b = head-nonterminal d g x (length sigs) z q r in
+    omega arith)
+
+pub none-from : (l : List ℕ) (i : ℕ) → length l < i → [] ≡ drop i l
+none-from l i h = sym (drop-of-length-le l {i = i} (omega arith))
+
+-- all elements from one on
+pub all-from : (l : List ℕ) (i : ℕ) → take (length l - i) (drop i l) ≡ drop i l
+all-from l i = take-all (length l - i) (drop i l) (let h = length-drop i l in omega arith)
+
+-- a larger bound
+under-more : (memo : List ℕ) (n a b : ℕ) → a ≤ b → Under memo n a → Under memo n b
+under-more memo n a b h u i l = let v = u i l in omega arith
+
+module _ (file index counts groups firsts ends : List ℕ) (table : List (List (List ℕ))) (kept memo : List ℕ) (stamp b : ℕ) where
+  abbrev Tables : List Record → Type 0
+  Tables rs = Ready file index counts groups firsts ends table rs
+
+  bindings-count : (rs : List Record) → Tables rs → (count Kind.binding rs ≡ getD counts 8 0) × (getD counts 8 0 ≤ 1024)
+  unfolding number
+  bindings-count rs w = (w .known .entries Kind.binding .counted, w .known .fits Kind.binding)
+
+  -- no file has so many bindings
+  pub binding-far : 1023 < b → TestsBinding file index counts groups firsts ends table kept memo stamp b memo false
+  binding-far h =
+      record {
+        answer = λ rs w l s t u. absurd (let (c, d) = bindings-count rs w in omega arith);
+        under = λ n t u. under-more memo n (stamp * 2) (stamp * 2 + 2) (omega arith) u;
+      }
+
+  module _ (types constructors place f t own goal first : ℕ) (body here : List ℕ) (is-types : types ≡ getD counts 7 0) (is-constructors : constructors ≡ getD counts 2 0) (is-place : place ≡ getD index (2144 + b) 0)
+      (is-f : f ≡ word file place) (is-t : t ≡ word file (place + 2)) (is-own : IsGoal file index types t own) (is-goal : IsFinal file index types own goal) (is-body : body ≡ entryOf file index (352 + f))
+      (is-first : first ≡ getD firsts f 0) (is-here : here ≡ drop first ends) where
+    abbrev x : Body
+    x = record { file = file; index = index; groups = groups; kept = kept; ends = here; body = body; table = table; test = record { types = types; constructors = constructors; own = own; stamp = stamp } }
+
+    module _ (rs : List Record) (w : Tables rs) (l : b < count Kind.binding rs) where
+      abbrev payload : List ℕ
+      payload = getD (payloads Kind.binding rs) b []
+
+      inside : b < length (payloads Kind.binding rs)
+      inside = let c = count-payloads Kind.binding rs in omega arith
+
+      -- the numbers of the binding
+      symbol-is : f ≡ word payload 0
+      unfolding number
+      symbol-is =
+          let (c, d) = bindings-count rs w in
+          let z : place ≡ getD index (2144 + b) 0 + 0 = omega arith in
+          is-f ∙ ap (word file) z ∙ w .known .entries Kind.binding .field-there b (omega arith) 2 0 (let (four, s, k) = binding-there (w .passed) b inside in omega arith)
+
+      type-is : t ≡ word payload 2
+      unfolding number
+      type-is =
+          let (c, d) = bindings-count rs w in
+          is-t ∙ ap (λ z. word file (z + 2)) is-place ∙ w .known .entries Kind.binding .field-there b (omega arith) 2 2 (let (four, s, k) = binding-there (w .passed) b inside in omega arith)
+
+      rule-there : f < count Kind.rule rs
+      unfolding number
+      rule-there = let (four, s, k) = binding-there (w .passed) b inside in let e = symbol-is in let r = w .rules-all in omega arith
+
+      body-is : body ≡ ruleOf rs f
+      unfolding number
+      body-is =
+          let c = w .known .entries Kind.rule .counted in
+          is-body ∙ entry-there (w .known .entries Kind.rule) f (let r = rule-there in omega arith)
+
+      typed : Typed file index types rs
+      unfolding number
+      typed =
+          record {
+            passed = w .passed;
+            bytes = payload-bytes (w .known .entries Kind.type) (w .bytes);
+            there = subst (λ n. Indexed file index Kind.type n rs) (sym is-types) (w .known .entries Kind.type);
+            few = let k = w .known .fits Kind.type in omega arith;
+          }
+
+      abbrev τ : Ty
+      τ = getD (typesOf rs) t (state 0)
+
+      own-type : Goal rs types own τ
+      unfolding number
+      own-type =
+          is-own .goal rs typed (let (four, s, k) = binding-there (w .passed) b inside in
+          let e = type-is in
+          let c = w .known .entries Kind.type .counted in
+          omega arith)
+
+      setting : Setting x rs τ
+      unfolding number
+      setting =
+          record {
+            given = record {
+              typed = typed;
+              there = subst (λ n. Indexed file index Kind.constructor n rs) (sym is-constructors) (w .known .entries Kind.constructor);
+              few = let k = w .known .fits Kind.constructor in omega arith;
+              small = arity-small (w .passed);
+            };
+            one-states = let c = w .known .entries Kind.states .counted in let k = w .known .fits Kind.states in let p = count-payloads Kind.states rs in omega arith;
+            table-is = w .table-is;
+            bindings-there = subst (λ n. Indexed file index Kind.binding n rs) (sym (bindings-count rs w .0)) (w .known .entries Kind.binding);
+            bindings-few = let (c, d) = bindings-count rs w in omega arith;
+            groups-long = w .groups-long;
+            grouped = w .grouped;
+            own-type = own-type;
+            tags = subst (λ p. (i : ℕ) → i < length p / 4 → field 1 p (i * 4) ≤ 2) (sym body-is) (w .bodies f rule-there .tags);
+            named = λ i g k e.
+                let p = count-payloads Kind.rule rs in
+                let r = rule-there in
+                let m = named-known (w .passed) f (omega arith) i g (subst (λ z. i < length z / 4) body-is k) (ap (λ z. headOf (cellAt z i)) (sym body-is) ∙ e) in
+                let c = w .known .entries Kind.nonterminal .counted in
+                let d = w .known .fits Kind.nonterminal in
+                omega arith;
+            ends-are = λ i k.
+                ap (λ z. getD z i 0) is-here ∙ getD-drop first ends i 0 ∙ ap (λ z. getD ends (z + i) 0) (is-first ∙ w .firsts-are f rule-there)
+                ∙ w .ends-are f i rule-there (subst (λ z. i < length z / 4) body-is k)
+                ∙ ap (λ z. i + nodes (firstTerm (terms (drop i (nodesOf z))))) (sym body-is);
+          }
+
+      -- the binding's nonterminal and type are those of the definitions
+      holds-is : holdsExactly (automatonOf rs) (planOf rs) (chosen kept (bindingsOf rs)) (getD (bindingsOf rs) b noBinding) ≡ has same (headTypes (automatonOf rs) (chosen kept (bindingsOf rs)) (domains τ)) (bodyOf (ruleOf rs f)) (final τ)
+      unfolding holdsExactly holds body planOf
+      holds-is =
+          let made = binding-made rs b inside in
+          let ef : getD (bindingsOf rs) b noBinding .nonterminal ≡ f = made .0 ∙ sym symbol-is in
+          let et : getD (bindingsOf rs) b noBinding .type ≡ τ = made .1 ∙ ap (λ z. getD (typesOf rs) z (state 0)) (sym type-is) in
+          let eb : getD (map bodyOf (payloads Kind.rule rs)) f (node (nt f) []ᵗ) ≡ bodyOf (ruleOf rs f) = getD-map-in bodyOf (payloads Kind.rule rs) f (node (nt f) []ᵗ) [] (let c = count-payloads Kind.rule rs in let r = rule-there in omega arith) in
+          ap₂ (λ g σ. has same (headTypes (automatonOf rs) (chosen kept (bindingsOf rs)) (domains σ)) (getD (map bodyOf (payloads Kind.rule rs)) g (node (nt g) []ᵗ)) (final σ)) ef et
+          ∙ ap (λ z. has same (headTypes (automatonOf rs) (chosen kept (bindingsOf rs)) (domains τ)) z (final τ)) eb
+
+    pub binding-tested : (after : List ℕ) (r : Bool) → ChecksTerm x memo 0 goal after r → TestsBinding file index counts groups firsts ends table kept memo stamp b after r
+    binding-tested after r told =
+        record {
+          answer = λ rs w l s m u.
+              let p = body-is rs w l in
+              let whole = w .bodies f (rule-there rs w l) .one-term in
+              told .answer rs (τ rs w l) (setting rs w l) (faithful-none (Right x rs (τ rs w l)) memo (types + 16) stamp (entriesFor counts) (omega arith) u)
+              (bodyOf (ruleOf rs f)) ([], ap nodesOf p ∙ whole ∙ sym (append-nil (flat (bodyOf (ruleOf rs f)))))
+              (final (τ rs w l)) (is-goal .is-final rs (typed rs w l) (τ rs w l) (own-type rs w l))
+              ∙ sym (holds-is rs w l);
+          under = λ n m u. told .keeps .under n (stamp * 2 + 2) (omega arith) (under-more memo n (stamp * 2) (stamp * 2 + 2) (omega arith) u);
+        }

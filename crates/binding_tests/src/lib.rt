@@ -1,0 +1,69 @@
+// The test of one binding.
+use entries::place_at;
+use finals::final_of;
+use goals::goal_of;
+use lookup::entry;
+use records::word_at;
+use term_check::Test;
+use term_check::check_term;
+ghost use mathlib.Core.Path.{_≡_};
+ghost use lib.ListN.{drop};
+ghost use Rattle.binding_tests.specs.BindingTests.{TestsBinding};
+
+// The table of ends from a node on.
+fn from_node(ends: &[u16], first: usize) -> &[u16]
+    ensures { λ r. ⌜ now r ≡ drop first (now (ends .entry)) ⌝ }
+{
+    if ends.len() < first {
+        return &ends[..0];
+    }
+    &ends[first..]
+}
+
+// Whether binding b holds against those that are kept: its nonterminal's body has the final state of its type.
+pub fn holds(
+    file: &[u8],
+    index: &[u16],
+    counts: &[u16],
+    groups: &[u16],
+    firsts: &[u16],
+    ends: &[u16],
+    table: [[[u8; 4]; 32]; 16],
+    kept: &[u8],
+    memo: &mut [u8],
+    stamp: usize,
+    b: usize,
+) -> bool
+    ensures { λ r. ⌜ TestsBinding (now (file .entry)) (now (index .entry)) (now (counts .entry)) (now (groups .entry)) (now (firsts .entry)) (now (ends .entry)) table (now (kept .entry)) (now (memo .entry)) stamp b (now (memo .exit)) r ⌝ }
+{
+    if 1023 < b {
+        return false;
+    }
+    let types = place_at(counts, 7);
+    let constructors = place_at(counts, 2);
+    let binding = place_at(index, 2144 + b);
+    let f = word_at(file, binding);
+    let own = goal_of(file, index, types, word_at(file, binding + 2));
+    let goal = final_of(file, index, types, own);
+    let body = entry(file, index, 352 + f);
+    let here = from_node(ends, place_at(firsts, f));
+    let test = Test {
+        types,
+        constructors,
+        own,
+        stamp,
+    };
+    check_term(
+        file,
+        index,
+        groups,
+        kept,
+        here,
+        body,
+        table,
+        test,
+        memo,
+        0,
+        goal,
+    )
+}
