@@ -1,0 +1,155 @@
+-- A round element by element, and the rounds one by one, for any test: the flags so far and how many they keep; the rounds
+-- that are left, whose count and flags are those of the definitions.
+use Prim.Native.Nat.{ℕ, zero, suc, _+_, _<_, _≤_}
+use native.Mathlib.Omega.{arith}
+use native.Mathlib.Nat.{zero-add}
+use native.Mathlib.Numerals.{add-one}
+use mathlib.Core.Path.{_≡_, refl, sym, ap, ap₂, subst, _∙_}
+use mathlib.Core.Bool.{Bool, true, false}
+use mathlib.Core.List.{List, [], _∷_, _++_}
+use borrow.Author.Tests.{eq-eqb, ne-eqb}
+use lib.Dec.{eqb}
+use lib.ListN.{length, getD, set, take, drop, replicate, length-replicate, getD-replicate}
+use lib.Seq.{take-suc, drop-cons, take-suc-set, take-all, length-take-le, getD-take, drop-length, ext-getD}
+use Rattle.scheme.specs.Lists.{if_then_else_, keepIf}
+use Rattle.scheme.specs.Rounds
+use Rattle.scheme.specs.Rounds.{countTo}
+use Rattle.scheme.specs.Flags.{isKept, chosen, roundFlags, flagsAfter, keptFlags}
+use Rattle.scheme.proofs.Rounds.{round-length as round-fewer}
+use Rattle.scheme.proofs.Flags.{chosen-round, chosen-kept}
+use Rattle.rounds.proofs.Flagged.{Small, chosen-take, round-take, round-small, round-same, after-same}
+
+-- while a round goes on, with the flags `rf` that it makes: those of the first b elements stand in `new`, and `kept` of them say kept
+pub record Sofar {B : Type 0} (rf : List ℕ) (bs : List B) (new : List ℕ) (b kept : ℕ) : Type 0 where
+  pub done : take b new ≡ take b rf
+  pub counted : kept + length (chosen (drop b rf) (drop b bs)) ≡ length (chosen rf bs)
+
+kept-one : {B : Type 0} (f : ℕ) (b : B) (l : List B) → f ≤ 1 → length (keepIf (isKept f) b l) ≡ f + length l
+unfolding keepIf isKept
+kept-one zero b l h = omega arith
+kept-one (suc zero) b l h = omega arith
+kept-one (suc (suc f)) b l h = absurd (omega arith)
+
+module _ {B : Type 0} (rf : List ℕ) (bs : List B) where
+  pub sofar-none : (new : List ℕ) → Sofar rf bs new 0 0
+  sofar-none new = record { done = refl; counted = omega arith }
+
+  module _ (d : B) (same : length rf ≡ length bs) where
+    pub sofar-more : (new : List ℕ) (b kept f : ℕ) → Sofar rf bs new b kept → b < length bs → b < length new → f ≡ getD rf b 0 → f ≤ 1 → Sofar rf bs (set new b f) (b + 1) (kept + f)
+    unfolding chosen
+    sofar-more new b kept f s h k e small =
+        let t : take (b + 1) (set new b f) ≡ take b new ++ (f ∷ []) = rw add-one (take-suc-set new b f k) in
+        let u : take (b + 1) rf ≡ take b rf ++ (getD rf b 0 ∷ []) = rw add-one (take-suc rf b 0 (omega arith)) in
+        let x : drop b rf ≡ f ∷ drop (b + 1) rf = rw (add-one, e) (drop-cons rf b 0 (omega arith)) in
+        let y : drop b bs ≡ getD bs b d ∷ drop (b + 1) bs = rw add-one (drop-cons bs b d h) in
+        let z : length (chosen (drop b rf) (drop b bs)) ≡ f + length (chosen (drop (b + 1) rf) (drop (b + 1) bs)) =
+        ap₂ (λ (l : List ℕ) (m : List B). length (chosen l m)) x y ∙ kept-one f (getD bs b d) (chosen (drop (b + 1) rf) (drop (b + 1) bs)) small in
+        record {
+          done = t ∙ ap₂ (λ (l : List ℕ) (v : ℕ). l ++ (v ∷ [])) (s .done) e ∙ sym u;
+          counted = let w = s .counted in omega arith;
+        }
+
+    pub sofar-flags : (new : List ℕ) (b kept : ℕ) → Sofar rf bs new b kept → b ≡ length bs → take (length bs) new ≡ rf
+    sofar-flags new b kept s e = ap (λ n. take n new) (sym e) ∙ s .done ∙ take-all b rf (omega arith)
+
+    pub sofar-kept : (new : List ℕ) (b kept : ℕ) → Sofar rf bs new b kept → b ≡ length bs → kept ≡ length (chosen rf bs)
+    unfolding chosen
+    sofar-kept new b kept s e =
+        let x : drop b rf ≡ [] = ap (λ n. drop n rf) (e ∙ sym same) ∙ drop-length rf in
+        let z : length (chosen (drop b rf) (drop b bs)) ≡ 0 = ap (λ l. length (chosen l (drop b bs))) x in
+        let w = s .counted in
+        omega arith
+
+-- between rounds: `kept` elements are kept by the flags, after `rounds` rounds that dropped something; as many rounds as the
+-- fuel says lead to what the definitions say
+pub record Left {B : Type 0} (test : List B → B → Bool) (bs : List B) (old : List ℕ) (kept rounds : ℕ) : Type 0 where
+  pub small : Small (take (length bs) old)
+  pub kept-are : kept ≡ length (chosen old bs)
+  pub fuel : ℕ
+  pub enough : kept ≤ fuel
+  pub count : rounds + countTo test fuel (chosen old bs) ≡ Rounds.rounds test bs
+  pub flags : flagsAfter test bs fuel (take (length bs) old) ≡ keptFlags test bs
+
+module _ {B : Type 0} (test : List B → B → Bool) (bs : List B) where
+  take-ones : length bs ≤ 1024 → take {A = ℕ} (length bs) (replicate 1024 1) ≡ replicate (length bs) 1
+  take-ones h =
+      let n = length bs in
+      let ones : List ℕ = replicate 1024 1 in
+      let long : length ones ≡ 1024 = length-replicate {A = ℕ} 1024 1 in
+      let l : length (take n ones) ≡ n = length-take-le n ones (omega arith) in
+      ext-getD 0 (take n ones) (replicate n 1) (l ∙ sym (length-replicate {A = ℕ} n 1))
+      (λ i k.
+      let q : i < n = omega arith in
+      getD-take n ones i 0 q ∙ getD-replicate 1024 i 1 0 (omega arith) ∙ sym (getD-replicate n i 1 0 q))
+
+  ones-small : (n : ℕ) → Small (replicate n 1)
+  ones-small zero i = omega arith
+  ones-small (suc n) zero = omega arith
+  ones-small (suc n) (suc i) = ones-small n i
+
+  chosen-ones : {A : Type 0} (as′ : List A) → chosen (replicate (length as′) 1) as′ ≡ as′
+  unfolding chosen isKept keepIf
+  chosen-ones [] = refl
+  chosen-ones (a ∷ as′) = ap (a ∷_) (chosen-ones as′)
+
+  -- all start kept
+  pub left-start : (old : List ℕ) (n : ℕ) → old ≡ replicate 1024 1 → length bs ≤ 1024 → n ≡ length bs → Left test bs old n 0
+  unfolding Rounds.rounds keptFlags
+  left-start old n e h k =
+      let t : take (length bs) old ≡ replicate (length bs) 1 = ap (take (length bs)) e ∙ take-ones h in
+      let c : chosen old bs ≡ bs = sym (chosen-take old bs) ∙ ap (λ fs. chosen fs bs) t ∙ chosen-ones bs in
+      record {
+        small = subst Small (sym t) (ones-small (length bs));
+        kept-are = k ∙ sym (ap length c);
+        fuel = length bs;
+        enough = omega arith;
+        count = zero-add (countTo test (length bs) (chosen old bs)) ∙ ap (countTo test (length bs)) c;
+        flags = ap (flagsAfter test bs (length bs)) t;
+      }
+
+  module _ (old : List ℕ) (kept rounds : ℕ) (w : Left test bs old kept rounds) where
+    -- what is left to count, by what the round before says
+    turn : (fuel more : ℕ) → more < kept → kept ≤ fuel → more ≡ length (Rounds.round test (chosen old bs)) → kept ≡ length (chosen old bs)
+        → (f : ℕ) × (fuel ≡ suc f) × (countTo test fuel (chosen old bs) ≡ suc (countTo test f (Rounds.round test (chosen old bs))))
+    unfolding countTo
+    turn zero more h k e g = absurd (omega arith)
+    turn (suc f) more h k e g = (f, refl, rw (ne-eqb (length (Rounds.round test (chosen old bs))) (length (chosen old bs)) (λ z. omega arith)))
+
+    -- a round that drops something
+    pub left-turn : (new : List ℕ) (more : ℕ) → take (length bs) new ≡ roundFlags test bs old → more ≡ length (Rounds.round test (chosen old bs)) → more < kept → Left test bs new more (rounds + 1)
+    unfolding flagsAfter
+    left-turn new more t e h =
+        let (f, is, c) = turn (w .fuel) more h (w .enough) e (w .kept-are) in
+        let r : take (length bs) new ≡ roundFlags test bs (take (length bs) old) = t ∙ sym (round-take test bs old) in
+        let s : chosen new bs ≡ Rounds.round test (chosen old bs) = sym (chosen-take new bs) ∙ ap (λ fs. chosen fs bs) t ∙ chosen-round test bs old in
+        record {
+          small = subst Small (sym t) (round-small test bs old);
+          kept-are = e ∙ sym (ap length s);
+          fuel = f;
+          enough = let en = w .enough in omega arith;
+          count = let a = ap (countTo test f) s in let b = w .count in omega arith;
+          flags = ap (flagsAfter test bs f) r ∙ sym (ap (λ n. flagsAfter test bs n (take (length bs) old)) is) ∙ w .flags;
+        }
+
+    -- a round that drops nothing
+    module _ (more : ℕ) (long : length bs ≤ length old) (e : more ≡ length (Rounds.round test (chosen old bs))) (h : kept ≤ more) where
+      none-more : (fuel : ℕ) → countTo test fuel (chosen old bs) ≡ 0
+      unfolding countTo
+      none-more zero = refl
+      none-more (suc f) = let fewer = round-fewer test (chosen old bs) in let k = w .kept-are in rw (eq-eqb (length (Rounds.round test (chosen old bs))) (length (chosen old bs)) (omega arith))
+
+      pub left-rounds : rounds ≡ Rounds.rounds test bs
+      left-rounds = let a = none-more (w .fuel) in let b = w .count in omega arith
+
+      pub left-flags : take (length bs) old ≡ keptFlags test bs
+      left-flags =
+          let fs = take (length bs) old in
+          let a : chosen fs bs ≡ chosen old bs = chosen-take old bs in
+          let b : chosen (roundFlags test bs fs) bs ≡ Rounds.round test (chosen fs bs) = chosen-round test bs fs in
+          let g : length (Rounds.round test (chosen fs bs)) ≡ more = ap (λ s. length (Rounds.round test s)) a ∙ sym e in
+          let k = w .kept-are in
+          let l : length (chosen fs bs) ≤ length (chosen (roundFlags test bs fs) bs) = let p = ap length a in let q = ap length b in omega arith in
+          sym (after-same test bs (w .fuel) fs (round-same test bs fs (length-take-le (length bs) old long) (w .small) l)) ∙ w .flags
+
+      pub left-kept : kept ≡ length (Rounds.kept test bs)
+      left-kept = w .kept-are ∙ ap length (sym (chosen-take old bs) ∙ ap (λ fs. chosen fs bs) left-flags ∙ chosen-kept test bs)

@@ -1,0 +1,3 @@
+pub mod Flagged
+pub mod Counted
+pub mod Turning
