@@ -67,7 +67,8 @@ module _ {rs : List Record} (ok : Passed rs) where
   whole : (k : Kind) (i : ℕ) → i < length (payloads k rs) → wrongLength k (length (getD (payloads k rs) i [])) ≡ false
   whole k = each k (λ rs p. wrongLength k (length p) ≡ false) (λ rs r p q. q) (λ rs p t. t .fits) ok
 
-  binding-numbers : (i : ℕ) → i < length (payloads binding rs) → (word (getD (payloads binding rs) i []) 0 < count nonterminal rs) × (word (getD (payloads binding rs) i []) 2 < count type rs)
+  -- the numbers in a binding have entries
+  pub binding-numbers : (i : ℕ) → i < length (payloads binding rs) → (word (getD (payloads binding rs) i []) 0 < count nonterminal rs) × (word (getD (payloads binding rs) i []) 2 < count type rs)
   unfolding outOfRange
   binding-numbers =
       each binding (λ rs p. (word p 0 < count nonterminal rs) × (word p 2 < count type rs))

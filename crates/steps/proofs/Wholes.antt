@@ -28,7 +28,7 @@ use Rattle.entries.specs.Index.{Indexed}
 use Rattle.steps.specs.Steps.{Whole, Bodies}
 
 -- no test of either list is met
-first-both : (xs ys : List Test) → first (xs ++ ys) ≡ none → (first xs ≡ none) × (first ys ≡ none)
+pub first-both : (xs ys : List Test) → first (xs ++ ys) ≡ none → (first xs ≡ none) × (first ys ≡ none)
 unfolding first
 first-both [] ys e = (refl, e)
 first-both ((refuse n at p when b) ∷ xs) ys e =
@@ -82,7 +82,7 @@ module _ {rs : List Record} (ok : Passed rs) where
 
   module _ (flags : ℕ) (e : refuseWhole rs flags ≡ none) where
     -- 8 and 9 are not met
-    plan-right : (count Kind.rule rs ≡ count Kind.nonterminal rs) × (first (wrongBodies (aritiesOf rs) (signaturesOf rs) (signaturesOf rs) (ofKind Kind.rule rs)) ≡ none)
+    pub plan-right : (count Kind.rule rs ≡ count Kind.nonterminal rs) × (first (wrongBodies (aritiesOf rs) (signaturesOf rs) (signaturesOf rs) (ofKind Kind.rule rs)) ≡ none)
     unfolding refuseWhole
     plan-right =
         let (a, b) = first-none 8 0 (eqb (count Kind.states rs) 0 || eqb (count Kind.nonterminal rs) 0 || not (eqb (count Kind.rule rs) (count Kind.nonterminal rs))) _ e in

@@ -1,0 +1,83 @@
+-- `judge_bindings` meets its contract.
+use native.Mathlib.Omega.{arith}
+use Rattle.binding_cases.proofs.Tables.{judged}
+use borrow.Author.Needs.{needs}
+use Rattle.binding_cases.proofs.judge_bindings.Statement.{statement}
+use Rattle.binding_cases.proofs.judge_bindings.Tie as tie
+
+place-at-requires : tie.Need-place-at-requires
+place-at-requires c κs = search needs
+
+slice-aggregate-fill-groups : tie.Need-slice-aggregate-fill-groups
+slice-aggregate-fill-groups c = search needs
+
+fill-groups-requires : tie.Need-fill-groups-requires
+fill-groups-requires c κs = search needs
+
+place-at-requires-2 : tie.Need-place-at-requires-2
+place-at-requires-2 c κs = search needs
+
+slice-aggregate-fill-firsts : tie.Need-slice-aggregate-fill-firsts
+slice-aggregate-fill-firsts c = search needs
+
+fill-firsts-requires : tie.Need-fill-firsts-requires
+fill-firsts-requires c κs = search needs
+
+place-at-requires-3 : tie.Need-place-at-requires-3
+place-at-requires-3 c κs = search needs
+
+moves-requires : tie.Need-moves-requires
+moves-requires c κs = search needs
+
+blank-requires : tie.Need-blank-requires
+blank-requires c κs = search needs
+
+slice-aggregate-shrink : tie.Need-slice-aggregate-shrink
+slice-aggregate-shrink c = search needs
+
+slice-aggregate-shrink-2 : tie.Need-slice-aggregate-shrink-2
+slice-aggregate-shrink-2 c = search needs
+
+slice-aggregate-shrink-3 : tie.Need-slice-aggregate-shrink-3
+slice-aggregate-shrink-3 c = search needs
+
+shrink-requires : tie.Need-shrink-requires
+shrink-requires c κs = search needs
+
+slice-aggregate-start-kept : tie.Need-slice-aggregate-start-kept
+slice-aggregate-start-kept c = search needs
+
+start-kept-requires : tie.Need-start-kept-requires
+start-kept-requires c κs = search needs
+
+write-flags-requires : tie.Need-write-flags-requires
+write-flags-requires c κs = search needs
+
+same-length : tie.Need-same-length
+same-length c = search needs
+
+returns : tie.Need-returns
+returns c = judged _ _ _ _ _ _ _ _ _ (λ k. omega (arith, c .before .before .before .before .before .before .before .before .before .before .before .before .before .before .before .before .before .before .before .before .before .before .before .before .before .before .before .before .before .shared-slice-known .given k)) _ (c .before .before .before .before .before .before .before .before .before .before .before .before .before .before .before .before .before .before .before .before .before .before .before .before .place-at .ensures) _ (c .before .before .before .before .before .before .before .before .before .before .before .before .before .before .before .before .before .before .before .before .before .groups2 .given) (c .before .before .before .before .before .before .before .before .before .before .before .before .before .before .before .before .before .before .before .before .before .before .fill-groups .ensures) _ (c .before .before .before .before .before .before .before .before .before .before .before .before .before .before .before .before .before .before .before .before .place-at2 .ensures) _ (λ rs ok ix few. c .before .before .before .before .before .before .before .before .before .before .before .before .before .before .before .before .before .before .fill-firsts .ensures .firsts rs ok ix few (omega arith)) _ (c .before .before .before .before .before .before .before .before .before .before .before .before .before .before .before .before .place-at3 .ensures) _ (c .before .before .before .before .before .before .before .before .before .before .before .before .before .before .before .moves .ensures) _ (c .before .before .before .before .before .before .before .before .before .before .shrink .ensures) (c .before .before .before .before .before .start-kept .ensures) (c .before .before .write-flags .ensures)
+
+pub judge-bindings-spec : {M : Type 1} → statement M
+judge-bindings-spec =
+    tie.close
+    (tie.spec
+    place-at-requires
+    slice-aggregate-fill-groups
+    fill-groups-requires
+    place-at-requires-2
+    slice-aggregate-fill-firsts
+    fill-firsts-requires
+    place-at-requires-3
+    moves-requires
+    blank-requires
+    slice-aggregate-shrink
+    slice-aggregate-shrink-2
+    slice-aggregate-shrink-3
+    shrink-requires
+    slice-aggregate-start-kept
+    start-kept-requires
+    write-flags-requires
+    same-length
+    returns)

@@ -1,0 +1,54 @@
+-- What comes of a binding case. Sections "Types and shrinking" and "Verdicts" of the scope.
+use Prim.Native.Nat.{ℕ, _<_, _≤_}
+use mathlib.Core.Path.{_≡_}
+use mathlib.Core.Bool.{Bool, _&&_}
+use mathlib.Core.List.{List, _++_}
+use mathlib.Core.Option.{none}
+use lib.ListN.{length, getD, take, drop}
+use Rattle.scheme.specs.Lists.{any}
+use Rattle.scheme.specs.Types.{state, same}
+use Rattle.scheme.specs.Typing.{Binding}
+use Rattle.scheme.specs.Flags.{isKept, chosen}
+use Rattle.scheme.specs.Acceptance.{isStart}
+use Rattle.records.specs.Records.{Record}
+use Rattle.casefile.specs.Kinds.{Kind}
+use Rattle.casefile.specs.Tables.{planOf, automatonOf, bindingsOf}
+use Rattle.casefile.specs.Refusals.{refuseWhole}
+use Rattle.casefile.proofs.Passed.{Passed}
+use Rattle.entries.specs.Index.{Indexed}
+use Rattle.kinds.specs.Known.{Known}
+use Rattle.plan_tests.specs.PlanTests.{EndsAre}
+use Rattle.groups.specs.Groups.{Grouped}
+use Rattle.goals.specs.Goals.{Typed}
+use Rattle.binding_tests.specs.BindingTests.{noBinding}
+use Rattle.shrink.specs.BindingCases.{Shrunk, shrunk}
+
+-- binding b is kept by its flag and has the state 0 for its type
+abbrev pub startsAt : List Record → ℕ → ℕ → Bool
+startsAt rs b flag = isKept flag && same (getD (bindingsOf rs) b noBinding .type) (state 0)
+
+-- r says so
+pub record StartsAt (file index : List ℕ) (types b flag : ℕ) (r : Bool) : Type 0 where
+  pub answer : (n : ℕ) (rs : List Record) → Typed file index types rs → Indexed file index Kind.binding n rs → n ≤ 1024 → b < n → r ≡ startsAt rs b flag
+
+-- r says whether a binding that is kept by its flag is the start binding
+pub record FindsStart (file index counts groups flags : List ℕ) (r : Bool) : Type 0 where
+  pub answer : (n : ℕ) (rs : List Record) → Typed file index (getD counts 7 0) rs → Indexed file index Kind.binding n rs → n ≤ 1024 → Grouped rs n groups → 1 < length groups
+      → r ≡ any isStart (chosen flags (bindingsOf rs))
+
+-- the first n flags are written
+abbrev pub Writes : List ℕ → ℕ → List ℕ → List ℕ → Type 0
+Writes from n before after = n ≤ 1024 → length from ≡ 1024 → n ≤ length before → after ≡ take n from ++ drop n before
+
+-- what comes of the bindings, and the lent flags afterwards: "bytes past the count are untouched"
+pub record IsShrunk (s : Shrunk) (lent flags : List ℕ) (accepted : Bool) (kept total rounds : ℕ) : Type 0 where
+  pub accepted-is : accepted ≡ s .accepted
+  pub kept-is : kept ≡ s .kept
+  pub total-is : total ≡ s .total
+  pub rounds-are : rounds ≡ s .rounds
+  pub flags-are : flags ≡ s .flags ++ drop (length (s .flags)) lent
+
+-- the promise, for the tables of a file that is not refused
+pub record JudgesBindings (file index counts ends lent flags : List ℕ) (accepted : Bool) (kept total rounds : ℕ) : Type 0 where
+  pub judged : (lens : List ℕ) (rs : List Record) → Known file index lens counts rs → Passed rs → EndsAre rs ends → refuseWhole rs (length lent) ≡ none
+      → IsShrunk (shrunk (automatonOf rs) (planOf rs) (bindingsOf rs)) lent flags accepted kept total rounds

@@ -1,0 +1,123 @@
+// Binding cases: which of the bindings offered are kept, in how many rounds, and whether the start binding is one of them.
+use entries::place_at;
+use first_nodes::fill_firsts;
+use goals::goal_of;
+use groups::fill_groups;
+use moves::moves;
+use records::word_at;
+use rounds::shrink;
+ghost use mathlib.Core.Path.{_≡_};
+ghost use lib.ListN.{length};
+ghost use Rattle.binding_cases.specs.Judging.{StartsAt, FindsStart, Writes, JudgesBindings};
+
+// What comes of the bindings offered: whether the start binding is kept, how many are kept and how many were offered, and
+// how many rounds dropped something.
+pub struct Shrunken {
+    pub accepted: bool,
+    pub kept: usize,
+    pub total: usize,
+    pub rounds: usize,
+}
+
+// Whether binding b is kept by its flag and has the state 0 for its type.
+fn starts_at(file: &[u8], index: &[u16], types: usize, b: usize, flag: u8) -> bool
+    ensures { λ r. ⌜ StartsAt (now (file .entry)) (now (index .entry)) types b flag r ⌝ }
+{
+    if flag == 0 {
+        return false;
+    }
+    if 1024 <= b {
+        return false;
+    }
+    let t = word_at(file, place_at(index, 2144 + b) + 2);
+    goal_of(file, index, types, t) == types
+}
+
+// Whether the start binding is kept: one of nonterminal 0, whose bindings are the first, with the state 0.
+fn start_kept(
+    file: &[u8],
+    index: &[u16],
+    counts: &[u16],
+    groups: &[u16],
+    flags: &[u8; 1024],
+) -> bool
+    ensures { λ r. ⌜ FindsStart (now (file .entry)) (now (index .entry)) (now (counts .entry)) (now (groups .entry)) (now (flags .entry)) r ⌝ }
+{
+    let types = place_at(counts, 7);
+    let last = place_at(groups, 1);
+    if 1024 < last {
+        return false;
+    }
+    let mut b: usize = 0;
+    while b < last {
+        let flag = flags[b];
+        if starts_at(file, index, types, b, flag) {
+            return true;
+        }
+        b = b + 1;
+    }
+    false
+}
+
+// Writes the first n flags; the other lent bytes stay.
+fn write_flags(from: &[u8; 1024], n: usize, to: &mut [u8])
+    ensures { λ _. ⌜ Writes (now (from .entry)) n (now (to .entry)) (now (to .exit)) ⌝ }
+{
+    if 1024 < n {
+        return;
+    }
+    if to.len() < n {
+        return;
+    }
+    let mut i: usize = 0;
+    while i < n {
+        to[i] = from[i];
+        i = i + 1;
+    }
+}
+
+// A memo with room for 256 nodes of 1,024 types and 16 states.
+fn blank() -> [u8; 266240]
+    ensures { λ r. ⌜ length r ≡ 266240 ⌝ }
+{
+    [0u8; 266240]
+}
+
+// What comes of the bindings of a file, with the tables of its records; their flags are written, 1 for a kept binding and
+// 0 for a dropped one.
+pub fn judge_bindings(
+    file: &[u8],
+    index: &[u16],
+    counts: &[u16],
+    ends: &[u16],
+    flags: &mut [u8],
+) -> Shrunken
+    ensures { λ r. ⌜ JudgesBindings (now (file .entry)) (now (index .entry)) (now (counts .entry)) (now (ends .entry)) (now (flags .entry)) (now (flags .exit)) (r .accepted) (r .kept) (r .total) (r .rounds) ⌝ }
+{
+    let total = place_at(counts, 8);
+    let mut groups = [0u16; 257];
+    fill_groups(file, index, total, &mut groups);
+    let mut firsts = [0u16; 256];
+    fill_firsts(file, index, place_at(counts, 4), &mut firsts);
+    let table = moves(file, index, place_at(counts, 6));
+    let mut memo = blank();
+    let ended = shrink(
+        file,
+        index,
+        counts,
+        &groups,
+        &firsts,
+        ends,
+        table,
+        &mut memo,
+    );
+    let kept = ended.flags;
+    let accepted = start_kept(file, index, counts, &groups, &kept);
+    write_flags(&kept, total, flags);
+    Shrunken {
+        accepted,
+        kept: ended.kept,
+        total,
+        rounds: ended.rounds,
+    }
+}
