@@ -7,7 +7,7 @@ use mathlib.Core.Path.{_≡_, refl, sym, ap, ap₂, subst, _∙_}
 use mathlib.Core.Bool.{Bool, true, false, _&&_, _||_}
 use mathlib.Core.List.{List, [], _∷_}
 use borrow.Author.Count.{below-more}
-use borrow.Author.Tests.{eqb-true, not-false, eq-eqb, ne-eqb}
+use borrow.Author.Tests.{eqb-true, not-false, ne-eqb}
 use lib.Dec.{eqb}
 use lib.ListN.{length, getD}
 use Rattle.scheme.specs.Lists.{any, keepIf}
@@ -26,7 +26,7 @@ use Rattle.casefile.proofs.TypeTable.{count-payloads}
 use Rattle.entries.specs.Index.{Indexed}
 use Rattle.entries.specs.Tests.{IsPlace}
 use Rattle.groups.specs.Groups.{nonterminalOf, Grouped}
-use Rattle.goals.specs.Goals.{Goal, of-state, Typed, IsGoal}
+use Rattle.goals.specs.Goals.{of-state, Typed, IsGoal}
 use Rattle.goals.proofs.Goals.{goals-same}
 use Rattle.misfits.proofs.Offers.{binding-numbers}
 use Rattle.binding_tests.specs.BindingTests.{noBinding}

@@ -1,9 +1,9 @@
 -- The tables of a file that is not refused are ready for the tests of its bindings; and what the rounds leave is what the
 -- definitions say.
-use Prim.Native.Nat.{ℕ, zero, suc, _+_, _<_, _≤_}
+use Prim.Native.Nat.{ℕ, _+_, _<_, _≤_}
 use native.Mathlib.Omega.{arith}
-use mathlib.Core.Path.{_≡_, refl, sym, ap, ap₂, subst, _∙_}
-use mathlib.Core.Bool.{Bool, true, false, _&&_, _||_, not}
+use mathlib.Core.Path.{_≡_, sym, ap, ap₂, subst, _∙_}
+use mathlib.Core.Bool.{Bool, _&&_, _||_, not}
 use mathlib.Core.List.{List, [], _∷_, _++_}
 use mathlib.Core.Option.{none}
 use borrow.Author.Tests.{ltb-false}
@@ -34,7 +34,7 @@ use Rattle.binding_tests.specs.BindingTests.{Ready}
 use Rattle.rounds.specs.Shrinking.{testOf, Shrinks}
 use Rattle.rounds.proofs.Flagged.{chosen-take}
 use Rattle.rounds.proofs.Turning.{bindings-many}
-use Rattle.shrink.specs.BindingCases.{Shrunk, shrunk}
+use Rattle.shrink.specs.BindingCases.{shrunk}
 use Rattle.binding_cases.specs.Judging.{FindsStart, Writes, IsShrunk, JudgesBindings}
 
 -- 12 is not met: there is a flag for each binding

@@ -1,9 +1,9 @@
 -- Flags written one by one over lent bytes.
-use Prim.Native.Nat.{ℕ, zero, suc, _+_, _<_, _≤_}
+use Prim.Native.Nat.{ℕ, suc, _+_, _<_, _≤_}
 use native.Mathlib.Omega.{arith}
 use native.Mathlib.Numerals.{add-one}
 use mathlib.Core.Path.{_≡_, refl, sym, ap, _∙_}
-use mathlib.Core.List.{List, [], _∷_, _++_}
+use mathlib.Core.List.{List, _++_}
 use lib.ListN.{length, getD, set, take, drop, length-set}
 use lib.Seq.{take-suc, drop-cons, set-at, append-snoc, length-take-le}
 use Rattle.binding_cases.specs.Judging.{Writes}

@@ -7,7 +7,6 @@ use mathlib.Core.Option.{none}
 use lib.ListN.{length, getD, take, drop}
 use Rattle.scheme.specs.Lists.{any}
 use Rattle.scheme.specs.Types.{state, same}
-use Rattle.scheme.specs.Typing.{Binding}
 use Rattle.scheme.specs.Flags.{isKept, chosen}
 use Rattle.scheme.specs.Acceptance.{isStart}
 use Rattle.records.specs.Records.{Record}

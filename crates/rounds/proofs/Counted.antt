@@ -5,13 +5,12 @@ use native.Mathlib.Omega.{arith}
 use native.Mathlib.Nat.{zero-add}
 use native.Mathlib.Numerals.{add-one}
 use mathlib.Core.Path.{_≡_, refl, sym, ap, ap₂, subst, _∙_}
-use mathlib.Core.Bool.{Bool, true, false}
+use mathlib.Core.Bool.{Bool}
 use mathlib.Core.List.{List, [], _∷_, _++_}
 use borrow.Author.Tests.{eq-eqb, ne-eqb}
-use lib.Dec.{eqb}
 use lib.ListN.{length, getD, set, take, drop, replicate, length-replicate, getD-replicate}
 use lib.Seq.{take-suc, drop-cons, take-suc-set, take-all, length-take-le, getD-take, drop-length, ext-getD}
-use Rattle.scheme.specs.Lists.{if_then_else_, keepIf}
+use Rattle.scheme.specs.Lists.{keepIf}
 use Rattle.scheme.specs.Rounds
 use Rattle.scheme.specs.Rounds.{countTo}
 use Rattle.scheme.specs.Flags.{isKept, chosen, roundFlags, flagsAfter, keptFlags}

@@ -1,13 +1,13 @@
 -- From the test of one binding to a round, and from a round to the rounds: what each step leaves, for a file that is ready.
 use Prim.Native.Nat.{ℕ, zero, suc, _+_, _*_, _<_, _≤_}
 use native.Mathlib.Omega.{arith}
-use mathlib.Core.Path.{_≡_, refl, sym, ap, ap₂, subst, _∙_}
+use mathlib.Core.Path.{_≡_, refl, sym, ap, subst, _∙_}
 use mathlib.Core.Bool.{Bool, true, false, _&&_}
-use mathlib.Core.List.{List, [], _∷_}
+use mathlib.Core.List.{List}
 use mir.Val.{boolByte}
 use lib.ListN.{length, getD, set, take, replicate, length-set, length-map, length-replicate}
 use Rattle.scheme.specs.Rounds
-use Rattle.scheme.specs.Flags.{bit, isKept, chosen, roundFlags, keptFlags}
+use Rattle.scheme.specs.Flags.{bit, isKept, chosen, roundFlags}
 use Rattle.scheme.proofs.Flags.{chosen-round}
 use Rattle.records.specs.Records.{Record}
 use Rattle.casefile.specs.Kinds.{Kind, number, payloads, count}

@@ -1,9 +1,6 @@
 -- `write_flags` meets its contract. The invariant: the first i flags are written.
 use Prim.Native.Nat.{_-_, _≤_}
 use native.Mathlib.Omega.{arith}
-use mathlib.Core.Path.{_≡_, refl, _∙_}
-use borrow.Author.Needs.{needs}
-use lib.ListN.{length, length-set}
 use Rattle.binding_cases.proofs.Writing.{Written, written-none, written-more, written-all}
 use Rattle.binding_cases.proofs.write_flags.Statement.{statement}
 use Rattle.binding_cases.proofs.write_flags.Tie as tie
