@@ -76,21 +76,15 @@ fn write_flags(from: &[u8; 1024], n: usize, to: &mut [u8])
     }
 }
 
-// A memo with room for 256 nodes of 1,024 types and 16 states.
-fn blank() -> [u8; 266240]
-    ensures { λ r. ⌜ length r ≡ 266240 ⌝ }
-{
-    [0u8; 266240]
-}
-
 // What comes of the bindings of a file, with the tables of its records; their flags are written, 1 for a kept binding and
-// 0 for a dropped one.
+// 0 for a dropped one. What the memo held before does not matter.
 pub fn judge_bindings(
     file: &[u8],
     index: &[u16],
     counts: &[u16],
     ends: &[u16],
     flags: &mut [u8],
+    memo: &mut [u8],
 ) -> Shrunken
     ensures { λ r. ⌜ JudgesBindings (now (file .entry)) (now (index .entry)) (now (counts .entry)) (now (ends .entry)) (now (flags .entry)) (now (flags .exit)) (r .accepted) (r .kept) (r .total) (r .rounds) ⌝ }
 {
@@ -100,17 +94,7 @@ pub fn judge_bindings(
     let mut firsts = [0u16; 256];
     fill_firsts(file, index, place_at(counts, 4), &mut firsts);
     let table = moves(file, index, place_at(counts, 6));
-    let mut memo = blank();
-    let ended = shrink(
-        file,
-        index,
-        counts,
-        &groups,
-        &firsts,
-        ends,
-        table,
-        &mut memo,
-    );
+    let ended = shrink(file, index, counts, &groups, &firsts, ends, table, memo);
     let kept = ended.flags;
     let accepted = start_kept(file, index, counts, &groups, &kept);
     write_flags(&kept, total, flags);

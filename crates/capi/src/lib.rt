@@ -1,6 +1,7 @@
 // The judge for programs in other languages.
 use plan_check::Verdict;
 use plan_check::judge;
+use plan_check::judge_with;
 ghost use mathlib.Core.Path.{_≡_};
 ghost use Rattle.capi.specs.Exports.{wordsOf, Judges};
 ghost use Rattle.plan_check.specs.Verdicts.{answerAs};
@@ -36,6 +37,24 @@ pub extern "C" fn plan_judge(file: &[u8], flags: &mut [u8], out: &mut [u64; 4]) 
     ensures { λ r. ⌜ Judges (now (file .entry)) (now (flags .entry)) (now (flags .exit)) (now (out .exit)) r ⌝ }
 {
     let words = words_of(judge(file, flags));
+    *out = words;
+    words[0]
+}
+
+// The same with working memory that is lent, of any contents; what it holds afterwards is not said.
+#[no_mangle]
+pub extern "C" fn plan_judge_with(
+    file: &[u8],
+    flags: &mut [u8],
+    out: &mut [u64; 4],
+    index: &mut [u16; 3170],
+    ends: &mut [u16; 15000],
+    fit: &mut [u8; 66560],
+    memo: &mut [u8; 266240],
+) -> u64
+    ensures { λ r. ⌜ Judges (now (file .entry)) (now (flags .entry)) (now (flags .exit)) (now (out .exit)) r ⌝ }
+{
+    let words = words_of(judge_with(file, flags, index, ends, fit, memo));
     *out = words;
     words[0]
 }
