@@ -31,6 +31,19 @@ enum plan_verdict {
  * memory is taken but about 900 KB of the caller's stack. */
 uint64_t plan_judge(const uint8_t *file, size_t file_length, uint8_t *flags, size_t flags_length, uint64_t out[4]);
 
+/* Working memory for plan_judge_with: room for every file. Its contents do not matter, before or after. */
+struct plan_memory {
+    uint16_t index[3170];
+    uint16_t ends[15000];
+    uint8_t fit[66560];
+    uint8_t memo[266240];
+};
+
+/* The same with working memory that the caller lends, for callers that judge many files: nothing has to be cleared at
+ * each call. None of the areas may overlap. */
+uint64_t plan_judge_with(const uint8_t *file, size_t file_length, uint8_t *flags, size_t flags_length, uint64_t out[4],
+                         uint16_t index[3170], uint16_t ends[15000], uint8_t fit[66560], uint8_t memo[266240]);
+
 #ifdef __cplusplus
 }
 #endif
