@@ -1,59 +1,49 @@
+-- `put` meets its contract. The invariant: i bytes of the text are put.
+use borrow.Author.Needs.{needs}
 use Prim.Native.Nat.{_-_}
 use lib.ListN.{length}
-use mathlib.Core.Path.{_≡_}
-use borrow.Author.Needs.{needs}
+use Rattle.verdict_lines.proofs.Putting.{Putting, putting-first, putting-next, putting-done, putting-full}
 use Rattle.verdict_lines.proofs.put.Statement.{statement}
 use Rattle.verdict_lines.proofs.put.Tie as tie
 
 abbrev Inv-loop : tie.InvT-loop
-Inv-loop line₀ from text at₀ i₀ line at i = length line ≡ length line₀
+Inv-loop line₀ from text at₀ i₀ line at i = Putting line₀ from text line at i
 
 abbrev μ-loop : tie.MeasureT-loop
 μ-loop line₀ from text at₀ i₀ line at i = length text - i
 
--- src/lib.rt:9:5
 loop-holds : tie.Need-loop-holds Inv-loop μ-loop
-loop-holds c = search needs
+loop-holds c = putting-first _ _ _
 
--- src/lib.rt:11:13
 same-length : tie.Need-same-length Inv-loop μ-loop
 same-length c = search needs
 
--- src/lib.rt:11:13
 returns : tie.Need-returns Inv-loop μ-loop
-returns c = search needs
+returns c = putting-full _ _ _ _ _ _ (c .if1 .taken) (c .before .loop-test .taken) (c .before .before .loop .inv)
 
--- src/lib.rt:13:20
 shared-slice-read-line : tie.Need-shared-slice-read-line Inv-loop μ-loop
 shared-slice-read-line c = search needs
 
--- src/lib.rt:13:9
 slice-write-line : tie.Need-slice-write-line Inv-loop μ-loop
 slice-write-line c = search needs
 
--- src/lib.rt:14:14
 add-at : tie.Need-add-at Inv-loop μ-loop
 add-at c = search needs
 
--- src/lib.rt:15:13
 add-i : tie.Need-add-i Inv-loop μ-loop
 add-i c = search needs
 
--- src/lib.rt:9:5
 loop-less : tie.Need-loop-less Inv-loop μ-loop
 loop-less c = search needs
 
--- src/lib.rt:9:5
 loop-again : tie.Need-loop-again Inv-loop μ-loop
-loop-again c = search needs
+loop-again c = putting-next _ _ _ _ _ _ (c .before .if1 .left) (c .before .before .loop-test .taken) (c .before .before .before .loop .inv)
 
--- src/lib.rt:6:1
 same-length-2 : tie.Need-same-length-2 Inv-loop μ-loop
 same-length-2 c = search needs
 
--- src/lib.rt:6:1
 returns-2 : tie.Need-returns-2 Inv-loop μ-loop
-returns-2 c = search needs
+returns-2 c = putting-done _ _ _ _ _ _ (c .loop-test .left) (c .before .loop .inv)
 
 pub put-spec : {M : Type 1} → statement M
 put-spec =
