@@ -1,13 +1,35 @@
 // A reader: it holds the lent file and a place in it. Its methods take it apart and call the cursor's functions.
 use reading::Cursor;
 use reading::Read;
+use reading::payload;
 ghost use mathlib.Core.Path.{_≡_};
 ghost use Rattle.reading.specs.Reading.{readAt};
+ghost use Rattle.reader.specs.Parts.{payloadOf};
 
 // A place in a file that is lent.
 pub struct Reader<'a> {
     pub file: &'a [u8],
     pub at: usize,
+}
+
+// The part of a file that the payload of a record fills; empty where no record was read.
+fn payload_of(file: &[u8], got: Read) -> &[u8]
+    ensures { λ r. ⌜ now r ≡ payloadOf (now (file .entry)) got ⌝ }
+{
+    match got {
+        Read::Record {
+            place: _,
+            start,
+            len,
+            kind: _,
+            next: _,
+        } => payload(file, start, len),
+        Read::Refused {
+            number: _,
+            place: _,
+        } => &file[..0],
+        Read::End => &file[..0],
+    }
 }
 
 impl<'a> Reader<'a> {
@@ -24,6 +46,13 @@ impl<'a> Reader<'a> {
     {
         let c = Cursor { at: self.at };
         c.next(self.file)
+    }
+
+    // The part of the file that the payload of a record fills; empty where no record was read.
+    pub fn part(self, got: Read) -> &'a [u8]
+        ensures { λ r. ⌜ now r ≡ payloadOf (now (self .entry .file)) got ⌝ }
+    {
+        payload_of(self.file, got)
     }
 
     // The reader of the same file at another place.

@@ -20,6 +20,7 @@ use Rattle.scheme.specs.Sorts.{o, arguments}
 use Rattle.records.specs.Fields.{word}
 use Rattle.records.specs.Records.{Record, recordAt, end, next, walk, recordsOf, listed}
 use Rattle.reading.specs.Reading.{readAt, partOf}
+use Rattle.reader.specs.Parts.{payloadOf}
 use Rattle.reading.specs.declared.Cursor.{Cursor}
 use Rattle.reading.specs.declared.Read.the-variants as read
 use Rattle.reading.proofs.Read.{the-type}
@@ -375,30 +376,30 @@ module _ {file index lens counts : List ℕ} {at last : ℕ} (w : Walking file i
 -- What a turn comes to, from what its functions promise.
 module _ {file index lens counts : List ℕ} {last : ℕ} where
   -- the walk is over
-  over-at : (g : Rattle.reading.specs.declared.Read.Read) (t : Turned) (w : Walked) → t ≡ ended w → ((at : ℕ) → g ≡ readAt file at → length file ≤ 60000 → Walking file index lens counts at last → WalkEnds file index lens counts w)
-      → TurnsTo file g last index lens counts index lens counts t
-  over-at g t w e h = subst (TurnsTo file g last index lens counts index lens counts) (sym e) (record { comes-to = h })
+  over-at : (g : Rattle.reading.specs.declared.Read.Read) (p : List ℕ) (t : Turned) (w : Walked) → t ≡ ended w
+      → ((at : ℕ) → g ≡ readAt file at → p ≡ payloadOf file g → length file ≤ 60000 → Walking file index lens counts at last → WalkEnds file index lens counts w) → TurnsTo file g p last index lens counts index lens counts t
+  over-at g p t w e h = subst (TurnsTo file g p last index lens counts index lens counts) (sym e) (record { comes-to = h })
 
-  pub turn-stops : (g : Rattle.reading.specs.declared.Read.Read) → OneOf (1 ∷ 2 ∷ []) (tagOf the-type g) → (t : Turned) → t ≡ ended (endOf g) → TurnsTo file g last index lens counts index lens counts t
-  turn-stops g h t e = over-at g t (endOf g) e (λ at eg few w. ends w g h eg (endOf g) refl)
+  pub turn-stops : (g : Rattle.reading.specs.declared.Read.Read) (p : List ℕ) → OneOf (1 ∷ 2 ∷ []) (tagOf the-type g) → (t : Turned) → t ≡ ended (endOf g) → TurnsTo file g p last index lens counts index lens counts t
+  turn-stops g p h t e = over-at g p t (endOf g) e (λ at eg ep few w. ends w g h eg (endOf g) refl)
 
-  module _ (g : Rattle.reading.specs.declared.Read.Read) (place start len kind : ℕ) (c : Cursor) (is : g ≡ read.Record place start len kind c) where
-    pub turn-falls : kind < last → (t : Turned) → t ≡ ended (walked.Refused 3 place) → TurnsTo file g last index lens counts index lens counts t
-    turn-falls h t e = over-at g t (walked.Refused 3 place) e (λ at eg few w. falls w place start len kind c (sym is ∙ eg) h)
+  module _ (g : Rattle.reading.specs.declared.Read.Read) (p : List ℕ) (place start len kind : ℕ) (c : Cursor) (is : g ≡ read.Record place start len kind c) where
+    pub turn-falls : kind < last → (t : Turned) → t ≡ ended (walked.Refused 3 place) → TurnsTo file g p last index lens counts index lens counts t
+    turn-falls h t e = over-at g p t (walked.Refused 3 place) e (λ at eg ep few w. falls w place start len kind c (sym is ∙ eg) h)
 
-    module _ (p : List ℕ) (n : ℕ) (ep : p ≡ partOf file start len) (up : last ≤ kind) (en : (rs : List Record) → Known file index lens counts rs → Passed rs → n ≡ codeAs rs p (kindOf kind)) where
-      pub turn-refuses : (n ≡ 0 → ⊥) → (t : Turned) → t ≡ ended (walked.Refused n place) → TurnsTo file g last index lens counts index lens counts t
-      turn-refuses ne t e = over-at g t (walked.Refused n place) e (λ at eg few w. turned w place start len kind c (sym is ∙ eg) p n ep up (en (w .rs) (w .known) (w .passed)) ne)
+    module _ (n : ℕ) (up : last ≤ kind) (en : (rs : List Record) → Known file index lens counts rs → Passed rs → n ≡ codeAs rs p (kindOf kind)) where
+      pub turn-refuses : (n ≡ 0 → ⊥) → (t : Turned) → t ≡ ended (walked.Refused n place) → TurnsTo file g p last index lens counts index lens counts t
+      turn-refuses ne t e = over-at g p t (walked.Refused n place) e (λ at eg ep few w. turned w place start len kind c (sym is ∙ eg) p n (ep ∙ ap (payloadOf file) is) up (en (w .rs) (w .known) (w .passed)) ne)
 
       pub turn-goes-on : (index′ lens′ counts′ : List ℕ) → n ≡ 0
           → ((k : Kind) → kind ≡ number k → index′ ≡ stored index (base k + getD counts kind 0) start) → lens′ ≡ lensAfter lens kind (getD counts kind 0) p → counts′ ≡ stored counts kind (getD counts kind 0 + 1)
-          → TurnsTo file g last index lens counts index′ lens′ counts′ (record { over = false; walked = walked.Read; next = c .at; kind = kind })
+          → TurnsTo file g p last index lens counts index′ lens′ counts′ (record { over = false; walked = walked.Read; next = c .at; kind = kind })
       turn-goes-on index′ lens′ counts′ ez ei el ec = record {
-        comes-to = λ at eg.
+        comes-to = λ at eg ep.
             let rr = read-record file at place start len kind c (sym (sym is ∙ eg)) in
             record {
               less = (let a = rr .inside in let b = rr .next-is in let d = rr .next-fits in omega arith);
-              walking = λ few w. goes-on w place start len kind c (sym is ∙ eg) p index′ lens′ counts′ ep up (sym ez ∙ en (w .rs) (w .known) (w .passed)) few ei el ec;
+              walking = λ few w. goes-on w place start len kind c (sym is ∙ eg) p index′ lens′ counts′ (ep ∙ ap (payloadOf file) is) up (sym ez ∙ en (w .rs) (w .known) (w .passed)) few ei el ec;
             };
       }
 
@@ -446,13 +447,13 @@ or-goes-on : (y : Bool) (a b : Type 0) → T (not y) → endsOr y a b → b
 or-goes-on true a b h x = absurd h
 or-goes-on false a b h x = x
 
-module _ {file index₀ lens₀ counts₀ : List ℕ} (c : Carried file index₀ lens₀ counts₀) (g : Rattle.reading.specs.declared.Read.Read) (eg : g ≡ readAt file (c .at)) {index′ lens′ counts′ : List ℕ} {t : Turned}
-    (h : TurnsTo file g (c .last) (c .index) (c .lens) (c .counts) index′ lens′ counts′ t) where
+module _ {file index₀ lens₀ counts₀ : List ℕ} (c : Carried file index₀ lens₀ counts₀) (g : Rattle.reading.specs.declared.Read.Read) (eg : g ≡ readAt file (c .at)) {p : List ℕ} (ep : p ≡ payloadOf file g) {index′ lens′ counts′ : List ℕ} {t : Turned}
+    (h : TurnsTo file g p (c .last) (c .index) (c .lens) (c .counts) index′ lens′ counts′ t) where
   pub pass-ends : T (t .over) → PassesTo file index₀ lens₀ counts₀ index′ lens′ counts′ t
-  pass-ends y = λ few w. or-ends (t .over) _ _ y (h .comes-to (c .at) eg) few (c .walking few w)
+  pass-ends y = λ few w. or-ends (t .over) _ _ y (h .comes-to (c .at) eg ep) few (c .walking few w)
 
   pub still-on : T (not (t .over)) → GoesOn file (c .index) (c .lens) (c .counts) index′ lens′ counts′ (c .at) (c .last) (t .next) (t .kind)
-  still-on y = or-goes-on (t .over) _ _ y (h .comes-to (c .at) eg)
+  still-on y = or-goes-on (t .over) _ _ y (h .comes-to (c .at) eg ep)
 
   abbrev pub carried-on : T (not (t .over)) → t .next < 2 ^ 64 → t .kind < 2 ^ 64 → length index′ ≡ length (c .index) → length lens′ ≡ length (c .lens) → length counts′ ≡ length (c .counts) → Carried file index₀ lens₀ counts₀
   carried-on y fn fk ei el ec = record {

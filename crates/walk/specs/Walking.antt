@@ -6,6 +6,7 @@ use mathlib.Core.List.{List, [], _++_}
 use lib.ListN.{length}
 use Rattle.records.specs.Records.{Record, walk, recordsOf, listed}
 use Rattle.reading.specs.Reading.{readAt}
+use Rattle.reader.specs.Parts.{payloadOf}
 use Rattle.casefile.specs.Kinds.{Kind, payloads}
 use Rattle.casefile.specs.Refusals.{lastKind, refuseWhole}
 use Rattle.casefile.specs.Cases.{refusedCase, unlessRefused, acceptedCase, caseFrom}
@@ -65,9 +66,9 @@ abbrev pub TurnEnds : List ℕ → List ℕ → List ℕ → List ℕ → List �
 TurnEnds file index lens counts index′ lens′ counts′ at last t =
     endsOr (t .over) (length file ≤ 60000 → Walking file index lens counts at last → WalkEnds file index′ lens′ counts′ (t .walked)) (GoesOn file index lens counts index′ lens′ counts′ at last (t .next) (t .kind))
 
--- the promise of a turn, at whatever place its answer was read
-pub record TurnsTo (file : List ℕ) (got : Rattle.reading.specs.declared.Read.Read) (last : ℕ) (index lens counts index′ lens′ counts′ : List ℕ) (t : Turned) : Type 0 where
-  pub comes-to : (at : ℕ) → got ≡ readAt file at → TurnEnds file index lens counts index′ lens′ counts′ at last t
+-- the promise of a turn, at whatever place its answer was read, with the payload that goes with the answer
+pub record TurnsTo (file : List ℕ) (got : Rattle.reading.specs.declared.Read.Read) (payload : List ℕ) (last : ℕ) (index lens counts index′ lens′ counts′ : List ℕ) (t : Turned) : Type 0 where
+  pub comes-to : (at : ℕ) → got ≡ readAt file at → payload ≡ payloadOf file got → TurnEnds file index lens counts index′ lens′ counts′ at last t
 
 -- the promise of a pass: all turns from the start of a file on
 abbrev pub PassesTo : List ℕ → List ℕ → List ℕ → List ℕ → List ℕ → List ℕ → List ℕ → Turned → Type 0

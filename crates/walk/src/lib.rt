@@ -4,7 +4,6 @@ use enter::store;
 use kinds::test;
 use reader::Reader;
 use reading::Read;
-use reading::payload;
 ghost use mathlib.Core.Path.{_≡_};
 ghost use lib.ListN.{length, replicate};
 ghost use Rattle.walk.specs.Walking.{endOf, ended, TurnsTo, PassesTo, WalksTo};
@@ -63,21 +62,22 @@ fn over(walked: Walked) -> Turned
     }
 }
 
-// One turn, on what was read behind a record of the kind last: a record is tested and entered in the tables.
-fn turn(
-    file: &[u8],
+// One turn, on what was read behind a record of the kind last: a record with the payload p is tested and entered in the tables.
+fn turn<'a>(
+    file: &'a [u8],
     got: Read,
+    p: &'a [u8],
     last: usize,
     index: &mut [u16],
     lens: &mut [u16],
     counts: &mut [u16],
 ) -> Turned
-    ensures { λ r. ⌜ TurnsTo (now (file .entry)) got last (now (index .entry)) (now (lens .entry)) (now (counts .entry)) (now (index .exit)) (now (lens .exit)) (now (counts .exit)) r ⌝ }
+    ensures { λ r. ⌜ TurnsTo (now (file .entry)) got (now (p .entry)) last (now (index .entry)) (now (lens .entry)) (now (counts .entry)) (now (index .exit)) (now (lens .exit)) (now (counts .exit)) r ⌝ }
 {
     let Read::Record {
         place,
         start,
-        len,
+        len: _,
         kind,
         next,
     } = got
@@ -87,7 +87,6 @@ fn turn(
     if kind < last {
         return over(Walked::Refused { number: 3, place });
     }
-    let p = payload(file, start, len);
     let number = test(file, index, lens, counts, kind, p);
     if number != 0 {
         return over(Walked::Refused { number, place });
@@ -108,7 +107,8 @@ fn pass(file: &[u8], index: &mut [u16], lens: &mut [u16], counts: &mut [u16]) ->
     let mut r = Reader::start(file);
     let mut last: usize = 0;
     loop {
-        let t = turn(r.file, r.next(), last, index, lens, counts);
+        let got = r.next();
+        let t = turn(r.file, got, r.part(got), last, index, lens, counts);
         if t.over {
             return t;
         }
