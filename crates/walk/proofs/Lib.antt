@@ -1,3 +1,4 @@
 pub mod Clearing
 pub mod Known
+pub mod Lending
 pub mod Turns

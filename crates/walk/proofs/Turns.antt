@@ -1,23 +1,26 @@
--- The invariant of the walk, how it starts, what a record does to it, and how it ends.
-use Prim.Native.Nat.{ℕ, zero, suc, _+_, _-_, _<_, _≤_}
+-- The walk under way: how it starts, what a record does to it, how it ends, and what a turn comes to.
+use Prim.Native.Nat.{ℕ, zero, suc, _+_, _-_, _<_, _≤_, _^_}
 use native.Mathlib.Omega.{arith}
 use mathlib.Core.Path.{_≡_, refl, sym, ap, ap₂, subst, _∙_}
 use mathlib.Core.Logic.{⊎-elim}
-use mathlib.Core.Bool.{Bool, true, false, _||_}
+use mathlib.Core.Bool.{Bool, true, false, not, _||_}
 use mathlib.Core.List.{List, [], _∷_, _++_, map, map-append, append-nil, append-assoc}
 use mathlib.Core.Option.{Option, none, some}
 use native.Mathlib.Decide.{ℕ-discrete}
 use borrow.Author.Tests.{lt-ltb, le-ltb, leb-false, ltb-false, eq-eqb}
 use types.Run.{OneOf}
 use denote.Enum.Declared.{tagOf}
-use lib.Dec.{ltb, leb, eqb}
-use lib.ListN.{length, getD, set, replicate, length-set, getD-replicate, length-replicate, length-map}
+use mathlib.Core.WellFounded.{WellFounded, InvImage·wf}
+use lib.WfN.{Nat·lt-wfRel}
+use lib.Dec.{T, ltb, leb, eqb}
+use lib.ListN.{length, getD, set, replicate, length-set, getD-replicate, length-map}
 use lib.Seq.{getD-set-same}
 use Rattle.scheme.specs.Lists.{if_then_else_, lastOr, select}
 use Rattle.scheme.specs.Sorts.{o, arguments}
 use Rattle.records.specs.Fields.{word}
 use Rattle.records.specs.Records.{Record, recordAt, end, next, walk, recordsOf, listed}
 use Rattle.reading.specs.Reading.{readAt, partOf}
+use Rattle.reader.specs.Parts.{payloadOf}
 use Rattle.reading.specs.declared.Cursor.{Cursor}
 use Rattle.reading.specs.declared.Read.the-variants as read
 use Rattle.reading.proofs.Read.{the-type}
@@ -37,24 +40,10 @@ use Rattle.walk.specs.declared.Walked.the-variants as walked
 use Rattle.kinds.specs.Known.{room, Known}
 use Rattle.kinds.specs.Codes.{codeAs}
 use Rattle.enter.specs.Entering.{stored, lensAfter}
-use Rattle.walk.specs.Walking.{WalkEnds, endOf}
+use Rattle.walk.specs.declared.Turned.{Turned}
+use Rattle.walk.specs.Walking.{Walking, WalkEnds, endOf, ended, GoesOn, endsOr, TurnsTo, PassesTo, WalksTo}
 use Rattle.walk.proofs.Known.{known-more, known-sort, number-few}
-use Rattle.enter.proofs.Storing.{number-inj, stored-set, stored-length, lens-length, lens-other}
-
--- the tables hold the records before `at`, whose last kind is `last`; what is left of the file decides
-pub record Walking (file index lens counts : List ℕ) (at last : ℕ) : Type 0 where
-  pub rs : List Record
-  pub known : Known file index lens counts rs
-  pub passed : Passed rs
-  pub lastly : lastKind rs ≡ last
-  pub inside : at ≤ length file
-  pub fuel : ℕ
-  pub enough : length file ≤ at + fuel
-  pub same : (flags : ℕ) → caseFrom flags (walk fuel file at) rs ≡ caseFrom flags (recordsOf file) []
-  pub all : rs ++ listed (walk fuel file at) ≡ listed (recordsOf file)
-  pub index-long : length index ≡ 3170
-  pub lens-long : length lens ≡ 65
-  pub counts-long : length counts ≡ 10
+use Rattle.enter.proofs.Storing.{number-inj, stored-set, lens-length, lens-other}
 
 -- no record yet
 none-indexed : (file index : List ℕ) (k : Kind) (n : ℕ) → n ≡ 0 → Indexed file index k n []
@@ -384,55 +373,107 @@ module _ {file index lens counts : List ℕ} {at last : ℕ} (w : Walking file i
             counts-long = ap length counts-is ∙ length-set counts (number k) (n + 1) ∙ w .counts-long;
           }
 
--- The invariant of the loop: tables keep their lengths, and where these are right the walk is under way.
-pub record Turn (file index₀ lens₀ counts₀ index lens counts : List ℕ) (at last : ℕ) : Type 0 where
-  pub same-index : length index ≡ length index₀
-  pub same-lens : length lens ≡ length lens₀
-  pub same-counts : length counts ≡ length counts₀
-  pub within : at ≤ length file
-  pub walking : length index₀ ≡ 3170 → length lens₀ ≡ 65 → length counts₀ ≡ 10 → length file ≤ 60000 → Walking file index lens counts at last
+-- What a turn comes to, from what its functions promise.
+module _ {file index lens counts : List ℕ} {last : ℕ} where
+  -- the walk is over
+  over-at : (g : Rattle.reading.specs.declared.Read.Read) (p : List ℕ) (t : Turned) (w : Walked) → t ≡ ended w
+      → ((at : ℕ) → g ≡ readAt file at → p ≡ payloadOf file g → length file ≤ 60000 → Walking file index lens counts at last → WalkEnds file index lens counts w) → TurnsTo file g p last index lens counts index lens counts t
+  over-at g p t w e h = subst (TurnsTo file g p last index lens counts index lens counts) (sym e) (record { comes-to = h })
 
-pub first-turn : (file index lens lens′ counts counts′ : List ℕ) → counts′ ≡ replicate (length counts) 0 → lens′ ≡ stored lens 0 0 → Turn file index lens′ counts′ index lens′ counts′ 0 0
-first-turn file index lens lens′ counts counts′ ec el =
-    record {
-      same-index = refl;
-      same-lens = refl;
-      same-counts = refl;
-      within = omega arith;
-      walking = λ hi hl hc few. starts file index lens lens′ counts counts′ hi (sym (stored-length lens 0 0) ∙ ap length (sym el) ∙ hl) (sym (length-replicate (length counts) zero) ∙ ap length (sym ec) ∙ hc) ec el;
-    }
+  pub turn-stops : (g : Rattle.reading.specs.declared.Read.Read) (p : List ℕ) → OneOf (1 ∷ 2 ∷ []) (tagOf the-type g) → (t : Turned) → t ≡ ended (endOf g) → TurnsTo file g p last index lens counts index lens counts t
+  turn-stops g p h t e = over-at g p t (endOf g) e (λ at eg ep few w. ends w g h eg (endOf g) refl)
 
-module _ {file index₀ lens₀ counts₀ index lens counts : List ℕ} {at last : ℕ} (t : Turn file index₀ lens₀ counts₀ index lens counts at last) where
-  -- with the lengths that the tables had at the start
-  pub under-way : (lens¹ counts¹ : List ℕ) → lens₀ ≡ stored lens¹ 0 0 → counts₀ ≡ replicate (length counts¹) 0 → length index₀ ≡ 3170 → length lens¹ ≡ 65 → length counts¹ ≡ 10 → length file ≤ 60000 → Walking file index lens counts at last
-  under-way lens¹ counts¹ el ec hi hl hc few = t .walking hi (ap length el ∙ stored-length lens¹ 0 0 ∙ hl) (ap length ec ∙ length-replicate (length counts¹) zero ∙ hc) few
+  module _ (g : Rattle.reading.specs.declared.Read.Read) (p : List ℕ) (place start len kind : ℕ) (c : Cursor) (is : g ≡ read.Record place start len kind c) where
+    pub turn-falls : kind < last → (t : Turned) → t ≡ ended (walked.Refused 3 place) → TurnsTo file g p last index lens counts index lens counts t
+    turn-falls h t e = over-at g p t (walked.Refused 3 place) e (λ at eg ep few w. falls w place start len kind c (sym is ∙ eg) h)
 
-  pub same-lens-as : (lens¹ : List ℕ) → lens₀ ≡ stored lens¹ 0 0 → length lens ≡ length lens¹
-  same-lens-as lens¹ el = t .same-lens ∙ ap length el ∙ stored-length lens¹ 0 0
+    module _ (n : ℕ) (up : last ≤ kind) (en : (rs : List Record) → Known file index lens counts rs → Passed rs → n ≡ codeAs rs p (kindOf kind)) where
+      pub turn-refuses : (n ≡ 0 → ⊥) → (t : Turned) → t ≡ ended (walked.Refused n place) → TurnsTo file g p last index lens counts index lens counts t
+      turn-refuses ne t e = over-at g p t (walked.Refused n place) e (λ at eg ep few w. turned w place start len kind c (sym is ∙ eg) p n (ep ∙ ap (payloadOf file) is) up (en (w .rs) (w .known) (w .passed)) ne)
 
-  pub same-counts-as : (counts¹ : List ℕ) → counts₀ ≡ replicate (length counts¹) 0 → length counts ≡ length counts¹
-  same-counts-as counts¹ ec = t .same-counts ∙ ap length ec ∙ length-replicate (length counts¹) zero
-
-  pub next-turn : (place start len kind : ℕ) (c : Cursor) → read.Record place start len kind c ≡ readAt file at → (p index′ lens′ counts′ : List ℕ) (n : ℕ) → p ≡ partOf file start len → last ≤ kind
-      → ((rs : List Record) → Known file index lens counts rs → Passed rs → n ≡ codeAs rs p (kindOf kind)) → n ≡ 0
-      → length index′ ≡ length index → length lens′ ≡ length lens → length counts′ ≡ length counts
-      → ((k : Kind) → kind ≡ number k → index′ ≡ stored index (base k + getD counts kind 0) start) → lens′ ≡ lensAfter lens kind (getD counts kind 0) p → counts′ ≡ stored counts kind (getD counts kind 0 + 1)
-      → Turn file index₀ lens₀ counts₀ index′ lens′ counts′ (c .at) kind
-  next-turn place start len kind c e p index′ lens′ counts′ n ep up en ez si sl sc ei el ec =
-      record {
-        same-index = si ∙ t .same-index;
-        same-lens = sl ∙ t .same-lens;
-        same-counts = sc ∙ t .same-counts;
-        within = read-record file at place start len kind c (sym e) .next-fits;
-        walking = λ hi hl hc few.
-            let w = t .walking hi hl hc few in
-            goes-on w place start len kind c e p index′ lens′ counts′ ep up (sym ez ∙ en (w .rs) (w .known) (w .passed)) few ei el ec;
+      pub turn-goes-on : (index′ lens′ counts′ : List ℕ) → n ≡ 0
+          → ((k : Kind) → kind ≡ number k → index′ ≡ stored index (base k + getD counts kind 0) start) → lens′ ≡ lensAfter lens kind (getD counts kind 0) p → counts′ ≡ stored counts kind (getD counts kind 0 + 1)
+          → TurnsTo file g p last index lens counts index′ lens′ counts′ (record { over = false; walked = walked.Read; next = c .at; kind = kind })
+      turn-goes-on index′ lens′ counts′ ez ei el ec = record {
+        comes-to = λ at eg ep.
+            let rr = read-record file at place start len kind c (sym (sym is ∙ eg)) in
+            record {
+              less = (let a = rr .inside in let b = rr .next-is in let d = rr .next-fits in omega arith);
+              walking = λ few w. goes-on w place start len kind c (sym is ∙ eg) p index′ lens′ counts′ (ep ∙ ap (payloadOf file) is) up (sym ez ∙ en (w .rs) (w .known) (w .passed)) few ei el ec;
+            };
       }
 
-  pub next-less : (place start len kind : ℕ) (c : Cursor) → read.Record place start len kind c ≡ readAt file at → length file - c .at < length file - at
-  next-less place start len kind c e =
-      let rr = read-record file at place start len kind c (sym e) in
-      let a = rr .inside in
-      let b = rr .next-is in
-      let d = rr .next-fits in
-      omega arith
+-- What a pass carries from turn to turn, beside the file: the place and the last kind, and the tables, as long as they were at the start.
+pub record Carried (file index₀ lens₀ counts₀ : List ℕ) : Type 0 where
+  pub at : ℕ
+  pub last : ℕ
+  pub at-fits : at < 2 ^ 64
+  pub last-fits : last < 2 ^ 64
+  pub index : List ℕ
+  pub lens : List ℕ
+  pub counts : List ℕ
+  pub index-same : length index ≡ length index₀
+  pub lens-same : length lens ≡ length lens₀
+  pub counts-same : length counts ≡ length counts₀
+  pub walking : length file ≤ 60000 → Walking file index₀ lens₀ counts₀ 0 0 → Walking file index lens counts at last
+
+-- the bytes that are left fall from turn to turn
+abbrev pub Below : (file index₀ lens₀ counts₀ : List ℕ) → Carried file index₀ lens₀ counts₀ → Carried file index₀ lens₀ counts₀ → Type 0
+Below file index₀ lens₀ counts₀ c d = length file - c .at < length file - d .at
+
+pub below-ends : (file index₀ lens₀ counts₀ : List ℕ) → WellFounded (Below file index₀ lens₀ counts₀)
+below-ends file index₀ lens₀ counts₀ = InvImage·wf (λ (c : Carried file index₀ lens₀ counts₀). length file - c .at) (Nat·lt-wfRel .wf)
+
+abbrev pub carried-first : (file index₀ lens₀ counts₀ : List ℕ) → Carried file index₀ lens₀ counts₀
+carried-first file index₀ lens₀ counts₀ = record {
+  at = 0;
+  last = 0;
+  at-fits = omega arith;
+  last-fits = omega arith;
+  index = index₀;
+  lens = lens₀;
+  counts = counts₀;
+  index-same = refl;
+  lens-same = refl;
+  counts-same = refl;
+  walking = λ few w. w;
+}
+
+or-ends : (y : Bool) (a b : Type 0) → T y → endsOr y a b → a
+or-ends true a b h x = x
+or-ends false a b h x = absurd h
+
+or-goes-on : (y : Bool) (a b : Type 0) → T (not y) → endsOr y a b → b
+or-goes-on true a b h x = absurd h
+or-goes-on false a b h x = x
+
+module _ {file index₀ lens₀ counts₀ : List ℕ} (c : Carried file index₀ lens₀ counts₀) (g : Rattle.reading.specs.declared.Read.Read) (eg : g ≡ readAt file (c .at)) {p : List ℕ} (ep : p ≡ payloadOf file g) {index′ lens′ counts′ : List ℕ} {t : Turned}
+    (h : TurnsTo file g p (c .last) (c .index) (c .lens) (c .counts) index′ lens′ counts′ t) where
+  pub pass-ends : T (t .over) → PassesTo file index₀ lens₀ counts₀ index′ lens′ counts′ t
+  pass-ends y = λ few w. or-ends (t .over) _ _ y (h .comes-to (c .at) eg ep) few (c .walking few w)
+
+  pub still-on : T (not (t .over)) → GoesOn file (c .index) (c .lens) (c .counts) index′ lens′ counts′ (c .at) (c .last) (t .next) (t .kind)
+  still-on y = or-goes-on (t .over) _ _ y (h .comes-to (c .at) eg ep)
+
+  abbrev pub carried-on : T (not (t .over)) → t .next < 2 ^ 64 → t .kind < 2 ^ 64 → length index′ ≡ length (c .index) → length lens′ ≡ length (c .lens) → length counts′ ≡ length (c .counts) → Carried file index₀ lens₀ counts₀
+  carried-on y fn fk ei el ec = record {
+    at = t .next;
+    last = t .kind;
+    at-fits = fn;
+    last-fits = fk;
+    index = index′;
+    lens = lens′;
+    counts = counts′;
+    index-same = ei ∙ c .index-same;
+    lens-same = el ∙ c .lens-same;
+    counts-same = ec ∙ c .counts-same;
+    walking = λ few w. still-on y .walking few (c .walking few w);
+  }
+
+  pub carried-less : T (not (t .over)) → length file - t .next < length file - c .at
+  carried-less y = still-on y .less
+
+-- The walk, from what its functions promise.
+pub whole-walk : (file index lens lens′ counts counts′ index″ lens″ counts″ : List ℕ) (t : Turned) → counts′ ≡ replicate (length counts) 0 → lens′ ≡ stored lens 0 0
+    → PassesTo file index lens′ counts′ index″ lens″ counts″ t → WalksTo file index lens counts index″ lens″ counts″ (t .walked)
+whole-walk file index lens lens′ counts counts′ index″ lens″ counts″ t ec el passes = λ hi hl hc few. passes few (starts file index lens lens′ counts counts′ hi hl hc ec el)

@@ -2,17 +2,24 @@
 use enter::enter;
 use enter::store;
 use kinds::test;
-use reading::Cursor;
+use reader::Reader;
 use reading::Read;
-use reading::payload;
 ghost use mathlib.Core.Path.{_≡_};
 ghost use lib.ListN.{length, replicate};
-ghost use Rattle.walk.specs.Walking.{endOf, WalksTo};
+ghost use Rattle.walk.specs.Walking.{endOf, ended, TurnsTo, PassesTo, WalksTo};
 
 // How a walk ends: with the first refusal by 2 to 7, or with every record read.
 pub enum Walked {
     Refused { number: usize, place: usize },
     Read,
+}
+
+// What a turn of the walk comes to: the walk is over, or it goes on at next, behind a record of a kind.
+pub struct Turned {
+    pub over: bool,
+    pub walked: Walked,
+    pub next: usize,
+    pub kind: usize,
 }
 
 // Sets every entry of a table to 0.
@@ -43,6 +50,73 @@ fn stopped(got: Read) -> Walked
     }
 }
 
+// The walk is over.
+fn over(walked: Walked) -> Turned
+    ensures { λ r. ⌜ r ≡ ended walked ⌝ }
+{
+    Turned {
+        over: true,
+        walked,
+        next: 0,
+        kind: 0,
+    }
+}
+
+// One turn, on what was read behind a record of the kind last: a record with the payload p is tested and entered in the tables.
+fn turn<'a>(
+    file: &'a [u8],
+    got: Read,
+    p: &'a [u8],
+    last: usize,
+    index: &mut [u16],
+    lens: &mut [u16],
+    counts: &mut [u16],
+) -> Turned
+    ensures { λ r. ⌜ TurnsTo (now (file .entry)) got (now (p .entry)) last (now (index .entry)) (now (lens .entry)) (now (counts .entry)) (now (index .exit)) (now (lens .exit)) (now (counts .exit)) r ⌝ }
+{
+    let Read::Record {
+        place,
+        start,
+        len: _,
+        kind,
+        next,
+    } = got
+    else {
+        return over(stopped(got));
+    };
+    if kind < last {
+        return over(Walked::Refused { number: 3, place });
+    }
+    let number = test(file, index, lens, counts, kind, p);
+    if number != 0 {
+        return over(Walked::Refused { number, place });
+    }
+    enter(index, lens, counts, kind, start, p);
+    Turned {
+        over: false,
+        walked: Walked::Read,
+        next: next.at,
+        kind,
+    }
+}
+
+// One pass over a file: a reader carries it from its start on, and each turn hands it on to the next.
+fn pass(file: &[u8], index: &mut [u16], lens: &mut [u16], counts: &mut [u16]) -> Turned
+    ensures { λ r. ⌜ PassesTo (now (file .entry)) (now (index .entry)) (now (lens .entry)) (now (counts .entry)) (now (index .exit)) (now (lens .exit)) (now (counts .exit)) r ⌝ }
+{
+    let mut r = Reader::start(file);
+    let mut last: usize = 0;
+    loop {
+        let got = r.next();
+        let t = turn(r.file, got, r.part(got), last, index, lens, counts);
+        if t.over {
+            return t;
+        }
+        r = r.moved(t.next);
+        last = t.kind;
+    }
+}
+
 // Walks over the records of a file of at most 60,000 bytes: enters each in the index, the argument counts of the sorts and
 // the counts of the kinds, or gives the first refusal by 2 to 7. What the tables held before does not matter.
 pub fn walk(file: &[u8], index: &mut [u16], lens: &mut [u16], counts: &mut [u16]) -> Walked
@@ -50,30 +124,6 @@ pub fn walk(file: &[u8], index: &mut [u16], lens: &mut [u16], counts: &mut [u16]
 {
     clear(counts);
     store(lens, 0, 0);
-    let mut c = Cursor { at: 0 };
-    let mut last: usize = 0;
-    loop {
-        let got = c.next(file);
-        let Read::Record {
-            place,
-            start,
-            len,
-            kind,
-            next,
-        } = got
-        else {
-            return stopped(got);
-        };
-        if kind < last {
-            return Walked::Refused { number: 3, place };
-        }
-        let p = payload(file, start, len);
-        let number = test(file, index, lens, counts, kind, p);
-        if number != 0 {
-            return Walked::Refused { number, place };
-        }
-        enter(index, lens, counts, kind, start, p);
-        last = kind;
-        c = next;
-    }
+    let t = pass(file, index, lens, counts);
+    t.walked
 }
