@@ -1,7 +1,7 @@
 -- Numerals and lines, by computation: the lines are those of section "Verdicts" of the scope.
 use Prim.Native.Nat.{ℕ}
 use mathlib.Core.Path.{_≡_, refl}
-use mathlib.Core.List.{List, [], _∷_, _++_, map}
+use mathlib.Core.List.{List, [], _∷_, map}
 use Rattle.plan_check.specs.Answers.{Answer, proved, unproved, refuted, refused}
 use Rattle.verdict_lines.specs.Lines.{numeralWithin, numeral, numbered, lineOf}
 

@@ -1,11 +1,10 @@
 -- Numerals as the library io spells them: as many digits as the number has, the last of them behind those of a tenth.
 use Prim.Native.Nat.{ℕ, zero, suc, _+_, _-_, _/_, _%_, _^_, _<_, _≤_}
-use mathlib.Core.Path.{_≡_, refl, sym, ap, subst, _∙_}
+use mathlib.Core.Path.{_≡_, sym, ap, subst, _∙_}
 use mathlib.Core.List.{List, [], _∷_, _++_}
 use native.Mathlib.Decide.{decLt}
 use native.Mathlib.Omega.{arith}
 use borrow.Author.Tests.{lt-ltb, le-ltb}
-use lib.Dec.{ltb}
 use lib.ListN.{length, length-append}
 use Rattle.io.specs.Digits.{digits, glyph, Fewest}
 use Rattle.verdict_lines.specs.Lines.{digit, numeralWithin, numeral}

@@ -1,6 +1,6 @@
 -- A text put into a line byte by byte, texts put one behind another, and the lengths of the lines. A text that is put
 -- behind another one is put as their concatenation, so that a line is put by putting its words and numbers in turn.
-use Prim.Native.Nat.{ℕ, zero, suc, _+_, _^_, _<_, _≤_}
+use Prim.Native.Nat.{ℕ, _+_, _^_, _<_, _≤_}
 use mathlib.Core.Path.{_≡_, refl, sym, ap, subst, _∙_}
 use mathlib.Core.List.{List, [], _∷_, _++_, append-assoc, append-nil}
 use native.Mathlib.Omega.{arith}

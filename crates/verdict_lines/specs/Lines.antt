@@ -56,7 +56,7 @@ atWord =
 abbrev pub digit : ℕ → ℕ
 digit d = 0x30 + d
 
--- a number below 10 ^ fuel in decimal, the last digit behind those of a tenth of it
+-- a number below 10 ^ fuel in decimal: one digit, or the last digit behind those of a tenth of it
 unfoldable pub numeralWithin : ℕ → ℕ → List ℕ
 numeralWithin zero n = []
 numeralWithin (suc fuel) n =
