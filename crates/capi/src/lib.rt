@@ -54,7 +54,7 @@ pub extern "C" fn plan_judge_with(
 ) -> u64
     ensures { λ r. ⌜ Judges (now (file .entry)) (now (flags .entry)) (now (flags .exit)) (now (out .exit)) r ⌝ }
 {
-    let words = words_of(judge_with(file, flags, index, ends, fit, memo));
-    *out = words;
-    words[0]
+    let numbers = words_of(judge_with(file, flags, index, ends, fit, memo));
+    *out = numbers;
+    numbers[0]
 }
