@@ -316,7 +316,7 @@ fn kept_bindings(count: usize) -> CaseFile {
         }
     }
     file.types.truncate(64);
-    file.bindings.retain(|&(rule, _)| usize::from(rule) < rules);
+    file.bindings.retain(|&(rule, ty)| usize::from(rule) < rules && ty < 20);
     file
 }
 

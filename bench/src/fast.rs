@@ -824,6 +824,7 @@ impl Judge {
         let mut top = 1;
         let mut root = 0;
         let mut state = 0;
+        let mut values = [0; 256];
         self.cells[0][0] = Cell { tag: NONTERMINAL, count: 0, number: 0, nodes: 1, arguments: [0; 8] };
         for (place, &letter) in letters.iter().enumerate() {
             let front = self.cells[half][root];
@@ -835,7 +836,7 @@ impl Judge {
                     (root, top) = self.move_term(half, root);
                     half = 1 - half;
                 }
-                (root, top) = self.unfold(half, root, top);
+                (root, top) = self.unfold(half, root, top, &mut values);
                 if self.cells[half][root].nodes > MOST_TERM_NODES {
                     return refused(14, place);
                 }
@@ -857,13 +858,13 @@ impl Judge {
     }
 
     /// The body of the nonterminal in front, its arguments put for the parameters: its cell, and the first free one.
-    fn unfold(&mut self, half: usize, root: usize, mut top: usize) -> (usize, usize) {
+    /// `values` is room for the cells of its nodes.
+    fn unfold(&mut self, half: usize, root: usize, mut top: usize, values: &mut [u16; 256]) -> (usize, usize) {
         let cells = &mut self.cells[half];
         let front = cells[root];
         let rule = usize::from(front.number);
         let first = usize::from(self.first_nodes[rule]);
         let nodes = &self.nodes[first..usize::from(self.first_nodes[rule + 1])];
-        let mut values = [0u16; 256];
         for (i, node) in nodes.iter().enumerate().rev() {
             let mut cell = Cell { tag: node.tag, count: 0, number: node.number, nodes: 1, arguments: [0; 8] };
             if node.tag > NONTERMINAL {

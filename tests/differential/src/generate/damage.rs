@@ -3,11 +3,16 @@
 use crate::case_file::{bytes_of, CaseFile, Node, Record, TypeRecord, CONSTRUCTOR, NONTERMINAL};
 use crate::random::Random;
 
+/// The kind of the states record, of which a file has one.
+const STATES: u16 = 5;
+
 /// Puts a fault into a file.
 pub fn damage(random: &mut Random, mut file: CaseFile) -> Vec<u8> {
     match random.below(100) {
         0..=29 => {
-            spoil_entry(random, &mut file);
+            for _ in 0..random.between(1, 3) {
+                spoil_entry(random, &mut file);
+            }
             file.bytes()
         }
         30..=59 => {
@@ -18,8 +23,17 @@ pub fn damage(random: &mut Random, mut file: CaseFile) -> Vec<u8> {
             bytes_of(&records)
         }
         60..=68 => {
-            pass_limit(random, &mut file);
-            file.bytes()
+            let kind = pass_limit(random, &mut file);
+            let mut records = file.records();
+            if kind == STATES {
+                records.extend(records.iter().find(|record| record.kind == STATES).cloned());
+                records.sort_by_key(|record| record.kind);
+            }
+            // A record at fault by two numbers shows which is tested first.
+            for _ in 0..random.below(3) {
+                spoil_last(random, &mut records, kind);
+            }
+            bytes_of(&records)
         }
         69 => pass_length(random, &file.bytes()),
         _ => {
@@ -251,30 +265,55 @@ fn mix_evidence(random: &mut Random, file: &mut CaseFile) {
     }
 }
 
-/// One entry, one node or one letter more than a limit allows, or exactly as many.
-fn pass_limit(random: &mut Random, file: &mut CaseFile) {
+/// Changes the last record of a kind: its length, a byte, or a copy of it behind it.
+fn spoil_last(random: &mut Random, records: &mut Vec<Record>, kind: u16) {
+    let Some(last) = records.iter().rposition(|record| record.kind == kind) else {
+        return;
+    };
+    let payload = &mut records[last].payload;
+    match random.below(4) {
+        0 => {
+            let length = (payload.len() + random.below(5)).saturating_sub(2);
+            payload.resize(length, 0);
+        }
+        1 | 2 => {
+            let at = random.below(payload.len());
+            if let Some(byte) = payload.get_mut(at) {
+                *byte = if random.percent(50) { 255 } else { other_byte(random, *byte) };
+            }
+        }
+        _ => records.insert(last, records[last].clone()),
+    }
+}
+
+/// One entry, one node, one member or one letter more than a limit allows, or exactly as many. Gives the kind.
+fn pass_limit(random: &mut Random, file: &mut CaseFile) -> u16 {
     let more = usize::from(random.percent(70));
-    match random.below(12) {
+    let limit = random.below(14);
+    match limit {
         0 => file.constructors.resize(32 + more, 0),
         1 => long_sort(file, more),
         2 => many_sorts(file, more),
         3 => file.nonterminals.resize(256 + more, 0),
         4 | 5 => {
-            let rule = random.below(file.rules.len());
+            let rule = file.rules.len().saturating_sub(1);
             if let Some(body) = file.rules.get_mut(rule) {
                 body.resize(256 + more, Node { tag: NONTERMINAL, number: 0, count: 0 });
             }
         }
-        6 => file.states = if more == 1 { 17 } else { 16 },
-        7 => many_transitions(file, more),
-        8 => many_types(file, more),
-        9 => many_bindings(file, more),
+        6 => file.rules.push(vec![Node { tag: NONTERMINAL, number: 0, count: 0 }; 256 + more]),
+        7 => file.states = if more == 1 { 16 } else { 17 },
+        8 => many_transitions(file, more),
+        9 => many_types(file, more),
+        10 => many_members(file, more),
+        11 => many_bindings(file, more),
         _ => {
             file.types.clear();
             file.bindings.clear();
             file.path = Some(vec![0; 4_096 + more]);
         }
     }
+    [2, 1, 1, 3, 4, 4, 4, STATES, 6, 7, 7, 8, 9, 9][limit]
 }
 
 /// A sort of eight arguments, or of nine.
@@ -315,6 +354,12 @@ fn many_transitions(file: &mut CaseFile, more: usize) {
     if more == 1 {
         file.transitions.push([0; 6]);
     }
+}
+
+/// A type of 16 members, or of 17, of the types listed before it and perhaps of some that are not.
+fn many_members(file: &mut CaseFile, more: usize) {
+    file.path = None;
+    file.types.push(TypeRecord::Arrow { result: 0, members: (0..16 + more as u16).collect() });
 }
 
 fn many_types(file: &mut CaseFile, more: usize) {

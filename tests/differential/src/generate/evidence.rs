@@ -254,7 +254,20 @@ impl<'a> Search<'a> {
         self.found()
     }
 
-    /// Bends some types and drops a binding, now and then.
+    /// A type of any sort, or an arrow with a member of any sort: mostly it does not fit where it stood.
+    fn misfit(&mut self, ty: usize) -> usize {
+        let sort = self.random.below(self.plan.sorts.count());
+        let other = self.draw_type(sort);
+        match self.types.shapes[ty].clone() {
+            Shape::Arrow(mut members, result) if self.random.percent(70) && members.len() < MOST_MEMBERS => {
+                members.push(other);
+                self.types.arrow(members, result)
+            }
+            _ => other,
+        }
+    }
+
+    /// Bends some types, drops a binding or binds a type that does not fit, now and then.
     fn spoil(&mut self, bindings: &mut Vec<(usize, usize)>) {
         let bent = if self.random.percent(35) { self.random.between(1, 3) } else { 0 };
         for _ in 0..bent {
@@ -263,9 +276,11 @@ impl<'a> Search<'a> {
                 bindings[at].1 = self.bent(ty, self.plan.nonterminals[nonterminal]);
             }
         }
+        let at = self.random.below(bindings.len());
         if self.random.percent(25) && !bindings.is_empty() {
-            let at = self.random.below(bindings.len());
             bindings.swap_remove(at);
+        } else if self.random.percent(3) && !bindings.is_empty() {
+            bindings[at].1 = self.misfit(bindings[at].1);
         }
     }
 
