@@ -14,12 +14,31 @@ mod archive {
             flags_length: usize,
             out: *mut [u64; 4],
         ) -> u64;
+        fn plan_judge_with(
+            file: *const u8,
+            file_length: usize,
+            flags: *mut u8,
+            flags_length: usize,
+            out: *mut [u64; 4],
+            index: *mut [u16; 3_170],
+            ends: *mut [u16; 15_000],
+            fit: *mut [u8; 66_560],
+            memo: *mut [u8; 266_240],
+        ) -> u64;
     }
 
     pub fn judge(file: &[u8], flags: &mut [u8], out: &mut [u64; 4]) -> u64 {
         // SAFETY: both slices are lent for the call with their own lengths, `flags` and `out` to no one else, and the
         // library keeps none of them.
         unsafe { plan_judge(file.as_ptr(), file.len(), flags.as_mut_ptr(), flags.len(), out) }
+    }
+
+    pub fn judge_with(file: &[u8], flags: &mut [u8], out: &mut [u64; 4], memory: &mut super::Memory) -> u64 {
+        let super::Memory { index, ends, fit, memo } = memory;
+        // SAFETY: as above, and the four arrays are lent to no one else.
+        unsafe {
+            plan_judge_with(file.as_ptr(), file.len(), flags.as_mut_ptr(), flags.len(), out, index, ends, fit, memo)
+        }
     }
 }
 
@@ -29,6 +48,24 @@ mod archive {
     pub fn judge(file: &[u8], flags: &mut [u8], out: &mut [u64; 4]) -> u64 {
         *out = crate::reference::judge(file, flags).numbers();
         out[0]
+    }
+
+    pub fn judge_with(file: &[u8], flags: &mut [u8], out: &mut [u64; 4], _: &mut super::Memory) -> u64 {
+        judge(file, flags, out)
+    }
+}
+
+/// Working memory that is lent to the library; its contents do not matter.
+pub struct Memory {
+    index: [u16; 3_170],
+    ends: [u16; 15_000],
+    fit: [u8; 66_560],
+    memo: [u8; 266_240],
+}
+
+impl Memory {
+    pub fn new() -> Box<Memory> {
+        Box::new(Memory { index: [0; 3_170], ends: [0; 15_000], fit: [0; 66_560], memo: [0; 266_240] })
     }
 }
 
@@ -40,10 +77,26 @@ pub fn plan_judge(file: &[u8], flags: &mut [u8], out: &mut [u64; 4]) -> u64 {
     archive::judge(file, flags, out)
 }
 
+/// The same with working memory that is lent.
+pub fn plan_judge_with(file: &[u8], flags: &mut [u8], out: &mut [u64; 4], memory: &mut Memory) -> u64 {
+    archive::judge_with(file, flags, out, memory)
+}
+
 /// The library's verdict, or what it said that is none.
 pub fn judge(file: &[u8], flags: &mut [u8]) -> Result<Verdict, String> {
     let mut out = [u64::MAX; 4];
     let answer = plan_judge(file, flags, &mut out);
+    verdict_of(answer, out)
+}
+
+/// The same with working memory that is lent.
+pub fn judge_with(file: &[u8], flags: &mut [u8], memory: &mut Memory) -> Result<Verdict, String> {
+    let mut out = [u64::MAX; 4];
+    let answer = plan_judge_with(file, flags, &mut out, memory);
+    verdict_of(answer, out)
+}
+
+fn verdict_of(answer: u64, out: [u64; 4]) -> Result<Verdict, String> {
     match Verdict::from_numbers(out) {
         Some(verdict) if answer == out[0] => Ok(verdict),
         _ => Err(format!("no verdict: {answer} with {out:?}")),
