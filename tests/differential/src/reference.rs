@@ -1,7 +1,8 @@
-//! The rules of the scope, written from its text alone: nothing of the library's tables, orders and shortcuts is used.
+//! The rules of the scope, written from its text and the readings of it in docs/DECISIONS.md: nothing of the library's
+//! tables, orders and shortcuts is used.
 //!
-//! Terms are trees on the heap. Sorts and types are shapes, and equal shapes are one. What a check finds is kept in a hash
-//! map. Nothing here is made to be fast.
+//! Terms are trees on the heap. Sorts and types are shapes, and equal shapes are one. What a check finds is kept in a
+//! hash map. Nothing here is made to be fast.
 
 use crate::verdict::Verdict;
 use std::collections::{BTreeMap, BTreeSet, HashMap, HashSet};
