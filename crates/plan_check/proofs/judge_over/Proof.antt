@@ -1,4 +1,4 @@
--- `judge_with` meets the three demands: it is shown to meet the first, from which the others follow.
+-- `judge_over` meets the three demands: it is shown to meet the first, from which the others follow.
 use Prim.Native.Nat.{ℕ}
 use native.Mathlib.Omega.{arith}
 use mathlib.Core.Path.{_≡_, refl, sym}
@@ -6,10 +6,10 @@ use lib.ListN.{length}
 use Rattle.plan_check.proofs.Demands.{demand2, demand3}
 use Rattle.plan_check.proofs.Judged.{judged-refused, judged-bindings, judged-path}
 use borrow.Author.Needs.{needs}
-use Rattle.plan_check.proofs.judge_with.Statement.{statement}
-use Rattle.plan_check.proofs.judge_with.Tie as tie
-use Rattle.plan_check.proofs.judge_with.Reads as reads
-use Rattle.plan_check.proofs.judge_with.Lts as lts
+use Rattle.plan_check.proofs.judge_over.Statement.{statement}
+use Rattle.plan_check.proofs.judge_over.Tie as tie
+use Rattle.plan_check.proofs.judge_over.Reads as reads
+use Rattle.plan_check.proofs.judge_over.Lts as lts
 use Rattle.binding_cases.proofs.judge_bindings.Reads as judge-bindings-reads
 use Rattle.intake.proofs.examine.Reads as examine-reads
 use Rattle.plan_check.proofs.of_bindings.Reads as of-bindings-reads
@@ -84,8 +84,8 @@ returns-2 c = let i : _≡_ {A = ℕ} 3170 (length (c .before .before .before .b
 returns-3 : tie.Need-returns-3
 returns-3 c = let i : _≡_ {A = ℕ} 3170 (length (c .before .before .before .before .before .before .before .before .before .before .before .before .before .before .before .before .before .before .args .index .now)) = search needs in let e : _≡_ {A = ℕ} 15000 (length (c .before .before .before .before .before .before .before .before .before .before .before .before .before .before .before .before .before .before .args .ends .now)) = search needs in let d = judged-path _ _ (c .before .before .before .before .before .before .before .before .before .examine .ensures (sym i) refl refl (omega arith)) (c .before .before .before .before .before .enum-told2 .given .1) _ (c .before .replay-path .ensures) _ (c .of-path .ensures) in (d, (demand2 _ _ _ _ d, demand3 _ _ _ _ d))
 
-pub judge-with-spec : {M : Type 1} → statement M
-judge-with-spec =
+pub judge-over-spec : {M : Type 1} → statement M
+judge-over-spec =
     tie.close
     (tie.spec
     slice-aggregate-examine
