@@ -28,7 +28,7 @@ enum plan_verdict {
  *
  * The answer is proved for all bytes and all lengths, if the three areas do not overlap, file can be read, and flags and
  * out can be written; a length of 0 still needs a pointer that is not null. Nothing is kept after the call, and no
- * memory is taken but about 900 KB of the caller's stack. */
+ * memory is taken but less than 1 MB of the caller's stack. */
 uint64_t plan_judge(const uint8_t *file, size_t file_length, uint8_t *flags, size_t flags_length, uint64_t out[4]);
 
 /* Working memory for plan_judge_with: room for every file. Its contents do not matter, before or after. */
