@@ -1,4 +1,5 @@
 -- The start binding among those kept: the bindings of nonterminal 0 stand first, and a goal says which types are the state 0.
+use Rattle.candidates.specs.Candidates.{noBinding}
 use Prim.Native.Nat.{ℕ, zero, suc, _+_, _<_, _≤_}
 use native.Mathlib.Omega.{arith}
 use native.Mathlib.Nat.{add-zero, le-of-suc-le-suc}
@@ -29,7 +30,6 @@ use Rattle.groups.specs.Groups.{nonterminalOf, Grouped}
 use Rattle.goals.specs.Goals.{of-state, Typed, IsGoal}
 use Rattle.goals.proofs.Goals.{goals-same}
 use Rattle.misfits.proofs.Offers.{binding-numbers}
-use Rattle.binding_tests.specs.BindingTests.{noBinding}
 use Rattle.rounds.proofs.Turning.{bindings-many}
 use Rattle.binding_cases.specs.Judging.{startsAt, StartsAt, FindsStart}
 

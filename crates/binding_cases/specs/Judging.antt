@@ -1,4 +1,5 @@
 -- What comes of a binding case. Sections "Types and shrinking" and "Verdicts" of the scope.
+use Rattle.candidates.specs.Candidates.{noBinding}
 use Prim.Native.Nat.{ℕ, _<_, _≤_}
 use mathlib.Core.Path.{_≡_}
 use mathlib.Core.Bool.{Bool, _&&_}
@@ -19,7 +20,6 @@ use Rattle.kinds.specs.Known.{Known}
 use Rattle.plan_tests.specs.PlanTests.{EndsAre}
 use Rattle.groups.specs.Groups.{Grouped}
 use Rattle.goals.specs.Goals.{Typed}
-use Rattle.binding_tests.specs.BindingTests.{noBinding}
 use Rattle.shrink.specs.BindingCases.{Shrunk, shrunk}
 
 -- binding b is kept by its flag and has the state 0 for its type

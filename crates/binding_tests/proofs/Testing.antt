@@ -1,19 +1,19 @@
 -- The test of a binding is the check of its nonterminal's body, at the final state of its type.
 use Prim.Native.Nat.{ℕ, zero, suc, _+_, _-_, _*_, _/_, _<_, _≤_}
 use native.Mathlib.Omega.{arith}
-use mathlib.Core.Path.{_≡_, refl, sym, ap, ap₂, subst, _∙_}
-use mathlib.Core.Bool.{Bool, false, _||_}
-use mathlib.Core.List.{List, [], _∷_, _++_, map, append-nil}
+use mathlib.Core.Path.{_≡_, sym, ap, ap₂, subst, _∙_}
+use mathlib.Core.Bool.{Bool, false}
+use mathlib.Core.List.{List, [], _∷_, map, append-nil}
 use lib.Dec.{leb}
 use lib.ListN.{length, getD, take, drop, length-map, length-drop, drop-of-length-le}
 use lib.Seq.{getD-drop, take-all}
 use Rattle.scheme.specs.Lists.{any}
 use Rattle.scheme.specs.Sorts.{o, arguments}
-use Rattle.scheme.specs.Terms.{Head, con, nt, par, Term, node, []ᵗ, nodes}
+use Rattle.scheme.specs.Terms.{con, nt, par, node, []ᵗ, nodes}
 use Rattle.scheme.specs.Prefix.{terms, flat}
 use Rattle.scheme.specs.Reduction.{body}
 use Rattle.scheme.specs.Types.{Ty, state, same, domains, final}
-use Rattle.scheme.specs.Typing.{Binding, headTypes, has, holds}
+use Rattle.scheme.specs.Typing.{headTypes, has, holds}
 use Rattle.scheme.specs.Flags.{chosen}
 use Rattle.scheme.specs.Acceptance.{holdsExactly}
 use Rattle.scheme.proofs.Lists.{or-false, any-at, getD-map-in}
@@ -28,19 +28,18 @@ use Rattle.casefile.proofs.Cells.{cellAt, cells-length, cells-at, cell-range}
 use Rattle.entries.specs.Index.{Indexed}
 use Rattle.lookup.specs.Lookup.{entryOf}
 use Rattle.lookup.proofs.Found.{entry-there}
-use Rattle.kinds.specs.Known.{room}
-use Rattle.rule_bodies.specs.RuleBodies.{ruleOf, firstNode}
+use Rattle.rule_bodies.specs.RuleBodies.{ruleOf}
 use Rattle.plan_tests.proofs.Contents.{payload-bytes}
 use Rattle.moves.proofs.Targets.{arity-small}
 use Rattle.goals.specs.Goals.{Goal, Typed, IsGoal}
 use Rattle.finals.specs.Finals.{IsFinal}
-use Rattle.serving.specs.Serving.{Given}
 use Rattle.memo.specs.Memo.{Under}
 use Rattle.memo.proofs.Remembering.{faithful-none}
 use Rattle.candidates.proofs.Spanning.{binding-made}
 use Rattle.candidates.proofs.Choosing.{fewer, binding-there}
 use Rattle.term_check.specs.Checking.{Body, Setting, Right, ChecksTerm}
-use Rattle.binding_tests.specs.BindingTests.{noBinding, Ready, entriesFor, TestsBinding}
+use Rattle.candidates.specs.Candidates.{noBinding}
+use Rattle.binding_tests.specs.BindingTests.{Ready, entriesFor, TestsBinding}
 
 -- a nonterminal in a body is one of the file's
 head-nonterminal : (c : Cell) (g x y z : ℕ) → headOf c ≡ nt g → c .number < getD (x ∷ y ∷ []) (c .tag) z → g < y

@@ -4,8 +4,6 @@ use mathlib.Core.Path.{_≡_}
 use mathlib.Core.Bool.{Bool}
 use mathlib.Core.List.{List}
 use lib.ListN.{length, getD}
-use Rattle.scheme.specs.Types.{state}
-use Rattle.scheme.specs.Typing.{Binding}
 use Rattle.scheme.specs.Flags.{chosen}
 use Rattle.scheme.specs.Acceptance.{holdsExactly}
 use Rattle.records.specs.Records.{Record}
@@ -20,10 +18,7 @@ use Rattle.groups.specs.Groups.{Grouped}
 use Rattle.moves.specs.Moves.{TableFor}
 use Rattle.steps.specs.Steps.{Whole}
 use Rattle.memo.specs.Memo.{Under}
-
--- what stands for a binding where there is none
-abbrev pub noBinding : Binding
-noBinding = record { nonterminal = 0; type = state 0 }
+use Rattle.candidates.specs.Candidates.{noBinding}
 
 -- the tables of a file that is not refused: its index and counts, the groups of its bindings, where the nodes of each
 -- rule begin, the ends of the subterms, the transitions

@@ -30,6 +30,7 @@ unfoldable pub anyIn : ℕ → ℕ → (ℕ → Bool) → Bool
 anyIn zero j p = false
 anyIn (suc n) j p = p j || anyIn n (suc j) p
 
+-- what stands for a binding where there is none
 abbrev pub noBinding : Binding
 noBinding = record { nonterminal = 0; type = state 0 }
 

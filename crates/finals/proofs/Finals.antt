@@ -1,13 +1,13 @@
 -- A type has no more arrows than there are types up to it, since its result is an earlier one.
-use Prim.Native.Nat.{ℕ, zero, suc, _+_, _-_, _<_, _≤_}
+use Prim.Native.Nat.{ℕ, zero, suc, _-_, _<_, _≤_}
 use native.Mathlib.Omega.{arith}
 use mathlib.Core.Path.{_≡_, refl, sym, ap, subst, _∙_}
 use mathlib.Core.List.{List, []}
-use lib.ListN.{length, getD}
-use Rattle.scheme.specs.Types.{Ty, state, arrow, Tys, final}
+use lib.ListN.{getD}
+use Rattle.scheme.specs.Types.{Ty, state, arrow, final}
 use Rattle.records.specs.Records.{Record}
 use Rattle.casefile.specs.Kinds.{Kind, payloads}
-use Rattle.casefile.specs.Tables.{typesOf, membersAt}
+use Rattle.casefile.specs.Tables.{typesOf}
 use Rattle.casefile.proofs.TypeNumbers.{Shape, a-state, an-arrow}
 use Rattle.casefile.proofs.TypeTable.{type-shape}
 use Rattle.goals.specs.Goals.{Goal, of-state, of-arrow, Typed, IsResult}

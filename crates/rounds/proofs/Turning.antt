@@ -16,7 +16,8 @@ use Rattle.casefile.proofs.TypeTable.{count-payloads}
 use Rattle.entries.specs.Tests.{IsPlace}
 use Rattle.memo.specs.Memo.{nextStamp, readied, Under}
 use Rattle.memo.proofs.Remembering.{stamp-range, readied-under}
-use Rattle.binding_tests.specs.BindingTests.{noBinding, Ready, entriesFor, TestsBinding}
+use Rattle.candidates.specs.Candidates.{noBinding}
+use Rattle.binding_tests.specs.BindingTests.{Ready, entriesFor, TestsBinding}
 use Rattle.rounds.specs.Shrinking.{testOf, Numbered, Retests, Turns, Shrinks}
 use Rattle.rounds.proofs.Flagged.{bit-small, round-length, round-at}
 use Rattle.rounds.proofs.Counted.{Sofar, sofar-none, sofar-more, sofar-flags, sofar-kept, Left, left-start, left-turn, left-rounds, left-flags, left-kept}

@@ -13,7 +13,8 @@ use Rattle.records.specs.Records.{Record}
 use Rattle.casefile.specs.Kinds.{Kind, count}
 use Rattle.casefile.specs.Tables.{planOf, automatonOf, bindingsOf}
 use Rattle.memo.specs.Memo.{Under}
-use Rattle.binding_tests.specs.BindingTests.{noBinding, Ready, entriesFor}
+use Rattle.candidates.specs.Candidates.{noBinding}
+use Rattle.binding_tests.specs.BindingTests.{Ready, entriesFor}
 
 -- the test of a binding against a set, for the plan and the automaton of a file
 abbrev pub testOf : List Record → List Binding → Binding → Bool

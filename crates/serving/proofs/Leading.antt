@@ -4,20 +4,29 @@ use Prim.Native.Nat.{ℕ, zero, suc, _+_, _-_, _<_, _≤_}
 use native.Mathlib.Omega.{arith}
 use native.Mathlib.Nat.{le-of-suc-le-suc, not-suc-le-zero}
 use native.Mathlib.Decide.{ℕ-discrete, decLe}
-use mathlib.Core.Path.{_≡_, refl, sym, ap, ap₂, subst, _∙_}
+use mathlib.Core.Path.{_≡_, refl, sym, ap, ap₂, _∙_}
 use mathlib.Core.Bool.{Bool, true, false, _&&_, _||_}
 use mathlib.Core.List.{List, [], _∷_, _++_}
 use mathlib.Core.Option.{Option, none, some}
 use lib.Dec.{T}
-use lib.ListN.{length, getD, take, drop}
+use lib.ListN.{length, drop, length-drop}
 use Rattle.scheme.specs.Lists.{found, any, all}
-use Rattle.scheme.specs.Terms.{Head, Term, Terms, []ᵗ, _∷ᵗ_, countᵗ}
+use Rattle.scheme.specs.Terms.{Head, Terms, []ᵗ, _∷ᵗ_, countᵗ}
 use Rattle.scheme.specs.Types.{Ty, state, arrow, members, same, takes}
 use Rattle.scheme.specs.Typing.{has, leads, typesAt, conTypes}
 use Rattle.scheme.proofs.Lists.{true→T, and-no}
 use Rattle.scheme.proofs.Exact.{same→≡}
 use Rattle.arrows.specs.Arrows.{off}
 use Rattle.serving.specs.Leading.{argsHave}
+
+-- tests joined
+pub and-yes : (b : Bool) → (b && true) ≡ b
+and-yes true = refl
+and-yes false = refl
+
+or-no : (b : Bool) → (b || false) ≡ b
+or-no true = refl
+or-no false = refl
 
 and-assoc : (x y z : Bool) → (x && (y && z)) ≡ ((x && y) && z)
 and-assoc true y z = refl
@@ -38,11 +47,7 @@ leads-rest heads (t ∷ᵗ ts) (arrow a r) goal =
 -- a type that is the goal, or is not
 module _ (heads : Head → List Ty) (ts : Terms) (τ goal : Ty) where
   pub leads-is : restIs ts τ goal ≡ true → leads same heads ts τ goal ≡ argsHave (has same heads) ts τ
-  leads-is e = leads-rest heads ts τ goal ∙ ap (λ b. argsHave (has same heads) ts τ && b) e ∙ and-true′ (argsHave (has same heads) ts τ)
-    where
-      and-true′ : (b : Bool) → (b && true) ≡ b
-      and-true′ true = refl
-      and-true′ false = refl
+  leads-is e = leads-rest heads ts τ goal ∙ ap (λ b. argsHave (has same heads) ts τ && b) e ∙ and-yes (argsHave (has same heads) ts τ)
 
   pub leads-not : restIs ts τ goal ≡ false → leads same heads ts τ goal ≡ false
   leads-not e = leads-rest heads ts τ goal ∙ ap (λ b. argsHave (has same heads) ts τ && b) e ∙ and-no (argsHave (has same heads) ts τ)
@@ -66,21 +71,12 @@ unfolding takes off
 takes-all [] q = refl
 takes-all (p ∷ ps) q = takes-all ps q
 
-length-drop : (k : ℕ) (qs : List ℕ) → length (drop k qs) ≡ length qs - k
-length-drop zero qs = omega arith
-length-drop (suc k) [] = omega arith
-length-drop (suc k) (p ∷ ps) = let e = length-drop k ps in omega arith
-
 -- The types of a constructor, by a test that only the one at state r may pass.
 module _ (targets : ℕ → ℕ → Option (List ℕ)) (c : ℕ) (p : Ty → Bool) where
   typesAt-any : (o : Option (List ℕ)) (q : ℕ) → any p (typesAt o q) ≡ found o (λ qs. p (takes qs q))
   unfolding any typesAt found
   typesAt-any none q = refl
   typesAt-any (some qs) q = or-no (p (takes qs q))
-    where
-      or-no : (b : Bool) → (b || false) ≡ b
-      or-no true = refl
-      or-no false = refl
 
   any-append : (xs ys : List Ty) → any p (xs ++ ys) ≡ (any p xs || any p ys)
   unfolding any
@@ -108,10 +104,6 @@ module _ (targets : ℕ → ℕ → Option (List ℕ)) (c : ℕ) (p : Ty → Boo
     where
       here : ℕ → Bool
       here q = found (targets q c) (λ qs. p (takes qs q))
-
-      or-no : (b : Bool) → (b || false) ≡ b
-      or-no true = refl
-      or-no false = refl
 
       go : Dec (n ≡ r) → (r < n → ((q : ℕ) → q < n → (q ≡ r → ⊥) → here q ≡ false) → any p (conTypes targets n c) ≡ here r) → any p (conTypes targets (suc n) c) ≡ here r
       go (yes e) ih = step n ∙ ap (λ b. b || here n) (con-none n (λ q k. h q (omega arith) (λ z. omega arith))) ∙ ap here e

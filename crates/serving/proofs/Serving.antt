@@ -1,18 +1,17 @@
 -- The final state of a goal as the type of a constructor, and a row of targets against a goal.
-use Prim.Native.Nat.{ℕ, zero, suc, _+_, _-_, _<_, _≤_}
+use Prim.Native.Nat.{ℕ, _+_, _-_, _<_, _≤_}
 use native.Mathlib.Omega.{arith}
-use mathlib.Core.Path.{_≡_, refl, sym, ap, subst, _∙_}
-use mathlib.Core.Bool.{Bool, true, false}
-use mathlib.Core.List.{List, []}
+use mathlib.Core.Path.{_≡_, sym, ap, subst, _∙_}
+use mathlib.Core.Bool.{Bool, false}
+use mathlib.Core.List.{List}
 use mathlib.Core.Option.{Option, none, some}
 use borrow.Author.Tests.{eq-eqb, ne-eqb}
-use lib.Dec.{eqb}
-use lib.ListN.{length, getD, take, drop}
+use lib.ListN.{getD, take, drop}
 use lib.Seq.{getD-take}
 use Rattle.scheme.specs.Lists.{if_then_else_, found}
-use Rattle.scheme.specs.Types.{Ty, state, arrow, same, takes}
+use Rattle.scheme.specs.Types.{Ty, state, same, takes}
 use Rattle.records.specs.Records.{Record}
-use Rattle.goals.specs.Goals.{Goal, of-state, of-arrow, Typed}
+use Rattle.goals.specs.Goals.{Goal, of-state, of-arrow}
 use Rattle.arrows.specs.Arrows.{off, GoalIf, TakesOff, Matches}
 use Rattle.moves.specs.Moves.{targetsIn}
 use Rattle.rows.specs.Rows.{IsArity}

@@ -1,19 +1,19 @@
 -- The loop over arguments and their members.
-use Prim.Native.Nat.{ℕ, zero, suc, _+_, _-_, _*_, _/_, _<_, _≤_}
+use Prim.Native.Nat.{ℕ, zero, suc, _+_, _-_, _<_, _≤_}
 use native.Mathlib.Omega.{arith}
 use native.Mathlib.Decide.{decLt}
 use mathlib.Core.Path.{_≡_, refl, sym, ap, subst, _∙_}
 use mathlib.Core.Logic.{_⊎_, inl, inr}
 use mathlib.Core.Bool.{Bool, true, false, _&&_}
 use mathlib.Core.List.{List, [], _∷_}
-use mathlib.Core.Option.{Option, none, some}
+use mathlib.Core.Option.{some}
 use lib.ListN.{length, getD, drop, drop-of-length-le}
 use lib.Seq.{drop-cons}
 use Rattle.scheme.specs.Lists.{all}
 use Rattle.scheme.specs.Terms.{Term, Terms, []ᵗ, _∷ᵗ_, countᵗ, nodes}
 use Rattle.scheme.specs.Types.{Ty, state, arrow, Tys, members}
 use Rattle.records.specs.Records.{Record}
-use Rattle.goals.specs.Goals.{Goal, Typed}
+use Rattle.goals.specs.Goals.{Typed}
 use Rattle.arrows.specs.Arrows.{off}
 use Rattle.serving.specs.Leading.{argsHave}
 use Rattle.wants.specs.Wants.{HeadType, Wants, Follows}

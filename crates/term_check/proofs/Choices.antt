@@ -1,15 +1,15 @@
 -- The loop over the types of a nonterminal or a parameter.
-use Prim.Native.Nat.{ℕ, zero, suc, _+_, _-_, _*_, _/_, _<_, _≤_}
+use Prim.Native.Nat.{ℕ, suc, _+_, _-_, _*_, _/_, _<_, _≤_}
 use native.Mathlib.Omega.{arith}
-use mathlib.Core.Path.{_≡_, refl, sym, ap, ap₂, subst, _∙_}
+use mathlib.Core.Path.{_≡_, refl, sym, ap, subst, _∙_}
 use mathlib.Core.Bool.{Bool, true, false, _||_}
-use mathlib.Core.List.{List, []}
+use mathlib.Core.List.{List}
 use mathlib.Core.Option.{Option, none, some}
 use lib.Dec.{eqb}
-use lib.ListN.{length, getD}
+use lib.ListN.{length}
 use Rattle.scheme.specs.Lists.{found, any}
-use Rattle.scheme.specs.Terms.{Head, nt, Term, node, Terms, countᵗ}
-use Rattle.scheme.specs.Types.{Ty, state, arrow, Tys, members, same, domains}
+use Rattle.scheme.specs.Terms.{Head, node, Terms, countᵗ}
+use Rattle.scheme.specs.Types.{Ty, same, domains}
 use Rattle.scheme.specs.Typing.{headTypes, has, leads}
 use Rattle.scheme.specs.Flags.{chosen}
 use Rattle.scheme.proofs.Lists.{true→T, found-out}
@@ -21,7 +21,6 @@ use Rattle.casefile.specs.Tables.{headOf, automatonOf, bindingsOf}
 use Rattle.casefile.proofs.Cells.{cellAt}
 use Rattle.goals.specs.Goals.{Goal}
 use Rattle.arrows.specs.Arrows.{off}
-use Rattle.serving.specs.Leading.{argsHave}
 use Rattle.serving.proofs.Leading.{restIs, leads-is, leads-not}
 use Rattle.wants.specs.Wants.{listed}
 use Rattle.goals.proofs.Goals.{goal-below}
@@ -29,7 +28,7 @@ use Rattle.candidates.specs.Candidates.{headIs, anyIn, candidateTy, Spans, Foun
 use Rattle.candidates.specs.Candidates as candidates
 use Rattle.candidates.specs.declared.Span.{Span}
 use Rattle.candidates.proofs.Numbers.{anyIn-step, anyIn-end}
-use Rattle.term_check.specs.Checking.{At, AllAt, Body, ns, Setting, hasIn, Right, Remembers, Keeps, ChecksTerm, ChecksArgs}
+use Rattle.term_check.specs.Checking.{AllAt, Body, ns, Setting, hasIn, Remembers, Keeps, ChecksTerm, ChecksArgs}
 use Rattle.term_check.proofs.Arguments.{keeps-all, keeps-on}
 use Rattle.term_check.proofs.Heads.{by-head, tag-other}
 

@@ -1,27 +1,26 @@
 -- The term at a node by its head: what is remembered, a constructor, and the types of a nonterminal or a parameter.
 use Prim.Native.Nat.{ℕ, zero, suc, _+_, _-_, _*_, _/_, _<_, _≤_}
 use native.Mathlib.Omega.{arith}
-use native.Mathlib.Decide.{decLt, ℕ-discrete}
-use mathlib.Core.Path.{_≡_, refl, sym, ap, ap₂, subst, _∙_}
-use mathlib.Core.Bool.{Bool, true, false, _&&_, _||_}
+use native.Mathlib.Decide.{decLt}
+use mathlib.Core.Path.{_≡_, refl, sym, ap, subst, _∙_}
+use mathlib.Core.Bool.{Bool, true, false, _&&_}
 use mathlib.Core.List.{List, [], _∷_}
 use mathlib.Core.Option.{Option, none, some}
-use borrow.Author.Tests.{eq-eqb, ne-eqb, eqb-true, eqb-false}
 use lib.Dec.{eqb, ltb}
 use lib.ListN.{length, getD, set, take, drop, length-set}
 use lib.Seq.{getD-take}
 use Rattle.scheme.specs.Lists.{if_then_else_, found, any}
 use Rattle.scheme.specs.Terms.{Head, con, nt, par, Term, node, Terms, countᵗ}
-use Rattle.scheme.specs.Types.{Ty, state, arrow, Tys, members, same, takes, domains}
+use Rattle.scheme.specs.Types.{Ty, state, same, takes, domains}
 use Rattle.scheme.specs.Typing.{headTypes, has, leads, conTypes}
 use Rattle.scheme.specs.Flags.{chosen}
 use Rattle.scheme.proofs.Lists.{and-no}
 use Rattle.records.specs.Fields.{field}
 use Rattle.records.specs.Records.{Record}
-use Rattle.casefile.specs.Kinds.{Kind, count}
-use Rattle.casefile.specs.Tables.{aritiesOf, headOf, nodesOf, stateCount, transitionsOf, targetsAt, automatonOf, bindingsOf}
+use Rattle.casefile.specs.Kinds.{count}
+use Rattle.casefile.specs.Tables.{aritiesOf, headOf, stateCount, transitionsOf, targetsAt, automatonOf, bindingsOf}
 use Rattle.casefile.proofs.Cells.{cellAt}
-use Rattle.goals.specs.Goals.{Goal, Typed}
+use Rattle.goals.specs.Goals.{Goal}
 use Rattle.arrows.specs.Arrows.{off}
 use Rattle.moves.specs.Moves.{rowAt, targetsIn}
 use Rattle.moves.proofs.Meaning.{states-few, no-constructor}
@@ -29,15 +28,14 @@ use Rattle.moves.proofs.Targets.{targets-some}
 use Rattle.rows.proofs.Rows.{constructor-count}
 use Rattle.serving.specs.Serving.{arityIn, EndsIn, Serves}
 use Rattle.serving.specs.Leading.{argsHave}
-use Rattle.serving.proofs.Leading.{restIs, leads-is, leads-not, takes-off, con-none, con-one, other-state, this-state}
+use Rattle.serving.proofs.Leading.{and-yes, takes-off, con-none, con-one, other-state, this-state}
 use Rattle.memo.specs.Memo.{covered, key, code, recalled, learnt, Under}
 use Rattle.memo.proofs.Remembering.{faithful-yes, faithful-no, faithful-learnt, learnt-under}
-use Rattle.wants.specs.Wants.{HeadType, listed, of-row}
-use Rattle.goals.proofs.Goals.{goal-below}
+use Rattle.wants.specs.Wants.{HeadType, of-row}
 use Rattle.candidates.specs.Candidates.{headIs}
-use Rattle.term_check.specs.Checking.{At, AllAt, Body, ns, width, Setting, hasIn, Right, Remembers, Keeps, ChecksTerm, ChecksArgs}
+use Rattle.term_check.specs.Checking.{At, AllAt, Body, ns, width, Setting, hasIn, Right, Remembers, ChecksTerm, ChecksArgs}
 use Rattle.term_check.proofs.Places.{at-inside, at-head}
-use Rattle.term_check.proofs.Arguments.{keeps-all, keeps-on}
+use Rattle.term_check.proofs.Arguments.{keeps-all}
 
 learnt-length : (memo : List ℕ) (width stamp i goal : ℕ) (b : Bool) → length (learnt memo width stamp i goal b) ≡ length memo
 unfolding learnt
@@ -166,10 +164,6 @@ module _ (x : Body) (rs : List Record) (τ : Ty) (s : Setting x rs τ) (c : ℕ)
     unfolding found
     row-leads four e = go (targets q c) refl e
       where
-        and-yes : (b : Bool) → (b && true) ≡ b
-        and-yes true = refl
-        and-yes false = refl
-
         go : (o : Option (List ℕ)) → targets q c ≡ o → found o (λ qs. same (takes (drop (countᵗ ts) qs) q) σ) ≡ true
             → (υ ρ : Ty) × HeadType rs (x .test .types) row 0 65535 υ × (off (countᵗ ts) υ ≡ some ρ) × (argsHave (has same heads) ts υ ≡ hasIn x rs τ (node (con c) ts) σ)
         go none f e = let z : _≡_ {A = ℕ} 0 1 = cc in absurd (omega arith)

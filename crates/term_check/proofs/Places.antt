@@ -1,12 +1,11 @@
 -- Terms by their first node in a body: the head and the arguments, and where each subterm ends.
-use Prim.Native.Nat.{ℕ, zero, suc, _+_, _*_, _/_, _<_, _≤_}
+use Prim.Native.Nat.{ℕ, suc, _+_, _*_, _/_, _<_}
 use native.Mathlib.Omega.{arith}
-use native.Mathlib.Decide.{decLt}
-use mathlib.Core.Path.{_≡_, refl, sym, ap, subst, _∙_}
-use mathlib.Core.List.{List, [], _∷_, _++_, append-assoc}
+use mathlib.Core.Path.{_≡_, sym, ap, _∙_}
+use mathlib.Core.List.{List, _∷_, _++_, append-assoc}
 use lib.ListN.{length, getD, drop, length-drop, length-append}
 use lib.Seq.{drop-drop, drop-append-seam}
-use Rattle.scheme.specs.Terms.{Head, Term, node, Terms, []ᵗ, _∷ᵗ_, countᵗ, nodes, nodesAll}
+use Rattle.scheme.specs.Terms.{Head, Term, node, Terms, _∷ᵗ_, countᵗ, nodes}
 use Rattle.scheme.specs.Prefix.{Node, flat, flats, terms}
 use Rattle.scheme.proofs.Prefix.{terms-flat, length-flat}
 use Rattle.records.specs.Fields.{field}

@@ -1,14 +1,14 @@
 -- The check of a term and of its arguments, by the nodes of a body and by the numbers of goals. Section "Types and
 -- shrinking" of the scope: "Checking a term calls for its arguments, and each argument is again a term".
-use Prim.Native.Nat.{ℕ, zero, suc, _+_, _*_, _/_, _<_, _≤_}
+use Prim.Native.Nat.{ℕ, _+_, _*_, _/_, _<_, _≤_}
 use mathlib.Core.Path.{_≡_}
-use mathlib.Core.Bool.{Bool, true, false, _&&_}
-use mathlib.Core.List.{List, [], _∷_, _++_}
-use mathlib.Core.Option.{Option, none, some}
+use mathlib.Core.Bool.{Bool}
+use mathlib.Core.List.{List, _++_}
+use mathlib.Core.Option.{some}
 use lib.ListN.{length, getD, drop}
-use Rattle.scheme.specs.Terms.{Head, nt, Term, Terms, []ᵗ, _∷ᵗ_, countᵗ, nodes}
+use Rattle.scheme.specs.Terms.{nt, Term, Terms, countᵗ, nodes}
 use Rattle.scheme.specs.Prefix.{Node, flat, flats, terms}
-use Rattle.scheme.specs.Types.{Ty, state, arrow, members, same, domains}
+use Rattle.scheme.specs.Types.{Ty, same, domains}
 use Rattle.scheme.specs.Typing.{headTypes, has}
 use Rattle.scheme.specs.Flags.{chosen}
 use Rattle.records.specs.Fields.{byte}
