@@ -18,15 +18,15 @@ use Rattle.goals.proofs.Goals.{goals-same}
 use Rattle.arrows.specs.Arrows.{Small, off, GoalIf, TakesOff, Matches}
 
 -- while arrows are taken off: i are off, and the others are still on
-pub record Off (file index : List ℕ) (n goal k g i : ℕ) : Type 0 where
+pub record Off (index : List ℕ) (n goal k g i : ℕ) : Type 0 where
   pub upTo : i ≤ k
-  pub here : (rs : List Record) → Typed file index n rs → (τ : Ty) → Goal rs n goal τ → (σ : Ty) × Goal rs n g σ × (off (k - i) σ ≡ off k τ)
+  pub here : {file : List ℕ} (rs : List Record) → Typed file index n rs → (τ : Ty) → Goal rs n goal τ → (σ : Ty) × Goal rs n g σ × (off (k - i) σ ≡ off k τ)
 
-pub off-start : (file index : List ℕ) (n goal k : ℕ) → Off file index n goal k goal 0
-off-start file index n goal k = record { upTo = omega arith; here = λ rs w τ x. (τ, x, ap (λ j. off j τ) (let e : k - 0 ≡ k = omega arith in e)) }
+pub off-start : (index : List ℕ) (n goal k : ℕ) → Off index n goal k goal 0
+off-start index n goal k = record { upTo = omega arith; here = λ rs w τ x. (τ, x, ap (λ j. off j τ) (let e : k - 0 ≡ k = omega arith in e)) }
 
-module _ {file index : List ℕ} {n goal k g i : ℕ} (o : Off file index n goal k g i) where
-  pub off-none : i < k → n ≤ g → TakesOff file index n goal k 65535
+module _ {index : List ℕ} {n goal k g i : ℕ} (o : Off index n goal k g i) where
+  pub off-none : i < k → n ≤ g → TakesOff index n goal k 65535
   unfolding off GoalIf
   off-none h far =
       record {
@@ -40,7 +40,7 @@ module _ {file index : List ℕ} {n goal k g i : ℕ} (o : Off file index n goal
       by rs σ τ (of-arrow a r inside e f) x = absurd (omega arith)
       by rs σ τ (of-state q small e f) x = let z : k - i ≡ suc (k - i - 1) = omega arith in sym x ∙ ap₂ off z f
 
-  pub off-next : (g′ i′ : ℕ) → i < k → g < n → IsResult file index n g g′ → i′ ≡ suc i → Off file index n goal k g′ i′
+  pub off-next : (g′ i′ : ℕ) → i < k → g < n → IsResult index n g g′ → i′ ≡ suc i → Off index n goal k g′ i′
   unfolding off
   off-next g′ i′ h near is ei =
       record {
@@ -48,13 +48,13 @@ module _ {file index : List ℕ} {n goal k g i : ℕ} (o : Off file index n goal
         here = λ rs w τ x. let (σ, y, e) = o .here rs w τ x in by rs w σ τ y e;
       }
     where
-      by : (rs : List Record) → Typed file index n rs → (σ τ : Ty) → Goal rs n g σ → off (k - i) σ ≡ off k τ → (ρ : Ty) × Goal rs n g′ ρ × (off (k - i′) ρ ≡ off k τ)
+      by : {file : List ℕ} (rs : List Record) → Typed file index n rs → (σ τ : Ty) → Goal rs n g σ → off (k - i) σ ≡ off k τ → (ρ : Ty) × Goal rs n g′ ρ × (off (k - i′) ρ ≡ off k τ)
       by rs w σ τ (of-state q small e f) x = absurd (omega arith)
       by rs w σ τ (of-arrow a r inside e f) x =
           let z : k - i ≡ suc (k - i′) = omega arith in
           (r, is .result rs w a r (of-arrow a r inside e refl), sym (ap₂ off z f) ∙ x)
 
-  pub off-end : k ≤ i → TakesOff file index n goal k g
+  pub off-end : k ≤ i → TakesOff index n goal k g
   unfolding off GoalIf
   off-end h =
       record {
@@ -156,7 +156,7 @@ module _ {file index : List ℕ} {n : ℕ} {row : List ℕ} {k arity q goal g i 
           let (b, s, v, e) = by-member rs w σ y l z a in
           sym (e ∙ ap (λ t. t && same (takes (drop (suc i) (take arity row)) q) s) (ne-eqb (n + getD row i 0) x (λ u. ne (sym u)))))
 
-      pub match-next : x ≡ n + getD row i 0 → (g′ i′ : ℕ) → IsResult file index n g g′ → i′ ≡ suc i → Matching file index n row k arity q goal g′ i′
+      pub match-next : x ≡ n + getD row i 0 → (g′ i′ : ℕ) → IsResult index n g g′ → i′ ≡ suc i → Matching file index n row k arity q goal g′ i′
       match-next ex g′ i′ is′ ei =
           record {
             upTo = omega (arith, o .upTo);

@@ -21,8 +21,8 @@ GoalIf rs n none r = r ≡ 65535
 GoalIf rs n (some τ) r = Goal rs n r τ
 
 -- r is a goal with k arrows off
-pub record TakesOff (file index : List ℕ) (n g k r : ℕ) : Type 0 where
-  pub goal-off : (rs : List Record) → Typed file index n rs → (τ : Ty) → Goal rs n g τ → GoalIf rs n (off k τ) r
+pub record TakesOff (index : List ℕ) (n g k r : ℕ) : Type 0 where
+  pub goal-off : {file : List ℕ} (rs : List Record) → Typed file index n rs → (τ : Ty) → Goal rs n g τ → GoalIf rs n (off k τ) r
 
 -- the first n numbers of a row are bytes
 abbrev pub Small : ℕ → List ℕ → Type 0

@@ -1,12 +1,12 @@
 // Arrows taken off a type, one for each argument.
-use goals::member_of;
-use goals::members_of;
-use goals::result_of;
+use goal_tables::member_of;
+use goal_tables::members_of;
+use goal_tables::result_of;
 ghost use Rattle.arrows.specs.Arrows.{TakesOff, Matches};
 
 // The goal with k arrows off; 65,535 where it has fewer.
-pub fn off(file: &[u8], index: &[u16], types: usize, goal: usize, k: usize) -> usize
-    ensures { λ r. ⌜ TakesOff (now (file .entry)) (now (index .entry)) types goal k r ⌝ }
+pub fn off(index: &[u16], types: usize, goal: usize, k: usize) -> usize
+    ensures { λ r. ⌜ TakesOff (now (index .entry)) types goal k r ⌝ }
 {
     let mut g = goal;
     let mut i: usize = 0;
@@ -14,7 +14,7 @@ pub fn off(file: &[u8], index: &[u16], types: usize, goal: usize, k: usize) -> u
         if types <= g {
             return 65535;
         }
-        g = result_of(file, index, types, g);
+        g = result_of(index, types, g);
         i = i + 1;
     }
     g
@@ -53,7 +53,7 @@ pub fn row_matches(
         if member - types != row[i] as usize {
             return false;
         }
-        g = result_of(file, index, types, g);
+        g = result_of(index, types, g);
         i = i + 1;
     }
     if g < types {

@@ -20,34 +20,11 @@ use Rattle.casefile.specs.Refusals.{wrongLength, outOfRange}
 use Rattle.casefile.specs.Tables.{typesOf, bindingsOf}
 use Rattle.casefile.proofs.Passed.{Passed, entry}
 use Rattle.casefile.proofs.TypeTable.{count-payloads}
-use Rattle.goals.specs.Goals.{Goal, Typed, IsGoal, IsMember}
+use Rattle.goals.specs.Goals.{Goal, Typed, typeOfBinding, IsOwn, IsMember}
 use Rattle.goals.proofs.Goals.{goal-below, goals-same}
 use Rattle.arrows.specs.Arrows.{off, GoalIf, TakesOff}
 use Rattle.candidates.specs.Candidates.{noBinding, keptTy, candidateTy, IsKeptTy, Found, leads, fails, Leads, Candidates}
 use Rattle.candidates.proofs.Spanning.{binding-made}
-
--- The type of a binding.
--- the records before are among all
-pub fewer : (k : Kind) (xs ys : List Record) → count k xs ≤ count k (xs ++ ys)
-unfolding count ofKind
-fewer k xs ys =
-    let e = ap length (select-append (λ (r : Record). eqb (r .kind) (number k)) xs ys) ∙ length-append (ofKind k xs) (ofKind k ys) in
-    omega arith
-
--- a binding's payload, and the numbers of its nonterminal and its type
-pub binding-there : {rs : List Record} → Passed rs → (j : ℕ) → j < length (payloads Kind.binding rs)
-    → (length (getD (payloads Kind.binding rs) j []) ≡ 4) × (word (getD (payloads Kind.binding rs) j []) 0 < count Kind.nonterminal rs) × (word (getD (payloads Kind.binding rs) j []) 2 < count Kind.type rs)
-unfolding wrongLength outOfRange
-binding-there {rs} ok j h =
-    let e = entry ok Kind.binding j h in
-    let p = e .payload in
-    let four = eqb-true (length p) 4 (not-false (eqb (length p) 4) (e .passed-tests .fits)) in
-    let named = or-false (leb (count Kind.nonterminal (e .earlier)) (word p 0)) (leb (count Kind.type (e .earlier)) (word p 2)) (e .passed-tests .ranges) in
-    let symbol = leb-false (count Kind.nonterminal (e .earlier)) (word p 0) (named .0) in
-    let below = leb-false (count Kind.type (e .earlier)) (word p 2) (named .1) in
-    let symbols = subst (λ l. count Kind.nonterminal (e .earlier) ≤ count Kind.nonterminal l) (e .together) (fewer Kind.nonterminal (e .earlier) (e .later)) in
-    let more = subst (λ l. count Kind.type (e .earlier) ≤ count Kind.type l) (e .together) (fewer Kind.type (e .earlier) (e .later)) in
-    subst (λ l. (length l ≡ 4) × (word l 0 < count Kind.nonterminal rs) × (word l 2 < count Kind.type rs)) (sym (e .here)) (four, omega arith, omega arith)
 
 kept-byte : (kept : List ℕ) (j b : ℕ) → b ≡ byte kept j → b ≡ getD kept j 0
 unfolding field
@@ -63,12 +40,12 @@ unfolding isKept
 kept-yes zero e = absurd (e refl)
 kept-yes (suc f) e = refl
 
-module _ {file index : List ℕ} {n : ℕ} {kept : List ℕ} {j : ℕ} where
-  pub kept-far : 1023 < j → IsKeptTy file index n kept j 65535
+module _ {index : List ℕ} {n : ℕ} {kept : List ℕ} {j : ℕ} where
+  pub kept-far : 1023 < j → IsKeptTy index n kept j 65535
   kept-far h = record { goal-kept = λ rs m w ix few l. absurd (omega arith) }
 
   module _ (b : ℕ) (eb : b ≡ byte kept j) where
-    pub kept-dropped : b ≡ 0 → IsKeptTy file index n kept j 65535
+    pub kept-dropped : b ≡ 0 → IsKeptTy index n kept j 65535
     unfolding GoalIf
     kept-dropped z =
         record {
@@ -77,56 +54,54 @@ module _ {file index : List ℕ} {n : ℕ} {kept : List ℕ} {j : ℕ} where
               subst (λ x. GoalIf rs n (if x then some (getD (bindingsOf rs) j noBinding .type) else none) 65535) (sym k) refl;
         }
 
-    pub kept-there : (b ≡ 0 → ⊥) → (start : ℕ) → start ≡ getD index (2144 + j) 0 → (t r : ℕ) → t ≡ word file (start + 2) → IsGoal file index n t r → IsKeptTy file index n kept j r
+    pub kept-there : (b ≡ 0 → ⊥) → j < 1024 → (r : ℕ) → IsOwn index j r → IsKeptTy index n kept j r
     unfolding GoalIf
-    kept-there z start es t r et is =
+    kept-there z few r is =
         record {
-          goal-kept = λ rs m w ix few l.
+          goal-kept = λ rs m w ix fewer l.
               let c : length (payloads Kind.binding rs) ≡ m = sym (count-payloads Kind.binding rs) ∙ ix .counted in
               let k = kept-yes (getD kept j 0) (λ e. z (kept-byte kept j b eb ∙ e)) in
-              let (four, symbol, below) = binding-there (w .passed) j (omega arith) in
-              let f : t ≡ word (getD (payloads Kind.binding rs) j []) 2 = et ∙ ap (λ x. word file (x + 2)) es ∙ ix .field-there j l 2 2 (omega arith) in
-              let e : getD (typesOf rs) t (state 0) ≡ getD (bindingsOf rs) j noBinding .type = ap (λ x. getD (typesOf rs) x (state 0)) f ∙ sym (binding-made rs j (omega arith) .1) in
-              let g = is .goal rs w (let d = w .there .counted in omega arith) in
+              let e : getD (typesOf rs) (typeOfBinding rs j) (state 0) ≡ getD (bindingsOf rs) j noBinding .type = sym (binding-made rs j (omega arith) .1) in
+              let g = is .own rs n w (let d = ix .counted in omega arith) few in
               subst (λ x. GoalIf rs n (if x then some (getD (bindingsOf rs) j noBinding .type) else none) r) (sym k) (subst (Goal rs n r) e g);
         }
 
 -- A TYPE LEADS TO A GOAL WHERE ITS NUMBER WITH THE ARROWS OFF IS THE GOAL'S
-module _ {file index : List ℕ} {n t count goal : ℕ} where
-  pub lead-none : t ≡ 65535 → Leads file index n t count goal 65535
+module _ {index : List ℕ} {n t count goal : ℕ} where
+  pub lead-none : t ≡ 65535 → Leads index n t count goal 65535
   unfolding found GoalIf
   lead-none e = record { led = λ rs w o x σ y. by rs w o x σ }
     where
-      by : (rs : List Record) → Typed file index n rs → (o : Option Ty) → GoalIf rs n o t → (σ : Ty) → Found rs n o count σ 65535
+      by : {file : List ℕ} (rs : List Record) → Typed file index n rs → (o : Option Ty) → GoalIf rs n o t → (σ : Ty) → Found rs n o count σ 65535
       by rs w none x σ = fails refl refl
       by rs w (some τ) x σ = let l = goal-below (w .few) x in absurd (omega arith)
 
-  module _ (u : ℕ) (is : TakesOff file index n t count u) where
+  module _ (u : ℕ) (is : TakesOff index n t count u) where
     -- what is left is the goal, by its number
-    decided : (rs : List Record) → Typed file index n rs → (o : Option Ty) → GoalIf rs n o u → (σ : Ty) → Goal rs n goal σ → found o (λ ρ. same ρ σ) ≡ eqb u goal
+    decided : {file : List ℕ} (rs : List Record) → Typed file index n rs → (o : Option Ty) → GoalIf rs n o u → (σ : Ty) → Goal rs n goal σ → found o (λ ρ. same ρ σ) ≡ eqb u goal
     unfolding found GoalIf
     decided rs w none x σ y = let l = goal-below (w .few) y in sym (ne-eqb u goal (λ e. omega arith))
     decided rs w (some ρ) x σ y = goals-same w u goal ρ σ x y
 
-    pub lead-other : (u ≡ goal → ⊥) → Leads file index n t count goal 65535
+    pub lead-other : (u ≡ goal → ⊥) → Leads index n t count goal 65535
     unfolding found GoalIf
     lead-other ne = record { led = λ rs w o x σ y. by rs w o x σ y }
       where
-        by : (rs : List Record) → Typed file index n rs → (o : Option Ty) → GoalIf rs n o t → (σ : Ty) → Goal rs n goal σ → Found rs n o count σ 65535
+        by : {file : List ℕ} (rs : List Record) → Typed file index n rs → (o : Option Ty) → GoalIf rs n o t → (σ : Ty) → Goal rs n goal σ → Found rs n o count σ 65535
         by rs w none x σ y = fails refl refl
         by rs w (some τ) x σ y = fails refl (decided rs w (off count τ) (is .goal-off rs w τ x) σ y ∙ ne-eqb u goal ne)
 
-    pub lead-here : (t ≡ 65535 → ⊥) → u ≡ goal → Leads file index n t count goal t
+    pub lead-here : (t ≡ 65535 → ⊥) → u ≡ goal → Leads index n t count goal t
     unfolding found GoalIf
     lead-here some-there e = record { led = λ rs w o x σ y. by rs w o x σ y }
       where
-        by : (rs : List Record) → Typed file index n rs → (o : Option Ty) → GoalIf rs n o t → (σ : Ty) → Goal rs n goal σ → Found rs n o count σ t
+        by : {file : List ℕ} (rs : List Record) → Typed file index n rs → (o : Option Ty) → GoalIf rs n o t → (σ : Ty) → Goal rs n goal σ → Found rs n o count σ t
         by rs w none x σ y = absurd (some-there x)
         by rs w (some τ) x σ y = leads τ refl x (decided rs w (off count τ) (is .goal-off rs w τ x) σ y ∙ eq-eqb u goal e)
 
 -- type number j
-module _ {file index : List ℕ} {n : ℕ} {kept : List ℕ} {nonterminal : Bool} {given j count goal : ℕ} (t r : ℕ) (is : Leads file index n t count goal r) where
-  pub candidate-binding : nonterminal ≡ true → IsKeptTy file index n kept j t → Candidates file index n kept nonterminal given j count goal r
+module _ {file index : List ℕ} {n : ℕ} {kept : List ℕ} {nonterminal : Bool} {given j count goal : ℕ} (t r : ℕ) (is : Leads index n t count goal r) where
+  pub candidate-binding : nonterminal ≡ true → IsKeptTy index n kept j t → Candidates file index n kept nonterminal given j count goal r
   unfolding candidateTy
   candidate-binding yes-it-is kt =
       record {

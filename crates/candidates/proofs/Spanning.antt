@@ -152,7 +152,7 @@ module _ {file index : List ℕ} {n given : ℕ} where
       by rs w (some (state q)) (of-arrow b s inside e f) = let z : _≡_ {A = ℕ} 0 1 = cc in absurd (omega arith)
       by rs w (some (arrow a ρ)) x = counts .many rs w a ρ x
 
-pub members-there : {file index : List ℕ} {n own number : ℕ} (given high : ℕ) → TakesOff file index n own number given → CountsFirst file index n given high
+pub members-there : {file index : List ℕ} {n own number : ℕ} (given high : ℕ) → TakesOff index n own number given → CountsFirst file index n given high
     → IsMembers file index n own number (record { low = 0; high = high; given = given })
 unfolding GoalIf firstMembers
 members-there {file} {index} {n} {own} {number} given high is counts =

@@ -75,8 +75,8 @@ pub record Spans (file index : List ℕ) (n : ℕ) (groups : List ℕ) (own : �
       → (a : Tys) × (ρ : Ty) × (Goal rs n (r .given) (arrow a ρ) × (members a ≡ getD (domains τ) number []) × (j < length (members a)))
 
 -- r is the goal that the type of binding j is where it is kept, else 65,535
-pub record IsKeptTy (file index : List ℕ) (n : ℕ) (kept : List ℕ) (j r : ℕ) : Type 0 where
-  pub goal-kept : (rs : List Record) (m : ℕ) → Typed file index n rs → Indexed file index Kind.binding m rs → m ≤ 1024 → j < m → GoalIf rs n (keptTy rs kept j) r
+pub record IsKeptTy (index : List ℕ) (n : ℕ) (kept : List ℕ) (j r : ℕ) : Type 0 where
+  pub goal-kept : {file : List ℕ} (rs : List Record) (m : ℕ) → Typed file index n rs → Indexed file index Kind.binding m rs → m ≤ 1024 → j < m → GoalIf rs n (keptTy rs kept j) r
 
 -- r is the number of a type that with its arrows off is σ, or 65,535 where there is none such
 pub data Found (rs : List Record) (n : ℕ) (o : Option Ty) (count : ℕ) (σ : Ty) (r : ℕ) : Type 0 where
@@ -84,8 +84,8 @@ pub data Found (rs : List Record) (n : ℕ) (o : Option Ty) (count : ℕ) (σ : 
   fails : r ≡ 65535 → found o (λ τ. found (off count τ) (λ ρ. same ρ σ)) ≡ false → Found rs n o count σ r
 
 -- r is the type t where it leads to a goal
-pub record Leads (file index : List ℕ) (n t count goal r : ℕ) : Type 0 where
-  pub led : (rs : List Record) → Typed file index n rs → (o : Option Ty) → GoalIf rs n o t → (σ : Ty) → Goal rs n goal σ → Found rs n o count σ r
+pub record Leads (index : List ℕ) (n t count goal r : ℕ) : Type 0 where
+  pub led : {file : List ℕ} (rs : List Record) → Typed file index n rs → (o : Option Ty) → GoalIf rs n o t → (σ : Ty) → Goal rs n goal σ → Found rs n o count σ r
 
 -- r is type number j of a head where there is one and it leads to a goal
 pub record Candidates (file index : List ℕ) (n : ℕ) (kept : List ℕ) (nonterminal : Bool) (given j count goal r : ℕ) : Type 0 where

@@ -1,11 +1,10 @@
 // The types of a head that has several, a nonterminal or a parameter, by number.
 use arrows::off;
 use entries::place_at;
-use goals::goal_of;
-use goals::member_of;
-use goals::members_of;
+use goal_tables::member_of;
+use goal_tables::members_of;
+use goal_tables::own_of;
 use records::byte_at;
-use records::word_at;
 ghost use Rattle.candidates.specs.Candidates.{IsGroup, CountsFirst, IsMembers, Spans, IsKeptTy, Leads, Candidates};
 
 // The numbers to go through, from low on up to high; of a parameter they count the members of the arrow that is the goal
@@ -50,7 +49,7 @@ fn first_count(file: &[u8], index: &[u16], types: usize, given: usize) -> usize
 fn member_span(file: &[u8], index: &[u16], types: usize, own: usize, number: usize) -> Span
     ensures { λ r. ⌜ IsMembers (now (file .entry)) (now (index .entry)) types own number r ⌝ }
 {
-    let given = off(file, index, types, own, number);
+    let given = off(index, types, own, number);
     let high = first_count(file, index, types, given);
     Span {
         low: 0,
@@ -78,8 +77,8 @@ pub fn span_of(
 }
 
 // The type of a binding that is kept, as a goal; 65,535 for one that was dropped.
-fn kept_type(file: &[u8], index: &[u16], types: usize, kept: &[u8], j: usize) -> usize
-    ensures { λ r. ⌜ IsKeptTy (now (file .entry)) (now (index .entry)) types (now (kept .entry)) j r ⌝ }
+fn kept_type(index: &[u16], types: usize, kept: &[u8], j: usize) -> usize
+    ensures { λ r. ⌜ IsKeptTy (now (index .entry)) types (now (kept .entry)) j r ⌝ }
 {
     if 1023 < j {
         return 65535;
@@ -87,18 +86,17 @@ fn kept_type(file: &[u8], index: &[u16], types: usize, kept: &[u8], j: usize) ->
     if byte_at(kept, j) == 0 {
         return 65535;
     }
-    let place = place_at(index, 2144 + j);
-    goal_of(file, index, types, word_at(file, place + 2))
+    own_of(index, j)
 }
 
 // The type, where it is the goal with so many arrows off; else 65,535.
-fn if_leads(file: &[u8], index: &[u16], types: usize, t: usize, count: usize, goal: usize) -> usize
-    ensures { λ r. ⌜ Leads (now (file .entry)) (now (index .entry)) types t count goal r ⌝ }
+fn if_leads(index: &[u16], types: usize, t: usize, count: usize, goal: usize) -> usize
+    ensures { λ r. ⌜ Leads (now (index .entry)) types t count goal r ⌝ }
 {
     if t == 65535 {
         return 65535;
     }
-    if off(file, index, types, t, count) != goal {
+    if off(index, types, t, count) != goal {
         return 65535;
     }
     t
@@ -119,9 +117,9 @@ pub fn candidate(
     ensures { λ r. ⌜ Candidates (now (file .entry)) (now (index .entry)) types (now (kept .entry)) nonterminal given j count goal r ⌝ }
 {
     if nonterminal {
-        let t = kept_type(file, index, types, kept, j);
-        return if_leads(file, index, types, t, count, goal);
+        let t = kept_type(index, types, kept, j);
+        return if_leads(index, types, t, count, goal);
     }
     let t = member_of(file, index, types, given, j);
-    if_leads(file, index, types, t, count, goal)
+    if_leads(index, types, t, count, goal)
 }

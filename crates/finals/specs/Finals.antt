@@ -6,5 +6,5 @@ use Rattle.records.specs.Records.{Record}
 use Rattle.goals.specs.Goals.{Goal, Typed}
 
 -- r is the final state of a goal
-pub record IsFinal (file index : List ℕ) (n goal r : ℕ) : Type 0 where
-  pub is-final : (rs : List Record) → Typed file index n rs → (τ : Ty) → Goal rs n goal τ → Goal rs n r (final τ)
+pub record IsFinal (index : List ℕ) (n goal r : ℕ) : Type 0 where
+  pub is-final : {file : List ℕ} (rs : List Record) → Typed file index n rs → (τ : Ty) → Goal rs n goal τ → Goal rs n r (final τ)

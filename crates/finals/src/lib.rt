@@ -1,10 +1,10 @@
 // The final state of a type.
-use goals::result_of;
+use goal_tables::result_of;
 ghost use Rattle.finals.specs.Finals.{IsFinal};
 
 // The final state of a goal, as a goal. A type has no more arrows than there are types before it and itself.
-pub fn final_of(file: &[u8], index: &[u16], types: usize, goal: usize) -> usize
-    ensures { λ r. ⌜ IsFinal (now (file .entry)) (now (index .entry)) types goal r ⌝ }
+pub fn final_of(index: &[u16], types: usize, goal: usize) -> usize
+    ensures { λ r. ⌜ IsFinal (now (index .entry)) types goal r ⌝ }
 {
     let mut g = goal;
     let mut left = types;
@@ -12,7 +12,7 @@ pub fn final_of(file: &[u8], index: &[u16], types: usize, goal: usize) -> usize
         if types <= g {
             return g;
         }
-        g = result_of(file, index, types, g);
+        g = result_of(index, types, g);
         left = left - 1;
     }
     g

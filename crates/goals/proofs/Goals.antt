@@ -4,26 +4,26 @@ use native.Mathlib.Omega.{arith}
 use native.Mathlib.Nat.{le-of-suc-le-suc}
 use mathlib.Core.Path.{_≡_, refl, sym, ap, ap₂, subst, _∙_}
 use mathlib.Core.Bool.{Bool, true, false, _&&_, _||_, not}
-use mathlib.Core.List.{List, [], _∷_, map, List·Memᴰ}
-use borrow.Author.Tests.{eqb-true, eqb-false, eq-eqb, ne-eqb, leb-true, not-false}
+use mathlib.Core.List.{List, [], _∷_, _++_, map, List·Memᴰ}
+use borrow.Author.Tests.{eqb-true, eqb-false, eq-eqb, ne-eqb, leb-true, leb-false, not-false}
 use lib.Dec.{T, eqb, leb}
-use lib.ListN.{length, getD, drop}
+use lib.ListN.{length, getD, drop, length-append}
 use Rattle.scheme.specs.Lists.{if_then_else_}
 use Rattle.scheme.specs.Types.{Ty, state, arrow, Tys, []ʸ, _∷ʸ_, members, same}
-use Rattle.scheme.proofs.Lists.{true→T, T→true, and-true}
+use Rattle.scheme.proofs.Lists.{true→T, T→true, and-true, or-false, select-append}
 use Rattle.scheme.proofs.Exact.{same→≡, same-refl}
 use Rattle.records.specs.Fields.{field, byte, word}
 use Rattle.records.specs.Records.{Record}
-use Rattle.casefile.specs.Kinds.{Kind, payloads}
-use Rattle.casefile.specs.Refusals.{wrongLength}
+use Rattle.casefile.specs.Kinds.{Kind, number, ofKind, payloads, count}
+use Rattle.casefile.specs.Refusals.{wrongLength, outOfRange}
 use Rattle.casefile.specs.Tables.{words, membersAt, arrowFrom, typeFrom, typesOf}
-use Rattle.casefile.proofs.Passed.{entry}
+use Rattle.casefile.proofs.Passed.{Passed, entry}
 use Rattle.casefile.proofs.Repeats.{getD-mem}
 use Rattle.casefile.proofs.Steps.{words-step, words-done}
 use Rattle.casefile.proofs.TypeNumbers.{Shape, a-state, an-arrow}
 use Rattle.casefile.proofs.TypeTable.{count-payloads, type-shape, type-made, types-distinct}
 use Rattle.entries.specs.Index.{Indexed}
-use Rattle.goals.specs.Goals.{Goal, of-state, of-arrow, Typed, IsGoal, IsResult, CountsMembers, IsMember}
+use Rattle.goals.specs.Goals.{Goal, of-state, of-arrow, Listed, Typed, ReadsGoal, ReadsResult}
 
 -- the numbers of a payload, and how many bytes they take
 words-length : (p : List ℕ) (i : ℕ) → length (words (drop i p)) ≡ (length p - i) / 2
@@ -83,7 +83,7 @@ type-short k e = go (eqb k 1) (leb 2 k) (leb k 34) (eqb (k % 2) 0) refl refl (no
     go false true false d f g h = let z : _≡_ {A = ℕ} 0 1 = cc in absurd (omega arith)
     go false false c d f g h = let z : _≡_ {A = ℕ} 0 1 = cc in absurd (omega arith)
 
-module _ {file index : List ℕ} {n : ℕ} {rs : List Record} (w : Typed file index n rs) where
+module _ {file index : List ℕ} {n : ℕ} {rs : List Record} (w : Listed file index n rs) where
   pub type-count : length (payloads Kind.type rs) ≡ n
   type-count = sym (count-payloads Kind.type rs) ∙ w .there .counted
 
@@ -128,7 +128,7 @@ module _ {file index : List ℕ} {n : ℕ} {rs : List Record} (w : Typed file in
           let tw : words (drop 2 p) ≡ ms = cc in
           let many : length (members a) ≡ length ms = ap (λ l. length (members l)) (sym ea) ∙ members-count (typesOf rs) ms in
           let bytes : length ms ≡ (length p - 2) / 2 = ap length (sym tw) ∙ words-length p 2 in
-          let number : (j : ℕ) → j < length (members a) → word p (2 + j * 2) ≡ getD ms j 0 = λ j k. sym (words-at p 2 j (omega arith)) ∙ ap (λ l. getD l j 0) tw in
+          let number-at : (j : ℕ) → j < length (members a) → word p (2 + j * 2) ≡ getD ms j 0 = λ j k. sym (words-at p 2 j (omega arith)) ∙ ap (λ l. getD l j 0) tw in
           record {
             inside = h;
             long = long;
@@ -136,9 +136,9 @@ module _ {file index : List ℕ} {n : ℕ} {rs : List Record} (w : Typed file in
             few-bytes = payload-short g h;
             result-below = omega arith;
             result-is = ap (λ k. getD (typesOf rs) k (state 0)) hw ∙ er;
-            member-below = λ j k. let l = hms (getD ms j 0) (getD-mem ms j 0 (omega arith)) in let q = number j k in omega arith;
+            member-below = λ j k. let l = hms (getD ms j 0) (getD-mem ms j 0 (omega arith)) in let q = number-at j k in omega arith;
             member-is = λ j k.
-                ap (λ i. getD (typesOf rs) i (state 0)) (number j k) ∙ sym (members-at (typesOf rs) ms j (omega arith)) ∙ ap (λ l. getD (members l) j (state 0)) ea;
+                ap (λ i. getD (typesOf rs) i (state 0)) (number-at j k) ∙ sym (members-at (typesOf rs) ms j (omega arith)) ∙ ap (λ l. getD (members l) j (state 0)) ea;
           }
 
   -- the length and the fields of a record, where the file has them
@@ -154,17 +154,17 @@ module _ {file index : List ℕ} {n : ℕ} {rs : List Record} (w : Typed file in
 
 -- the goal that a type is
 module _ {file index : List ℕ} {n t : ℕ} where
-  pub goal-many : 1024 < n → IsGoal file index n t t
+  pub goal-many : 1024 < n → ReadsGoal file index n t t
   goal-many h = record { goal = λ rs w k. absurd (omega (arith, w .few)) }
 
-  pub goal-far : n ≤ t → IsGoal file index n t t
+  pub goal-far : n ≤ t → ReadsGoal file index n t t
   goal-far h = record { goal = λ rs w k. absurd (omega arith) }
 
   module _ (start : ℕ) (es : start ≡ getD index (1120 + t) 0) where
-    pub goal-none : start < 4 → IsGoal file index n t t
+    pub goal-none : start < 4 → ReadsGoal file index n t t
     goal-none h = record { goal = λ rs w k. let b = start-there w t k start es in absurd (omega arith) }
 
-    pub goal-arrow : (len : ℕ) → len ≡ word file (start - 4) → (len ≡ 1 → ⊥) → IsGoal file index n t t
+    pub goal-arrow : (len : ℕ) → len ≡ word file (start - 4) → (len ≡ 1 → ⊥) → ReadsGoal file index n t t
     goal-arrow len el ne =
         record {
           goal = λ rs w k.
@@ -172,13 +172,13 @@ module _ {file index : List ℕ} {n t : ℕ} where
               by rs w k (type-shape (w .passed) (w .bytes) t (omega arith));
         }
       where
-        by : (rs : List Record) (w : Typed file index n rs) → t < n → Shape t (getD (payloads Kind.type rs) t []) → Goal rs n t (getD (typesOf rs) t (state 0))
+        by : (rs : List Record) (w : Listed file index n rs) → t < n → Shape t (getD (payloads Kind.type rs) t []) → Goal rs n t (getD (typesOf rs) t (state 0))
         by rs w k (a-state q e) = let l = length-there w t k start es in let m = ap length e in absurd (ne (omega arith))
         by rs w k (an-arrow r ms x y hr hms asc pairs) =
             let m = arrow-made w t r ms k x y in
             of-arrow (membersAt (typesOf rs) ms) (getD (typesOf rs) r (state 0)) k m m
 
-    pub goal-state : (len : ℕ) → len ≡ word file (start - 4) → len ≡ 1 → (q : ℕ) → q ≡ byte file start → IsGoal file index n t (n + q)
+    pub goal-state : (len : ℕ) → len ≡ word file (start - 4) → len ≡ 1 → (q : ℕ) → q ≡ byte file start → ReadsGoal file index n t (n + q)
     goal-state len el one q eq =
         record {
           goal = λ rs w k.
@@ -186,7 +186,7 @@ module _ {file index : List ℕ} {n t : ℕ} where
               by rs w k (type-shape (w .passed) (w .bytes) t (omega arith));
         }
       where
-        by : (rs : List Record) (w : Typed file index n rs) → t < n → Shape t (getD (payloads Kind.type rs) t []) → Goal rs n (n + q) (getD (typesOf rs) t (state 0))
+        by : (rs : List Record) (w : Listed file index n rs) → t < n → Shape t (getD (payloads Kind.type rs) t []) → Goal rs n (n + q) (getD (typesOf rs) t (state 0))
         by rs w k (a-state p e) =
             let l = length-there w t k start es in
             let f : byte file (start + 0) ≡ byte (getD (payloads Kind.type rs) t []) 0 = field-there w t k start es 1 0 (omega arith) in
@@ -197,18 +197,18 @@ module _ {file index : List ℕ} {n t : ℕ} where
             let l = length-there w t k start es in
             absurd (eqb-false (length (getD (payloads Kind.type rs) t [])) 1 x (omega arith))
 
--- the parts of an arrow
+-- the result of an arrow
 module _ {file index : List ℕ} {n g : ℕ} where
-  far-goal : {rs : List Record} → Typed file index n rs → n ≤ g → (a : Tys) (τ : Ty) → Goal rs n g (arrow a τ) → ⊥
+  far-goal : {rs : List Record} → Listed file index n rs → n ≤ g → (a : Tys) (τ : Ty) → Goal rs n g (arrow a τ) → ⊥
   far-goal w h a τ x = let i = arrow-record w g a τ x .inside in omega arith
 
-  pub result-many : 1024 < n → IsResult file index n g 65535
+  pub result-many : 1024 < n → ReadsResult file index n g 65535
   result-many h = record { result = λ rs w a τ x. absurd (omega (arith, w .few)) }
 
-  pub result-far : n ≤ g → IsResult file index n g 65535
+  pub result-far : n ≤ g → ReadsResult file index n g 65535
   result-far h = record { result = λ rs w a τ x. absurd (far-goal w h a τ x) }
 
-  pub result-there : (start : ℕ) → start ≡ getD index (1120 + g) 0 → (m r : ℕ) → m ≡ word file start → IsGoal file index n m r → IsResult file index n g r
+  pub result-there : (start : ℕ) → start ≡ getD index (1120 + g) 0 → (m r : ℕ) → m ≡ word file start → ReadsGoal file index n m r → ReadsResult file index n g r
   result-there start es m r em is =
       record {
         result = λ rs w a τ x.
@@ -218,47 +218,9 @@ module _ {file index : List ℕ} {n g : ℕ} where
             subst (Goal rs n r) (ap (λ i. getD (typesOf rs) i (state 0)) f ∙ k .result-is) (is .goal rs w (omega (arith, k .result-below)));
       }
 
-  pub members-many : 1024 < n → CountsMembers file index n g 0
-  members-many h = record { many = λ rs w a τ x. absurd (omega (arith, w .few)) }
-
-  pub members-far : n ≤ g → CountsMembers file index n g 0
-  members-far h = record { many = λ rs w a τ x. absurd (far-goal w h a τ x) }
-
-  module _ (start : ℕ) (es : start ≡ getD index (1120 + g) 0) where
-    pub members-none : start < 4 → CountsMembers file index n g 0
-    members-none h = record { many = λ rs w a τ x. let k = arrow-record w g a τ x in let b = start-there w g (k .inside) start es in absurd (omega arith) }
-
-    module _ (len : ℕ) (el : len ≡ word file (start - 4)) where
-      pub members-short : len < 2 → CountsMembers file index n g 0
-      members-short h = record { many = λ rs w a τ x. let k = arrow-record w g a τ x in let l = length-there w g (k .inside) start es in absurd (omega (arith, k .long)) }
-
-      pub members-there : CountsMembers file index n g ((len - 2) / 2)
-      members-there =
-          record {
-            many = λ rs w a τ x.
-                let k = arrow-record w g a τ x in
-                let l = length-there w g (k .inside) start es in
-                ap (λ y. (y - 2) / 2) (el ∙ l) ∙ sym (k .many);
-          }
-
-  pub member-many : {j : ℕ} → 1024 < n → IsMember file index n g j 65535
-  member-many h = record { member = λ rs w a τ x k. absurd (omega (arith, w .few)) }
-
-  pub member-far : {j : ℕ} → n ≤ g → IsMember file index n g j 65535
-  member-far h = record { member = λ rs w a τ x k. absurd (far-goal w h a τ x) }
-
-  pub member-past : {j : ℕ} → 15 < j → IsMember file index n g j 65535
-  member-past h = record { member = λ rs w a τ x i. let k = arrow-record w g a τ x in absurd (omega (arith, k .many, k .few-bytes)) }
-
-  pub member-there : {j : ℕ} (start : ℕ) → start ≡ getD index (1120 + g) 0 → (m r : ℕ) → m ≡ word file (start + 2 + j * 2) → IsGoal file index n m r → IsMember file index n g j r
-  member-there {j} start es m r em is =
-      record {
-        member = λ rs w a τ x i.
-            let k = arrow-record w g a τ x in
-            let z : start + 2 + j * 2 ≡ start + (2 + j * 2) = omega arith in
-            let f : m ≡ word (getD (payloads Kind.type rs) g []) (2 + j * 2) = em ∙ ap (word file) z ∙ field-there w g (k .inside) start es 2 (2 + j * 2) (omega (arith, k .many, k .long)) in
-            subst (Goal rs n r) (ap (λ y. getD (typesOf rs) y (state 0)) f ∙ k .member-is j i) (is .goal rs w (let b = k .member-below j i in omega arith));
-      }
+-- the records of types, with no tables
+pub listed : {file index : List ℕ} {n : ℕ} {rs : List Record} → Typed file index n rs → Listed file index n rs
+listed w = record { passed = w .passed; bytes = w .bytes; there = w .there; few = w .few }
 
 -- a goal's number is below 65,535
 pub goal-below : {rs : List Record} {n g : ℕ} {τ : Ty} → n ≤ 1024 → Goal rs n g τ → g < 65535
@@ -292,5 +254,27 @@ goals-same {rs = rs} w g h τ σ (of-arrow a r k x y) (of-arrow b s l u v) = go 
         by false f = refl
         by true f =
             let i = same→≡ τ σ (true→T f) in
-            let c = type-count w in
+            let c = type-count (listed w) in
             absurd (eqb-false g h e (types-distinct (w .passed) (w .bytes) g h (omega arith) (omega arith) (x ∙ sym y ∙ i ∙ v ∙ sym u)))
+
+-- the records before are among all
+pub fewer : (k : Kind) (xs ys : List Record) → count k xs ≤ count k (xs ++ ys)
+unfolding count ofKind
+fewer k xs ys =
+    let e = ap length (select-append (λ (r : Record). eqb (r .kind) (number k)) xs ys) ∙ length-append (ofKind k xs) (ofKind k ys) in
+    omega arith
+
+-- a binding's payload, and the numbers of its nonterminal and its type
+pub binding-there : {rs : List Record} → Passed rs → (j : ℕ) → j < length (payloads Kind.binding rs)
+    → (length (getD (payloads Kind.binding rs) j []) ≡ 4) × (word (getD (payloads Kind.binding rs) j []) 0 < count Kind.nonterminal rs) × (word (getD (payloads Kind.binding rs) j []) 2 < count Kind.type rs)
+unfolding wrongLength outOfRange
+binding-there {rs} ok j h =
+    let e = entry ok Kind.binding j h in
+    let p = e .payload in
+    let four = eqb-true (length p) 4 (not-false (eqb (length p) 4) (e .passed-tests .fits)) in
+    let named = or-false (leb (count Kind.nonterminal (e .earlier)) (word p 0)) (leb (count Kind.type (e .earlier)) (word p 2)) (e .passed-tests .ranges) in
+    let symbol = leb-false (count Kind.nonterminal (e .earlier)) (word p 0) (named .0) in
+    let below = leb-false (count Kind.type (e .earlier)) (word p 2) (named .1) in
+    let symbols = subst (λ l. count Kind.nonterminal (e .earlier) ≤ count Kind.nonterminal l) (e .together) (fewer Kind.nonterminal (e .earlier) (e .later)) in
+    let more = subst (λ l. count Kind.type (e .earlier) ≤ count Kind.type l) (e .together) (fewer Kind.type (e .earlier) (e .later)) in
+    subst (λ l. (length l ≡ 4) × (word l 0 < count Kind.nonterminal rs) × (word l 2 < count Kind.type rs)) (sym (e .here)) (four, omega arith, omega arith)

@@ -1,13 +1,15 @@
 // Types by number, as the goals of a check: of so many types, an arrow by its number, and a state by its number behind
-// those of the types.
+// those of the types. The index of a file has, behind its entries, the goal that each type is from number 4,450 on, the
+// result of each arrow from 5,474 on, and the type of each binding from 6,498 on.
 use entries::place_at;
+use enter::store;
 use records::byte_at;
 use records::word_at;
-ghost use Rattle.goals.specs.Goals.{IsGoal, IsResult, CountsMembers, IsMember};
+ghost use Rattle.goals.specs.Goals.{ReadsGoal, ReadsResult, FillsGoals, FillsOwns};
 
-// The goal that type t is.
-pub fn goal_of(file: &[u8], index: &[u16], types: usize, t: usize) -> usize
-    ensures { λ r. ⌜ IsGoal (now (file .entry)) (now (index .entry)) types t r ⌝ }
+// The goal that type t is, by its record.
+fn goal_at(file: &[u8], index: &[u16], types: usize, t: usize) -> usize
+    ensures { λ r. ⌜ ReadsGoal (now (file .entry)) (now (index .entry)) types t r ⌝ }
 {
     if 1024 < types {
         return t;
@@ -25,54 +27,49 @@ pub fn goal_of(file: &[u8], index: &[u16], types: usize, t: usize) -> usize
     types + byte_at(file, start)
 }
 
-// The result of an arrow, as a goal.
-pub fn result_of(file: &[u8], index: &[u16], types: usize, goal: usize) -> usize
-    ensures { λ r. ⌜ IsResult (now (file .entry)) (now (index .entry)) types goal r ⌝ }
+// The result of an arrow, as a goal, by its record.
+fn result_at(file: &[u8], index: &[u16], types: usize, t: usize) -> usize
+    ensures { λ r. ⌜ ReadsResult (now (file .entry)) (now (index .entry)) types t r ⌝ }
 {
     if 1024 < types {
         return 65535;
     }
-    if types <= goal {
+    if types <= t {
         return 65535;
     }
-    let payload = place_at(index, 1120 + goal);
-    goal_of(file, index, types, word_at(file, payload))
+    let payload = place_at(index, 1120 + t);
+    goal_at(file, index, types, word_at(file, payload))
 }
 
-// How many members an arrow has.
-pub fn members_of(file: &[u8], index: &[u16], types: usize, goal: usize) -> usize
-    ensures { λ r. ⌜ CountsMembers (now (file .entry)) (now (index .entry)) types goal r ⌝ }
+// Enters the goals that the types are and the results of the arrows.
+pub fn fill_goals(file: &[u8], index: &mut [u16], types: usize)
+    ensures { λ _. ⌜ FillsGoals (now (file .entry)) (now (index .entry)) types (now (index .exit)) ⌝ }
 {
     if 1024 < types {
-        return 0;
+        return;
     }
-    if types <= goal {
-        return 0;
+    let mut t: usize = 0;
+    while t < types {
+        let goal = goal_at(file, index, types, t);
+        let result = result_at(file, index, types, t);
+        store(index, 4450 + t, goal);
+        store(index, 5474 + t, result);
+        t = t + 1;
     }
-    let start = place_at(index, 1120 + goal);
-    if start < 4 {
-        return 0;
-    }
-    let len = word_at(file, start - 4);
-    if len < 2 {
-        return 0;
-    }
-    (len - 2) / 2
 }
 
-// Member j of an arrow, as a goal.
-pub fn member_of(file: &[u8], index: &[u16], types: usize, goal: usize, j: usize) -> usize
-    ensures { λ r. ⌜ IsMember (now (file .entry)) (now (index .entry)) types goal j r ⌝ }
+// Enters the types of the bindings, as goals.
+pub fn fill_owns(file: &[u8], index: &mut [u16], types: usize, bindings: usize)
+    ensures { λ _. ⌜ FillsOwns (now (file .entry)) (now (index .entry)) types bindings (now (index .exit)) ⌝ }
 {
-    if 1024 < types {
-        return 65535;
+    if 1024 < bindings {
+        return;
     }
-    if types <= goal {
-        return 65535;
+    let mut b: usize = 0;
+    while b < bindings {
+        let place = place_at(index, 2144 + b);
+        let own = goal_at(file, index, types, word_at(file, place + 2));
+        store(index, 6498 + b, own);
+        b = b + 1;
     }
-    if 15 < j {
-        return 65535;
-    }
-    let numbers = place_at(index, 1120 + goal);
-    goal_of(file, index, types, word_at(file, numbers + 2 + j * 2))
 }

@@ -29,7 +29,7 @@ module _ (file index : List ℕ) (n constructors c count goal : ℕ) (arity : �
         only = λ rs w σ x q l k e. absurd (let z = arity-is rs w in omega arith);
       }
 
-  module _ (end : ℕ) (o : TakesOff file index n goal (arity - count) end) where
+  module _ (end : ℕ) (o : TakesOff index n goal (arity - count) end) where
     -- what is left of the goal
     left : (rs : List Record) → Given file index n constructors rs → (σ : Ty) → Goal rs n goal σ → GoalIf rs n (off (arityIn rs c - count) σ) end
     left rs w σ x = subst (λ a. GoalIf rs n (off (a - count) σ) end) (arity-is rs w) (o .goal-off rs (w .typed) σ x)

@@ -20,7 +20,7 @@ pub fn state_at(
     if arity < count {
         return 65535;
     }
-    let end = off(file, index, types, goal, arity - count);
+    let end = off(index, types, goal, arity - count);
     if end < types {
         return 65535;
     }

@@ -61,17 +61,17 @@ module _ (x : Body) where
   n = x .test .types
 
   -- what is left of the arguments ts, whose head has type σ
-  pub record Left (rs : List Record) (τ : Ty) (ts : Terms) (σ ρ : Ty) (count : ℕ) (row : List ℕ) (at i j asked : ℕ) : Type 0 where
+  pub record Left (rs : List Record) (τ : Ty) (ts : Terms) (σ ρ : Ty) (count : ℕ) (byRow : Bool) (row : List ℕ) (at i j asked : ℕ) : Type 0 where
     pub others : Terms
     pub type : Ty
     pub there : AllAt (ns x) at others
     pub many : countᵗ others ≡ count - i
-    pub asks : HeadType rs n row i asked type
+    pub asks : HeadType rs n byRow row i asked type
     pub arrows : off (count - i) type ≡ some ρ
     pub answer : argsHave (hasIn x rs τ) ts σ ≡ argsFrom (hasIn x rs τ) j others type
 
   -- the first of them, with an arrow
-  record Opened (rs : List Record) (τ : Ty) (ts : Terms) (σ ρ : Ty) (count : ℕ) (row : List ℕ) (at i j asked : ℕ) : Type 0 where
+  record Opened (rs : List Record) (τ : Ty) (ts : Terms) (σ ρ : Ty) (count : ℕ) (byRow : Bool) (row : List ℕ) (at i j asked : ℕ) : Type 0 where
     first : Term
     others : Terms
     domain : Tys
@@ -79,18 +79,18 @@ module _ (x : Body) where
     here : At (ns x) at first
     there : AllAt (ns x) (at + nodes first) others
     many : countᵗ others ≡ count - suc i
-    asks : HeadType rs n row i asked (arrow domain result)
+    asks : HeadType rs n byRow row i asked (arrow domain result)
     arrows : off (count - suc i) result ≡ some ρ
     together : AllAt (ns x) at (first ∷ᵗ others)
     together-many : countᵗ (first ∷ᵗ others) ≡ count - i
     together-arrows : off (count - i) (arrow domain result) ≡ some ρ
     answer : argsHave (hasIn x rs τ) ts σ ≡ (all (λ m. hasIn x rs τ first m) (drop j (members domain)) && argsHave (hasIn x rs τ) others result)
 
-  opened : (rs : List Record) (τ : Ty) (ts : Terms) (σ ρ : Ty) (count : ℕ) (row : List ℕ) (at i j asked : ℕ) → i < count → Left rs τ ts σ ρ count row at i j asked → Opened rs τ ts σ ρ count row at i j asked
-  opened rs τ ts σ ρ count row at i j asked h l = go (l .others) (l .type) (count - i) refl (omega arith) (l .there) (l .many) (l .asks) (l .arrows) (l .answer)
+  opened : (rs : List Record) (τ : Ty) (ts : Terms) (σ ρ : Ty) (count : ℕ) (byRow : Bool) (row : List ℕ) (at i j asked : ℕ) → i < count → Left rs τ ts σ ρ count byRow row at i j asked → Opened rs τ ts σ ρ count byRow row at i j asked
+  opened rs τ ts σ ρ count byRow row at i j asked h l = go (l .others) (l .type) (count - i) refl (omega arith) (l .there) (l .many) (l .asks) (l .arrows) (l .answer)
     where
-      go : (us : Terms) (υ : Ty) (k : ℕ) → count - i ≡ k → suc (count - suc i) ≡ k → AllAt (ns x) at us → countᵗ us ≡ k → HeadType rs n row i asked υ → off k υ ≡ some ρ → argsHave (hasIn x rs τ) ts σ ≡ argsFrom (hasIn x rs τ) j us υ
-          → Opened rs τ ts σ ρ count row at i j asked
+      go : (us : Terms) (υ : Ty) (k : ℕ) → count - i ≡ k → suc (count - suc i) ≡ k → AllAt (ns x) at us → countᵗ us ≡ k → HeadType rs n byRow row i asked υ → off k υ ≡ some ρ → argsHave (hasIn x rs τ) ts σ ≡ argsFrom (hasIn x rs τ) j us υ
+          → Opened rs τ ts σ ρ count byRow row at i j asked
       go us υ zero y z al c t o e = absurd (omega arith)
       go []ᵗ υ (suc k) y z al c t o e = absurd (unfold countᵗ in omega arith)
       go (u ∷ᵗ us) (state q) (suc k) y z al c t o e = absurd (unfold off in let w : _≡_ {A = ℕ} 0 1 = cc in omega arith)
@@ -112,16 +112,16 @@ module _ (x : Body) where
           }
 
   -- while arguments are checked
-  pub record Args (memo₀ : List ℕ) (first count head : ℕ) (row memo : List ℕ) (at i j asked : ℕ) : Type 0 where
+  pub record Args (memo₀ : List ℕ) (first count : ℕ) (byRow : Bool) (head : ℕ) (row memo : List ℕ) (at i j asked : ℕ) : Type 0 where
     pub forward : first ≤ at
     pub few : j ≤ 16
     pub upTo : i ≤ count
     pub keeps : Keeps x memo₀ memo
-    pub rest : (rs : List Record) (τ : Ty) → Setting x rs τ → Remembers x rs τ memo₀ → (ts : Terms) → AllAt (ns x) first ts → countᵗ ts ≡ count → (σ ρ : Ty) → HeadType rs n row 0 head σ → off count σ ≡ some ρ
-        → Left rs τ ts σ ρ count row at i j asked
+    pub rest : (rs : List Record) (τ : Ty) → Setting x rs τ → Remembers x rs τ memo₀ → (ts : Terms) → AllAt (ns x) first ts → countᵗ ts ≡ count → (σ ρ : Ty) → HeadType rs n byRow row 0 head σ → off count σ ≡ some ρ
+        → Left rs τ ts σ ρ count byRow row at i j asked
 
-  pub args-start : (memo : List ℕ) (first count head : ℕ) (row : List ℕ) → Args memo first count head row memo first 0 0 head
-  args-start memo first count head row =
+  pub args-start : (memo : List ℕ) (first count : ℕ) (byRow : Bool) (head : ℕ) (row : List ℕ) → Args memo first count byRow head row memo first 0 0 head
+  args-start memo first count byRow head row =
       record {
         forward = omega arith;
         few = omega arith;
@@ -131,9 +131,9 @@ module _ (x : Body) where
             record { others = ts; type = σ; there = al; many = omega arith; asks = t; arrows = (let z : count - 0 ≡ count = omega arith in ap (λ k. off k σ) z ∙ o); answer = args-whole (hasIn x rs τ) ts σ };
       }
 
-  module _ {memo₀ : List ℕ} {first count head : ℕ} {row memo : List ℕ} {at i j asked : ℕ} (w : Args memo₀ first count head row memo at i j asked) where
+  module _ {memo₀ : List ℕ} {first count : ℕ} {byRow : Bool} {head : ℕ} {row memo : List ℕ} {at i j asked : ℕ} (w : Args memo₀ first count byRow head row memo at i j asked) where
     -- all arguments have what they must
-    pub args-end : count ≤ i → ChecksArgs x memo₀ first count head row memo true
+    pub args-end : count ≤ i → ChecksArgs x memo₀ first count byRow head row memo true
     args-end h =
         record {
           keeps = w .keeps;
@@ -146,12 +146,22 @@ module _ (x : Body) where
         none-left f j []ᵗ υ e = unfold argsFrom in refl
         none-left f j (u ∷ᵗ us) υ e = absurd (unfold countᵗ in omega arith)
 
-    module _ (h : i < count) (member : ℕ) (wants : Wants (x .file) (x .index) n asked row i j member) where
+    -- the head's type has no arrow for it
+    pub args-past : (h : i < count) → ((rs : List Record) → Typed (x .file) (x .index) n rs → (a : Tys) (r : Ty) → HeadType rs n byRow row i asked (arrow a r) → ⊥) → ChecksArgs x memo₀ first count byRow head row memo false
+    args-past h far =
+        record {
+          keeps = w .keeps;
+          answer = λ rs τ s r ts al c σ ρ t o.
+              let p = opened rs τ ts σ ρ count byRow row at i j asked h (w .rest rs τ s r ts al c σ ρ t o) in
+              absurd (far rs (s .given .typed) (p .domain) (p .result) (p .asks));
+        }
+
+    module _ (h : i < count) (member : ℕ) (wants : Wants (x .file) (x .index) n byRow asked row i j member) where
       abbrev OpenedBy : List Record → Ty → Terms → Ty → Ty → Type 0
-      OpenedBy rs τ ts σ ρ = Opened rs τ ts σ ρ count row at i j asked
+      OpenedBy rs τ ts σ ρ = Opened rs τ ts σ ρ count byRow row at i j asked
 
       -- a member that is there has a number, and behind the last there is none
-      member-there : (rs : List Record) → Typed (x .file) (x .index) n rs → (a : Tys) (r : Ty) → HeadType rs n row i asked (arrow a r) → j < length (members a) → member < 65535
+      member-there : (rs : List Record) → Typed (x .file) (x .index) n rs → (a : Tys) (r : Ty) → HeadType rs n byRow row i asked (arrow a r) → j < length (members a) → member < 65535
       member-there rs ty a r t l = goal-below (ty .few) (wants .member rs ty a r t l)
 
       -- where an argument ends
@@ -159,19 +169,19 @@ module _ (x : Body) where
       next-is rs τ s u a = s .ends-are at (at-inside (x .body) at u a) ∙ ap (λ z. at + nodes z) (term-at (ns x) at u a)
 
       -- the node behind the argument does not follow
-      pub args-stuck : (next : ℕ) → next ≡ getD (x .ends) at 0 → next ≤ at → ChecksArgs x memo₀ first count head row memo false
+      pub args-stuck : (next : ℕ) → next ≡ getD (x .ends) at 0 → next ≤ at → ChecksArgs x memo₀ first count byRow head row memo false
       args-stuck next e b =
           record {
             keeps = w .keeps;
             answer = λ rs τ s r ts al c σ ρ t o.
-                let p = opened rs τ ts σ ρ count row at i j asked h (w .rest rs τ s r ts al c σ ρ t o) in
+                let p = opened rs τ ts σ ρ count byRow row at i j asked h (w .rest rs τ s r ts al c σ ρ t o) in
                 let z = next-is rs τ s (p .first) (p .here) in
                 let y = nodes-some (p .first) in
                 absurd (omega arith);
           }
 
       -- behind the last member comes the next argument
-      pub args-next : member ≡ 65535 → (next i′ asked′ : ℕ) → next ≡ getD (x .ends) at 0 → at < next → Follows (x .file) (x .index) n asked asked′ → i′ ≡ suc i → Args memo₀ first count head row memo next i′ 0 asked′
+      pub args-next : member ≡ 65535 → (next i′ asked′ : ℕ) → next ≡ getD (x .ends) at 0 → at < next → Follows (x .index) n byRow asked asked′ → i′ ≡ suc i → Args memo₀ first count byRow head row memo next i′ 0 asked′
       args-next em next i′ asked′ en b f ei =
           record {
             forward = omega (arith, w .forward);
@@ -179,7 +189,7 @@ module _ (x : Body) where
             upTo = omega arith;
             keeps = w .keeps;
             rest = λ rs τ s r ts al c σ ρ t o.
-                let p = opened rs τ ts σ ρ count row at i j asked h (w .rest rs τ s r ts al c σ ρ t o) in
+                let p = opened rs τ ts σ ρ count byRow row at i j asked h (w .rest rs τ s r ts al c σ ρ t o) in
                 let ty = s .given .typed in
                 let z : next ≡ at + nodes (p .first) = en ∙ next-is rs τ s (p .first) (p .here) in
                 let si : suc i ≡ i′ = sym ei in
@@ -188,7 +198,7 @@ module _ (x : Body) where
                   type = p .result;
                   there = subst (λ k. AllAt (ns x) k (p .others)) (sym z) (p .there);
                   many = p .many ∙ ap (λ k. count - k) si;
-                  asks = subst (λ k. HeadType rs n row k asked′ (p .result)) si (f .next rs ty row i (p .domain) (p .result) (p .asks));
+                  asks = subst (λ k. HeadType rs n byRow row k asked′ (p .result)) si (f .next rs ty row i (p .domain) (p .result) (p .asks));
                   arrows = ap (λ k. off (count - k) (p .result)) (sym si) ∙ p .arrows;
                   answer = p .answer ∙ passed (hasIn x rs τ) (p .first) (p .others) (p .domain) (p .result) (decLt j (length (members (p .domain)))) (member-there rs ty (p .domain) (p .result) (p .asks)) ∙ args-whole (hasIn x rs τ) (p .others) (p .result);
                 };
@@ -212,18 +222,18 @@ module _ (x : Body) where
             ∙ ap (λ z. z && all (λ m. f m) (drop (suc j) (members (p .domain))) && argsHave (hasIn x rs τ) (p .others) (p .result)) (sym here)
 
         -- it lacks the member
-        pub args-lacks : b ≡ false → ChecksArgs x memo₀ first count head row memo′ false
+        pub args-lacks : b ≡ false → ChecksArgs x memo₀ first count byRow head row memo′ false
         args-lacks e =
             record {
               keeps = keeps-on (w .keeps) (told .keeps);
               answer = λ rs τ s r ts al c σ ρ t o.
-                  let p = opened rs τ ts σ ρ count row at i j asked h (w .rest rs τ s r ts al c σ ρ t o) in
+                  let p = opened rs τ ts σ ρ count byRow row at i j asked h (w .rest rs τ s r ts al c σ ρ t o) in
                   let rest = all (λ m. hasIn x rs τ (p .first) m) (drop (suc j) (members (p .domain))) in
                   sym (told-is rs τ s r ts σ ρ p (decLt j (length (members (p .domain)))) ∙ ap (λ z. z && rest && argsHave (hasIn x rs τ) (p .others) (p .result)) e);
             }
 
         -- it has the member
-        pub args-has : b ≡ true → (j′ : ℕ) → j′ ≡ suc j → Args memo₀ first count head row memo′ at i j′ asked
+        pub args-has : b ≡ true → (j′ : ℕ) → j′ ≡ suc j → Args memo₀ first count byRow head row memo′ at i j′ asked
         args-has e j′ ej =
             record {
               forward = w .forward;
@@ -231,7 +241,7 @@ module _ (x : Body) where
               upTo = w .upTo;
               keeps = keeps-on (w .keeps) (told .keeps);
               rest = λ rs τ s r ts al c σ ρ t o.
-                  let p = opened rs τ ts σ ρ count row at i j asked h (w .rest rs τ s r ts al c σ ρ t o) in
+                  let p = opened rs τ ts σ ρ count byRow row at i j asked h (w .rest rs τ s r ts al c σ ρ t o) in
                   let l = w .rest rs τ s r ts al c σ ρ t o in
                   let f = hasIn x rs τ in
                   let more = argsHave f (p .others) (p .result) in

@@ -8,7 +8,7 @@ use mathlib.Core.Option.{Option, none, some}
 use lib.Dec.{eqb}
 use lib.ListN.{length}
 use Rattle.scheme.specs.Lists.{found, any}
-use Rattle.scheme.specs.Terms.{Head, node, Terms, countᵗ}
+use Rattle.scheme.specs.Terms.{Head, node, Terms, []ᵗ, _∷ᵗ_, countᵗ}
 use Rattle.scheme.specs.Types.{Ty, same, domains}
 use Rattle.scheme.specs.Typing.{headTypes, has, leads}
 use Rattle.scheme.specs.Flags.{chosen}
@@ -28,9 +28,10 @@ use Rattle.candidates.specs.Candidates.{headIs, anyIn, candidateTy, Spans, Foun
 use Rattle.candidates.specs.Candidates as candidates
 use Rattle.candidates.specs.declared.Span.{Span}
 use Rattle.candidates.proofs.Numbers.{anyIn-step, anyIn-end}
+use Rattle.bare_heads.specs.Bare.{HasBare}
 use Rattle.term_check.specs.Checking.{AllAt, Body, ns, Setting, hasIn, Remembers, Keeps, ChecksTerm, ChecksArgs}
 use Rattle.term_check.proofs.Arguments.{keeps-all, keeps-on}
-use Rattle.term_check.proofs.Heads.{by-head, tag-other}
+use Rattle.term_check.proofs.Heads.{by-head, group-there}
 
 -- a type that is not the goal with its arrows off leads nowhere
 misses : (heads : Head → List Ty) (ts : Terms) (σ : Ty) (o : Option Ty) → found o (λ υ. restIs ts υ σ) ≡ false → found o (λ υ. leads same heads ts υ σ) ≡ false
@@ -42,8 +43,25 @@ or-left : (a b : Bool) → a ≡ true → (a || b) ≡ true
 or-left true b e = refl
 or-left false b e = let z : _≡_ {A = ℕ} 0 1 = cc in absurd (omega arith)
 
+-- A head that stands alone.
+bare-is : (heads : Head → List Ty) (h : Head) (ts : Terms) (σ : Ty) → countᵗ ts ≡ 0 → any (λ υ. same υ σ) (heads h) ≡ has same heads (node h ts) σ
+unfolding has leads countᵗ
+bare-is heads h []ᵗ σ e = refl
+bare-is heads h (t ∷ᵗ ts) σ e = absurd (omega arith)
+
+pub bare-checked : (x : Body) (memo : List ℕ) (i goal : ℕ) (nonterminal : Bool) (number count : ℕ) → ((rs : List Record) (τ : Ty) → Setting x rs τ → headOf (cellAt (x .body) i) ≡ headIs nonterminal number)
+    → count ≡ field 1 (x .body) (i * 4 + 3) → count ≡ 0 → i < length (x .body) / 4
+    → (r : Bool) → HasBare (x .file) (x .index) (x .test .types) (x .groups) (x .kept) (x .test .own) nonterminal number goal r → ChecksTerm x memo i goal memo r
+bare-checked x memo i goal nonterminal number count is-head is-count none-there inside r is =
+    record {
+      keeps = keeps-all x memo;
+      answer = λ rs τ s re. by-head x i count is-count (headIs nonterminal number) (is-head rs τ s) rs τ goal r (λ ts al c σ g.
+          is .answer rs (kinds.count Kind.binding rs) (s .given .typed) (s .bindings-there) (s .bindings-few) (s .grouped) (group-there x i nonterminal number inside rs τ s (is-head rs τ s)) (automatonOf rs) τ σ (s .own-type) g
+          ∙ bare-is (headTypes (automatonOf rs) (chosen (x .kept) (bindingsOf rs)) (domains τ)) (headIs nonterminal number) ts σ (omega arith));
+    }
+
 -- The types of a head that has several, over numbers j.
-module _ (x : Body) (i goal tag number count : ℕ) (span : Span) where
+module _ (x : Body) (i goal : ℕ) (nonterminal : Bool) (number count : ℕ) (span : Span) where
   abbrev n : ℕ
   n = x .test .types
 
@@ -52,57 +70,53 @@ module _ (x : Body) (i goal tag number count : ℕ) (span : Span) where
 
   -- what type number j of the head gives
   abbrev gives : List Record → Ty → Terms → Ty → ℕ → Bool
-  gives rs τ ts σ j = found (candidateTy rs (x .kept) τ (eqb tag 1) number j) (λ υ. leads same (heads rs τ) ts υ σ)
+  gives rs τ ts σ j = found (candidateTy rs (x .kept) τ nonterminal number j) (λ υ. leads same (heads rs τ) ts υ σ)
 
   -- while types are tried: those before number j lead nowhere
   pub record Tried (memo₀ memo : List ℕ) (j : ℕ) : Type 0 where
     pub keeps : Keeps x memo₀ memo
-    pub rest : (rs : List Record) (τ : Ty) → Setting x rs τ → Remembers x rs τ memo₀ → (ts : Terms) → AllAt (ns x) (suc i) ts → countᵗ ts ≡ count → (σ : Ty) → Goal rs n goal σ
-        → hasIn x rs τ (node (headIs (eqb tag 1) number) ts) σ ≡ anyIn (span .high - j) j (gives rs τ ts σ)
+    pub rest : (rs : List Record) (τ : Ty) → Setting x rs τ → headOf (cellAt (x .body) i) ≡ headIs nonterminal number → Remembers x rs τ memo₀ → (ts : Terms) → AllAt (ns x) (suc i) ts → countᵗ ts ≡ count → (σ : Ty) → Goal rs n goal σ
+        → hasIn x rs τ (node (headIs nonterminal number) ts) σ ≡ anyIn (span .high - j) j (gives rs τ ts σ)
 
-  module _ (is-tag : tag ≡ field 1 (x .body) (i * 4)) (is-number : number ≡ field 2 (x .body) (i * 4 + 1)) (is-count : count ≡ field 1 (x .body) (i * 4 + 3)) (other : tag ≡ 0 → ⊥) (inside : i < length (x .body) / 4)
-      (spans : Spans (x .file) (x .index) (x .test .types) (x .groups) (x .test .own) (eqb tag 1) number span) where
-    head-is : (rs : List Record) (τ : Ty) → Setting x rs τ → headOf (cellAt (x .body) i) ≡ headIs (eqb tag 1) number
-    unfolding field
-    head-is rs τ s = tag-other (x .body) i tag number is-tag is-number other (let t = s .tags i inside in omega arith)
+  -- the head of the node
+  abbrev HeadHere : Type 0
+  HeadHere = (rs : List Record) (τ : Ty) → Setting x rs τ → headOf (cellAt (x .body) i) ≡ headIs nonterminal number
 
-    few-groups : (rs : List Record) (τ : Ty) → Setting x rs τ → eqb tag 1 ≡ true → suc number < length (x .groups)
-    unfolding headIs
-    few-groups rs τ s e =
-        let l = s .named i number inside (head-is rs τ s ∙ ap (λ b. headIs b number) e) in
-        let g = s .groups-long in
-        omega arith
+  module _ (is-count : count ≡ field 1 (x .body) (i * 4 + 3)) (inside : i < length (x .body) / 4)
+      (spans : Spans (x .file) (x .index) (x .test .types) (x .groups) (x .test .own) nonterminal number span) where
+    few-groups : (rs : List Record) (τ : Ty) → Setting x rs τ → headOf (cellAt (x .body) i) ≡ headIs nonterminal number → nonterminal ≡ true → suc number < length (x .groups)
+    few-groups rs τ s = group-there x i nonterminal number inside rs τ s
 
     pub tried-start : (memo : List ℕ) (j : ℕ) → j ≡ span .low → Tried memo memo j
     tried-start memo j ej =
         record {
           keeps = keeps-all x memo;
-          rest = λ rs τ s r ts al c σ g.
-              head-has (heads rs τ) ts σ ∙ spans .any-in rs (kinds.count Kind.binding rs) (s .given .typed) (s .bindings-there) (s .bindings-few) (s .grouped) (few-groups rs τ s) (x .kept) τ (s .own-type) (automatonOf rs) (λ υ. leads same (heads rs τ) ts υ σ)
+          rest = λ rs τ s ih r ts al c σ g.
+              head-has (heads rs τ) ts σ ∙ spans .any-in rs (kinds.count Kind.binding rs) (s .given .typed) (s .bindings-there) (s .bindings-few) (s .grouped) (few-groups rs τ s ih) (x .kept) τ (s .own-type) (automatonOf rs) (λ υ. leads same (heads rs τ) ts υ σ)
               ∙ ap (λ k. anyIn (span .high - k) k (gives rs τ ts σ)) (sym ej);
         }
       where
-        head-has : (hs : Head → List Ty) (ts : Terms) (σ : Ty) → has same hs (node (headIs (eqb tag 1) number) ts) σ ≡ any (λ υ. leads same hs ts υ σ) (hs (headIs (eqb tag 1) number))
+        head-has : (hs : Head → List Ty) (ts : Terms) (σ : Ty) → has same hs (node (headIs nonterminal number) ts) σ ≡ any (λ υ. leads same hs ts υ σ) (hs (headIs nonterminal number))
         head-has hs ts σ = unfold has in refl
 
     -- an answer for the head and the arguments is one for the term
-    pub tried-answer : (memo₀ after : List ℕ) (b : Bool) → Keeps x memo₀ after
-        → ((rs : List Record) (τ : Ty) → Setting x rs τ → Remembers x rs τ memo₀ → (ts : Terms) → AllAt (ns x) (suc i) ts → countᵗ ts ≡ count → (σ : Ty) → Goal rs n goal σ → b ≡ hasIn x rs τ (node (headIs (eqb tag 1) number) ts) σ)
+    tried-answer : HeadHere → (memo₀ after : List ℕ) (b : Bool) → Keeps x memo₀ after
+        → ((rs : List Record) (τ : Ty) → Setting x rs τ → headOf (cellAt (x .body) i) ≡ headIs nonterminal number → Remembers x rs τ memo₀ → (ts : Terms) → AllAt (ns x) (suc i) ts → countᵗ ts ≡ count → (σ : Ty) → Goal rs n goal σ → b ≡ hasIn x rs τ (node (headIs nonterminal number) ts) σ)
         → ChecksTerm x memo₀ i goal after b
-    tried-answer memo₀ after b k f = record { keeps = k; answer = λ rs τ s r. by-head x i count is-count (headIs (eqb tag 1) number) (head-is rs τ s) rs τ goal b (f rs τ s r) }
+    tried-answer is-head memo₀ after b k f = record { keeps = k; answer = λ rs τ s r. by-head x i count is-count (headIs nonterminal number) (is-head rs τ s) rs τ goal b (f rs τ s (is-head rs τ s) r) }
 
     module _ {memo₀ memo : List ℕ} {j : ℕ} (w : Tried memo₀ memo j) where
       -- none leads to the goal
-      pub tried-end : span .high ≤ j → ChecksTerm x memo₀ i goal memo false
-      tried-end h = tried-answer memo₀ memo false (w .keeps) (λ rs τ s r ts al c σ g. sym (w .rest rs τ s r ts al c σ g ∙ anyIn-end (span .high) j (gives rs τ ts σ) h))
+      pub tried-end : HeadHere → span .high ≤ j → ChecksTerm x memo₀ i goal memo false
+      tried-end is-head h = tried-answer is-head memo₀ memo false (w .keeps) (λ rs τ s ih r ts al c σ g. sym (w .rest rs τ s ih r ts al c σ g ∙ anyIn-end (span .high) j (gives rs τ ts σ) h))
 
-      module _ (l : j < span .high) (head : ℕ) (cand : Candidates (x .file) (x .index) n (x .kept) (eqb tag 1) (span .given) j count goal head) where
-        found-here : (rs : List Record) (τ : Ty) → Setting x rs τ → (σ : Ty) → Goal rs n goal σ → Found rs n (candidateTy rs (x .kept) τ (eqb tag 1) number j) count σ head
-        found-here rs τ s σ g = go (eqb tag 1) refl
+      module _ (l : j < span .high) (head : ℕ) (cand : Candidates (x .file) (x .index) n (x .kept) nonterminal (span .given) j count goal head) where
+        found-here : (rs : List Record) (τ : Ty) → Setting x rs τ → headOf (cellAt (x .body) i) ≡ headIs nonterminal number → (σ : Ty) → Goal rs n goal σ → Found rs n (candidateTy rs (x .kept) τ nonterminal number j) count σ head
+        found-here rs τ s ih σ g = go nonterminal refl
           where
-            go : (b : Bool) → eqb tag 1 ≡ b → Found rs n (candidateTy rs (x .kept) τ (eqb tag 1) number j) count σ head
+            go : (b : Bool) → nonterminal ≡ b → Found rs n (candidateTy rs (x .kept) τ nonterminal number j) count σ head
             go true e =
-                let high = spans .bindings-in rs (kinds.count Kind.binding rs) (s .grouped) (few-groups rs τ s e) e in
+                let high = spans .bindings-in rs (kinds.count Kind.binding rs) (s .grouped) (few-groups rs τ s ih e) e in
                 subst (λ b. Found rs n (candidateTy rs (x .kept) τ b number j) count σ head) (sym e)
                 (cand .of-binding rs (kinds.count Kind.binding rs) (s .given .typed) (s .bindings-there) (s .bindings-few) e (omega arith) τ number σ g)
             go false e =
@@ -112,44 +126,44 @@ module _ (x : Body) (i goal tag number count : ℕ) (span : Span) where
 
         -- type number j leads nowhere
         pass-by : (after : List ℕ) → Keeps x memo₀ after → (j′ : ℕ) → j′ ≡ suc j
-            → ((rs : List Record) (τ : Ty) → Setting x rs τ → Remembers x rs τ memo₀ → (ts : Terms) → AllAt (ns x) (suc i) ts → countᵗ ts ≡ count → (σ : Ty) → Goal rs n goal σ → gives rs τ ts σ j ≡ false)
+            → ((rs : List Record) (τ : Ty) → Setting x rs τ → headOf (cellAt (x .body) i) ≡ headIs nonterminal number → Remembers x rs τ memo₀ → (ts : Terms) → AllAt (ns x) (suc i) ts → countᵗ ts ≡ count → (σ : Ty) → Goal rs n goal σ → gives rs τ ts σ j ≡ false)
             → Tried memo₀ after j′
         pass-by after k j′ ej f =
             record {
               keeps = k;
-              rest = λ rs τ s r ts al c σ g.
-                  w .rest rs τ s r ts al c σ g ∙ anyIn-step (span .high) j (gives rs τ ts σ) l ∙ ap (λ b. b || anyIn (span .high - suc j) (suc j) (gives rs τ ts σ)) (f rs τ s r ts al c σ g)
+              rest = λ rs τ s ih r ts al c σ g.
+                  w .rest rs τ s ih r ts al c σ g ∙ anyIn-step (span .high) j (gives rs τ ts σ) l ∙ ap (λ b. b || anyIn (span .high - suc j) (suc j) (gives rs τ ts σ)) (f rs τ s ih r ts al c σ g)
                   ∙ ap (λ m. anyIn (span .high - m) m (gives rs τ ts σ)) (sym ej);
             }
 
         pub tried-miss : head ≡ 65535 → (j′ : ℕ) → j′ ≡ suc j → Tried memo₀ memo j′
-        tried-miss e j′ ej = pass-by memo (w .keeps) j′ ej (λ rs τ s r ts al c σ g. go rs τ s ts c σ (found-here rs τ s σ g))
+        tried-miss e j′ ej = pass-by memo (w .keeps) j′ ej (λ rs τ s ih r ts al c σ g. go rs τ s ts c σ (found-here rs τ s ih σ g))
           where
-            go : (rs : List Record) (τ : Ty) → Setting x rs τ → (ts : Terms) → countᵗ ts ≡ count → (σ : Ty) → Found rs n (candidateTy rs (x .kept) τ (eqb tag 1) number j) count σ head → gives rs τ ts σ j ≡ false
+            go : (rs : List Record) (τ : Ty) → Setting x rs τ → (ts : Terms) → countᵗ ts ≡ count → (σ : Ty) → Found rs n (candidateTy rs (x .kept) τ nonterminal number j) count σ head → gives rs τ ts σ j ≡ false
             go rs τ s ts c σ (candidates.leads υ o is f) = absurd (let z = goal-below (s .given .typed .few) is in omega arith)
             go rs τ s ts c σ (candidates.fails z f) =
-                misses (heads rs τ) ts σ (candidateTy rs (x .kept) τ (eqb tag 1) number j)
-                (ap (λ m. found (candidateTy rs (x .kept) τ (eqb tag 1) number j) (λ υ. found (off m υ) (λ ρ. same ρ σ))) c ∙ f)
+                misses (heads rs τ) ts σ (candidateTy rs (x .kept) τ nonterminal number j)
+                (ap (λ m. found (candidateTy rs (x .kept) τ nonterminal number j) (λ υ. found (off m υ) (λ ρ. same ρ σ))) c ∙ f)
 
         -- the arguments decide whether it leads to the goal
-        module _ (ne : head ≡ 65535 → ⊥) (first : ℕ) (ef : first ≡ suc i) (row after : List ℕ) (b : Bool) (told : ChecksArgs x memo first count head row after b) where
-          gives-is : (rs : List Record) (τ : Ty) → Setting x rs τ → Remembers x rs τ memo₀ → (ts : Terms) → AllAt (ns x) (suc i) ts → countᵗ ts ≡ count → (σ : Ty) → Goal rs n goal σ → gives rs τ ts σ j ≡ b
+        module _ (ne : head ≡ 65535 → ⊥) (first : ℕ) (ef : first ≡ suc i) (row after : List ℕ) (b : Bool) (told : ChecksArgs x memo first count false head row after b) where
+          gives-is : (rs : List Record) (τ : Ty) → Setting x rs τ → headOf (cellAt (x .body) i) ≡ headIs nonterminal number → Remembers x rs τ memo₀ → (ts : Terms) → AllAt (ns x) (suc i) ts → countᵗ ts ≡ count → (σ : Ty) → Goal rs n goal σ → gives rs τ ts σ j ≡ b
           unfolding found
-          gives-is rs τ s r ts al c σ g = go (found-here rs τ s σ g)
+          gives-is rs τ s ih r ts al c σ g = go (found-here rs τ s ih σ g)
             where
-              go : Found rs n (candidateTy rs (x .kept) τ (eqb tag 1) number j) count σ head → gives rs τ ts σ j ≡ b
+              go : Found rs n (candidateTy rs (x .kept) τ nonterminal number j) count σ head → gives rs τ ts σ j ≡ b
               go (candidates.fails z f) = absurd (ne z)
               go (candidates.leads υ o is f) =
                   let rest : restIs ts υ σ ≡ true = ap (λ m. found (off m υ) (λ ρ. same ρ σ)) c ∙ f in
                   let (ρ, arrows, same-there) = found-out (off count υ) (λ ρ. same ρ σ) (true→T f) in
                   ap (λ z. found z (λ υ. leads same (heads rs τ) ts υ σ)) o
                   ∙ leads-is (heads rs τ) ts υ σ rest
-                  ∙ sym (told .answer rs τ s (w .keeps .remembers rs τ s r) ts (subst (λ k. AllAt (ns x) k ts) (sym ef) al) c υ ρ (listed is) arrows)
+                  ∙ sym (told .answer rs τ s (w .keeps .remembers rs τ s r) ts (subst (λ k. AllAt (ns x) k ts) (sym ef) al) c υ ρ (listed refl is) arrows)
 
           pub tried-fails : b ≡ false → (j′ : ℕ) → j′ ≡ suc j → Tried memo₀ after j′
-          tried-fails e j′ ej = pass-by after (keeps-on (w .keeps) (told .keeps)) j′ ej (λ rs τ s r ts al c σ g. gives-is rs τ s r ts al c σ g ∙ e)
+          tried-fails e j′ ej = pass-by after (keeps-on (w .keeps) (told .keeps)) j′ ej (λ rs τ s ih r ts al c σ g. gives-is rs τ s ih r ts al c σ g ∙ e)
 
-          pub tried-leads : b ≡ true → ChecksTerm x memo₀ i goal after true
-          tried-leads e =
-              tried-answer memo₀ after true (keeps-on (w .keeps) (told .keeps)) (λ rs τ s r ts al c σ g.
-              sym (w .rest rs τ s r ts al c σ g ∙ anyIn-step (span .high) j (gives rs τ ts σ) l ∙ or-left (gives rs τ ts σ j) (anyIn (span .high - suc j) (suc j) (gives rs τ ts σ)) (gives-is rs τ s r ts al c σ g ∙ e)))
+          pub tried-leads : HeadHere → b ≡ true → ChecksTerm x memo₀ i goal after true
+          tried-leads is-head e =
+              tried-answer is-head memo₀ after true (keeps-on (w .keeps) (told .keeps)) (λ rs τ s ih r ts al c σ g.
+              sym (w .rest rs τ s ih r ts al c σ g ∙ anyIn-step (span .high) j (gives rs τ ts σ) l ∙ or-left (gives rs τ ts σ j) (anyIn (span .high - suc j) (suc j) (gives rs τ ts σ)) (gives-is rs τ s ih r ts al c σ g ∙ e)))

@@ -160,12 +160,12 @@ module _ (x : Body) (rs : List Record) (τ : Ty) (s : Setting x rs τ) (c : ℕ)
 
     -- they give it: the arguments decide
     pub row-leads : length row ≡ 4 → found (targets q c) (λ qs. same (takes (drop (countᵗ ts) qs) q) σ) ≡ true
-        → (υ ρ : Ty) × HeadType rs (x .test .types) row 0 65535 υ × (off (countᵗ ts) υ ≡ some ρ) × (argsHave (has same heads) ts υ ≡ hasIn x rs τ (node (con c) ts) σ)
+        → (υ ρ : Ty) × HeadType rs (x .test .types) true row 0 0 υ × (off (countᵗ ts) υ ≡ some ρ) × (argsHave (has same heads) ts υ ≡ hasIn x rs τ (node (con c) ts) σ)
     unfolding found
     row-leads four e = go (targets q c) refl e
       where
         go : (o : Option (List ℕ)) → targets q c ≡ o → found o (λ qs. same (takes (drop (countᵗ ts) qs) q) σ) ≡ true
-            → (υ ρ : Ty) × HeadType rs (x .test .types) row 0 65535 υ × (off (countᵗ ts) υ ≡ some ρ) × (argsHave (has same heads) ts υ ≡ hasIn x rs τ (node (con c) ts) σ)
+            → (υ ρ : Ty) × HeadType rs (x .test .types) true row 0 0 υ × (off (countᵗ ts) υ ≡ some ρ) × (argsHave (has same heads) ts υ ≡ hasIn x rs τ (node (con c) ts) σ)
         go none f e = let z : _≡_ {A = ℕ} 0 1 = cc in absurd (omega arith)
         go (some qs) f e =
             let (inside, size, small) = state-known q qs f in
@@ -193,6 +193,19 @@ module _ (p : List ℕ) (i tag number : ℕ) (is-tag : tag ≡ field 1 p (i * 4)
       go (suc zero) e n l = ap (λ t. getD (con (field 2 p (i * 4 + 1)) ∷ nt (field 2 p (i * 4 + 1)) ∷ []) t (par (field 2 p (i * 4 + 1)))) (sym e) ∙ ap nt (sym is-number)
       go (suc (suc zero)) e n l = ap (λ t. getD (con (field 2 p (i * 4 + 1)) ∷ nt (field 2 p (i * 4 + 1)) ∷ []) t (par (field 2 p (i * 4 + 1)))) (sym e) ∙ ap par (sym is-number)
       go (suc (suc (suc t))) e n l = absurd (omega arith)
+
+-- the head of a node that has no constructor, and the group of its bindings
+module _ (x : Body) (i : ℕ) where
+  pub other-head : (tag number : ℕ) → tag ≡ field 1 (x .body) (i * 4) → number ≡ field 2 (x .body) (i * 4 + 1) → (tag ≡ 0 → ⊥) → i < length (x .body) / 4 → (rs : List Record) (τ : Ty) → Setting x rs τ → headOf (cellAt (x .body) i) ≡ headIs (eqb tag 1) number
+  unfolding field
+  other-head tag number is-tag is-number other inside rs τ s = tag-other (x .body) i tag number is-tag is-number other (let t = s .tags i inside in omega arith)
+
+  pub group-there : (nonterminal : Bool) (number : ℕ) → i < length (x .body) / 4 → (rs : List Record) (τ : Ty) → Setting x rs τ → headOf (cellAt (x .body) i) ≡ headIs nonterminal number → nonterminal ≡ true → suc number < length (x .groups)
+  unfolding headIs
+  group-there nonterminal number inside rs τ s is e =
+      let l = s .named i number inside (is ∙ ap (λ b. headIs b number) e) in
+      let g = s .groups-long in
+      omega arith
 
 -- The check at a constructor.
 module _ (x : Body) (memo : List ℕ) (i goal tag number count : ℕ) (is-tag : tag ≡ field 1 (x .body) (i * 4)) (is-number : number ≡ field 2 (x .body) (i * 4 + 1)) (is-count : count ≡ field 1 (x .body) (i * 4 + 3)) (con-there : tag ≡ 0) where
@@ -244,7 +257,7 @@ module _ (x : Body) (memo : List ℕ) (i goal tag number count : ℕ) (is-tag : 
                 row-fails x rs τ s number ts σ q row (fits rs τ s ts c σ g) (by-state rs τ s ts c σ g) (row-targets rs τ s ts c σ g) (sym (served-is rs τ s ts c σ g) ∙ e));
           }
 
-      pub row-checked : served ≡ true → (first : ℕ) → first ≡ suc i → (after : List ℕ) (b : Bool) → ChecksArgs x memo first count 65535 row after b → ChecksTerm x memo i goal after b
+      pub row-checked : served ≡ true → (first : ℕ) → first ≡ suc i → (after : List ℕ) (b : Bool) → ChecksArgs x memo first count true 0 row after b → ChecksTerm x memo i goal after b
       row-checked e first ef after b told =
           record {
             keeps = told .keeps;

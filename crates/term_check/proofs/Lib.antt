@@ -1,4 +1,5 @@
 pub mod Places
 pub mod Arguments
 pub mod Heads
+pub mod Targets
 pub mod Choices

@@ -1,16 +1,20 @@
 // The check of a term and the check of its arguments, which call each other.
+use bare_heads::bare_has;
 use candidates::candidate;
 use candidates::span_of;
 use entries::place_at;
+use goal_tables::result_of;
 use memo::known;
 use memo::learn;
 use records::byte_at;
 use records::word_at;
 use serving::row_serves;
 use serving::state_at;
-use wants::following;
+use wants::target_of;
 use wants::wanted;
-ghost use Rattle.term_check.specs.Checking.{ChecksTerm, ChecksArgs};
+ghost use mathlib.Core.Bool.{false};
+ghost use mathlib.Core.List.{[]};
+ghost use Rattle.term_check.specs.Checking.{ChecksTerm, ChecksTargets, ChecksChoices, ChecksArgs};
 
 // The numbers of a test: how many types and constructors there are, the goal that the binding's type is, and which test
 // this is for the memo.
@@ -21,7 +25,7 @@ pub struct Test {
     pub stamp: usize,
 }
 
-// Whether the term at a node has a type, a goal by its number. What is found is remembered.
+// Whether the term at a node has a type, a goal by its number. What is found of a term with arguments is remembered.
 pub fn check_term(
     file: &[u8],
     index: &[u16],
@@ -37,14 +41,23 @@ pub fn check_term(
 ) -> bool
     ensures { λ r. ⌜ ChecksTerm (record { file = now (file .entry); index = now (index .entry); groups = now (groups .entry); kept = now (kept .entry); ends = now (ends .entry); body = now (body .entry); table = table; test = test }) (now (memo .entry)) at goal (now (memo .exit)) r ⌝ }
 {
-    if 1024 < test.types {
+    let types = test.types;
+    if 1024 < types {
         return false;
     }
     if body.len() / 4 <= at {
         return false;
     }
-    let width = test.types + 16;
-    let old = known(memo, width, test.stamp, at, goal);
+    let tag = byte_at(body, at * 4);
+    let number = word_at(body, at * 4 + 1);
+    if byte_at(body, at * 4 + 3) == 0 {
+        if tag != 0 {
+            let own = test.own;
+            let nonterminal = tag == 1;
+            return bare_has(file, index, types, groups, kept, own, nonterminal, number, goal);
+        }
+    }
+    let old = known(memo, types + 16, test.stamp, at, goal);
     if old == 2 {
         return true;
     }
@@ -64,7 +77,7 @@ pub fn check_term(
         at,
         goal,
     );
-    learn(memo, width, test.stamp, at, goal, yes);
+    learn(memo, types + 16, test.stamp, at, goal, yes);
     yes
 }
 
@@ -87,41 +100,8 @@ fn check_head(
     if body.len() / 4 <= at {
         return false;
     }
-    let first = at + 1;
-    let tag = byte_at(body, at * 4);
-    let number = word_at(body, at * 4 + 1);
-    let count = byte_at(body, at * 4 + 3);
-    if tag == 0 {
-        let q = state_at(
-            file,
-            index,
-            test.types,
-            test.constructors,
-            number,
-            count,
-            goal,
-        );
-        if 16 <= q {
-            return false;
-        }
-        if 32 <= number {
-            return false;
-        }
-        let row = table[q][number];
-        if !row_serves(
-            file,
-            index,
-            test.types,
-            test.constructors,
-            row,
-            number,
-            count,
-            q,
-            goal,
-        ) {
-            return false;
-        }
-        return check_args(
+    if byte_at(body, at * 4) != 0 {
+        return check_choices(
             file,
             index,
             groups,
@@ -131,26 +111,127 @@ fn check_head(
             table,
             test,
             memo,
-            first,
-            count,
-            65535,
-            row,
-        );
-    }
-    let span = span_of(file, index, test.types, groups, test.own, tag == 1, number);
-    let mut j = span.low;
-    while j < span.high {
-        let head = candidate(
-            file,
-            index,
-            test.types,
-            kept,
-            tag == 1,
-            span.given,
-            j,
-            count,
+            at,
             goal,
         );
+    }
+    let types = test.types;
+    let constructors = test.constructors;
+    let c = word_at(body, at * 4 + 1);
+    let count = byte_at(body, at * 4 + 3);
+    let q = state_at(file, index, types, constructors, c, count, goal);
+    check_targets(
+        file,
+        index,
+        groups,
+        kept,
+        ends,
+        body,
+        table,
+        test,
+        memo,
+        at,
+        goal,
+        q,
+    )
+}
+
+// The same for a constructor with the goal for its type, which ends in state q: the targets of its transition at q give
+// the goal, and each argument has its target.
+fn check_targets(
+    file: &[u8],
+    index: &[u16],
+    groups: &[u16],
+    kept: &[u8],
+    ends: &[u16],
+    body: &[u8],
+    table: [[[u8; 4]; 32]; 16],
+    test: Test,
+    memo: &mut [u8],
+    at: usize,
+    goal: usize,
+    q: usize,
+) -> bool
+    ensures { λ r. ⌜ ChecksTargets (record { file = now (file .entry); index = now (index .entry); groups = now (groups .entry); kept = now (kept .entry); ends = now (ends .entry); body = now (body .entry); table = table; test = test }) (now (memo .entry)) at goal q (now (memo .exit)) r ⌝ }
+{
+    if body.len() / 4 <= at {
+        return false;
+    }
+    let types = test.types;
+    let constructors = test.constructors;
+    let c = word_at(body, at * 4 + 1);
+    let count = byte_at(body, at * 4 + 3);
+    let mut next = at + 1;
+    if 16 <= q {
+        return false;
+    }
+    if 32 <= c {
+        return false;
+    }
+    let row = table[q][c];
+    if !row_serves(file, index, types, constructors, row, c, count, q, goal) {
+        return false;
+    }
+    let mut i: usize = 0;
+    while i < count {
+        let target = target_of(types, row, i);
+        if target == 65535 {
+            return false;
+        }
+        let end = place_at(ends, next);
+        if end <= next {
+            return false;
+        }
+        i = i + 1;
+        if !check_term(
+            file,
+            index,
+            groups,
+            kept,
+            ends,
+            body,
+            table,
+            test,
+            memo,
+            next,
+            target,
+        ) {
+            return false;
+        }
+        next = end;
+    }
+    true
+}
+
+// The same for a nonterminal or a parameter: one of its types leads to the goal, and the arguments have what it asks for.
+fn check_choices(
+    file: &[u8],
+    index: &[u16],
+    groups: &[u16],
+    kept: &[u8],
+    ends: &[u16],
+    body: &[u8],
+    table: [[[u8; 4]; 32]; 16],
+    test: Test,
+    memo: &mut [u8],
+    at: usize,
+    goal: usize,
+) -> bool
+    ensures { λ r. ⌜ ChecksChoices (record { file = now (file .entry); index = now (index .entry); groups = now (groups .entry); kept = now (kept .entry); ends = now (ends .entry); body = now (body .entry); table = table; test = test }) (now (memo .entry)) at goal (now (memo .exit)) r ⌝ }
+{
+    if body.len() / 4 <= at {
+        return false;
+    }
+    let first = at + 1;
+    let nonterminal = byte_at(body, at * 4) == 1;
+    let number = word_at(body, at * 4 + 1);
+    let count = byte_at(body, at * 4 + 3);
+    let types = test.types;
+    let span = span_of(file, index, types, groups, test.own, nonterminal, number);
+    let given = span.given;
+    let mut j = span.low;
+    while j < span.high {
+        let head = candidate(file, index, types, kept, nonterminal, given, j, count, goal);
         j = j + 1;
         if head != 65535 {
             if check_args(
@@ -166,7 +247,6 @@ fn check_head(
                 first,
                 count,
                 head,
-                [255; 4],
             ) {
                 return true;
             }
@@ -175,8 +255,7 @@ fn check_head(
     false
 }
 
-// Whether the `count` arguments from node `first` on have what the type of their head asks for, which a number or a row
-// of targets gives.
+// Whether the `count` arguments from node `first` on have what the type of their head asks for.
 fn check_args(
     file: &[u8],
     index: &[u16],
@@ -190,22 +269,22 @@ fn check_args(
     first: usize,
     count: usize,
     head: usize,
-    row: [u8; 4],
 ) -> bool
-    ensures { λ r. ⌜ ChecksArgs (record { file = now (file .entry); index = now (index .entry); groups = now (groups .entry); kept = now (kept .entry); ends = now (ends .entry); body = now (body .entry); table = table; test = test }) (now (memo .entry)) first count head row (now (memo .exit)) r ⌝ }
+    ensures { λ r. ⌜ ChecksArgs (record { file = now (file .entry); index = now (index .entry); groups = now (groups .entry); kept = now (kept .entry); ends = now (ends .entry); body = now (body .entry); table = table; test = test }) (now (memo .entry)) first count false head [] (now (memo .exit)) r ⌝ }
 {
+    let types = test.types;
     let mut at = first;
     let mut i: usize = 0;
     let mut j: usize = 0;
     let mut asked = head;
     while i < count {
-        let member = wanted(file, index, test.types, asked, row, i, j);
+        let member = wanted(file, index, types, asked, j);
         if member == 65535 {
             let next = place_at(ends, at);
             if next <= at {
                 return false;
             }
-            asked = following(file, index, test.types, asked);
+            asked = result_of(index, types, asked);
             at = next;
             i = i + 1;
             j = 0;

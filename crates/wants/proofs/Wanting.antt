@@ -1,18 +1,19 @@
--- What the arguments of a head must have, by each way through the code. A goal's number is below 65,535, so that number marks a row;
--- a type that a row makes has one member, the target, for each argument.
+-- What the arguments of a head must have. A type that a row makes has one member, the target, for each argument.
 use Prim.Native.Nat.{ℕ, suc, _+_, _<_, _≤_}
 use native.Mathlib.Omega.{arith}
 use native.Mathlib.Decide.{decLt}
 use mathlib.Core.Path.{_≡_, refl, ap, _∙_}
 use mathlib.Core.Logic.{inl, inr}
+use mathlib.Core.Bool.{Bool, true, false}
 use mathlib.Core.List.{List}
 use lib.ListN.{length, getD, take, drop}
 use Rattle.scheme.specs.Types.{Ty, state, arrow, Tys, []ʸ, _∷ʸ_, members, takes}
 use Rattle.records.specs.Records.{Record}
 use Rattle.goals.specs.Goals.{Goal, of-state, Typed, IsResult, CountsMembers, IsMember}
-use Rattle.goals.proofs.Goals.{arrow-record, goal-below}
+use Rattle.goals.proofs.Goals as types
+use Rattle.goals.proofs.Goals.{arrow-record}
 use Rattle.arrows.proofs.Arrows.{takes-step, takes-none}
-use Rattle.wants.specs.Wants.{HeadType, listed, of-row, Wants, Follows}
+use Rattle.wants.specs.Wants.{HeadType, listed, of-row, Wants, Follows, IsTarget}
 
 -- an arrow that a row makes
 record RowArrow (row : List ℕ) (arity q i : ℕ) (a : Tys) (τ : Ty) : Type 0 where
@@ -36,79 +37,80 @@ one-member : (m : Ty) (a : Tys) → a ≡ m ∷ʸ []ʸ → (length (members a) �
 unfolding members
 one-member m a e = (ap (λ x. length (members x)) e, ap (λ x. getD (members x) 0 (state 0)) e)
 
--- 65,535 is the number of no goal: the type is that of the row
-by-row : {file index : List ℕ} {n head : ℕ} {row : List ℕ} {i : ℕ} {rs : List Record} → head ≡ 65535 → Typed file index n rs → (a : Tys) (τ : Ty) → HeadType rs n row i head (arrow a τ)
+-- the type is that of the row
+by-row : {n head : ℕ} {row : List ℕ} {i : ℕ} {rs : List Record} (a : Tys) (τ : Ty) → HeadType rs n true row i head (arrow a τ)
     → (i < 4) × (getD row i 0 < 256) × (length (members a) ≡ 1) × (getD (members a) 0 (state 0) ≡ state (getD row i 0))
-by-row mark w a τ (listed x) = let l = goal-below (w .few) x in absurd (omega arith)
-by-row {row = row} {i = i} mark w a τ (of-row arity q g four few small e) =
+by-row a τ (listed f x) = let z : _≡_ {A = ℕ} 0 1 = cc in absurd (omega arith)
+by-row {row = row} {i = i} a τ (of-row arity q g four few small e) =
     let r = row-arrow row arity q i a τ four few e in
     let o = one-member (state (getD row i 0)) a (r .one) in
     (omega (arith, r .inside), small i (r .inside), o .0, o .1)
 
--- any other number is that of a goal
-by-number : {n head : ℕ} {row : List ℕ} {i : ℕ} {rs : List Record} → (head ≡ 65535 → ⊥) → (a : Tys) (τ : Ty) → HeadType rs n row i head (arrow a τ) → Goal rs n head (arrow a τ)
-by-number ne a τ (listed x) = x
-by-number ne a τ (of-row arity q g four few small e) = absurd (ne g)
+-- the type is listed
+by-number : {n head : ℕ} {row : List ℕ} {i : ℕ} {rs : List Record} (a : Tys) (τ : Ty) → HeadType rs n false row i head (arrow a τ) → Goal rs n head (arrow a τ)
+by-number a τ (listed f x) = x
+by-number a τ (of-row arity q f four few small e) = let z : _≡_ {A = ℕ} 0 1 = cc in absurd (omega arith)
 
-module _ {file index : List ℕ} {n head : ℕ} {row : List ℕ} {i j : ℕ} where
-  pub want-many : 1024 < n → Wants file index n head row i j 65535
-  want-many h = record { few = inl refl; member = λ rs w a τ x k. absurd (omega (arith, w .few)); behind = λ rs w a τ x k. refl }
+module _ {file index : List ℕ} {n head : ℕ} {row : List ℕ} {i : ℕ} where
+  -- the target is the only member
+  pub want-target : Wants file index n true head row i 0 (n + getD row i 0)
+  want-target =
+      record {
+        few = inr (omega arith);
+        member = λ rs w a τ x k. let (near, small, one, is) = by-row a τ x in of-state (getD row i 0) small refl is;
+        behind = λ rs w a τ x k. absurd (omega (arith, by-row a τ x .2));
+      }
 
-  module _ (mark : head ≡ 65535) where
-    pub want-past : 3 < i → Wants file index n head row i j 65535
-    want-past h = record { few = inl refl; member = λ rs w a τ x k. absurd (omega (arith, by-row mark w a τ x .0)); behind = λ rs w a τ x k. refl }
+  pub want-second : Wants file index n true head row i 1 65535
+  want-second = record { few = inl refl; member = λ rs w a τ x k. absurd (omega (arith, by-row a τ x .2)); behind = λ rs w a τ x k. refl }
 
-    pub want-second : 0 < j → Wants file index n head row i j 65535
-    want-second h = record { few = inl refl; member = λ rs w a τ x k. absurd (omega (arith, by-row mark w a τ x .2)); behind = λ rs w a τ x k. refl }
-
-    pub want-target : j ≤ 0 → Wants file index n head row i j (n + getD row i 0)
-    want-target h =
-        record {
-          few = inr (omega arith);
-          member = λ rs w a τ x k.
-              let (near, small, one, is) = by-row mark w a τ x in
-              let z : j ≡ 0 = omega arith in
-              of-state (getD row i 0) small refl (ap (λ y. getD (members a) y (state 0)) z ∙ is);
-          behind = λ rs w a τ x k. absurd (omega (arith, by-row mark w a τ x .2));
-        }
-
-  module _ (ne : head ≡ 65535 → ⊥) where
-    pub want-few : 15 < j → Wants file index n head row i j 65535
+  module _ {j : ℕ} where
+    pub want-few : 15 < j → Wants file index n false head row i j 65535
     want-few h =
         record {
           few = inl refl;
-          member = λ rs w a τ x k. let r = arrow-record w head a τ (by-number ne a τ x) in absurd (omega (arith, r .many, r .few-bytes));
+          member = λ rs w a τ x k. let r = arrow-record (types.listed w) head a τ (by-number a τ x) in absurd (omega (arith, r .many, r .few-bytes));
           behind = λ rs w a τ x k. refl;
         }
 
     module _ (m : ℕ) (is : CountsMembers file index n head m) where
-      pub want-none : m ≤ j → Wants file index n head row i j 65535
+      pub want-none : m ≤ j → Wants file index n false head row i j 65535
       want-none h =
           record {
             few = inl refl;
-            member = λ rs w a τ x k. let c = is .many rs w a τ (by-number ne a τ x) in absurd (omega arith);
+            member = λ rs w a τ x k. let c = is .many rs w a τ (by-number a τ x) in absurd (omega arith);
             behind = λ rs w a τ x k. refl;
           }
 
-      pub want-member : j ≤ 15 → j < m → (r : ℕ) → IsMember file index n head j r → Wants file index n head row i j r
+      pub want-member : j ≤ 15 → j < m → (r : ℕ) → IsMember file index n head j r → Wants file index n false head row i j r
       want-member l h r is-r =
           record {
             few = inr (omega arith);
-            member = λ rs w a τ x k. is-r .member rs w a τ (by-number ne a τ x) k;
-            behind = λ rs w a τ x k. let c = is .many rs w a τ (by-number ne a τ x) in absurd (omega arith);
+            member = λ rs w a τ x k. is-r .member rs w a τ (by-number a τ x) k;
+            behind = λ rs w a τ x k. let c = is .many rs w a τ (by-number a τ x) in absurd (omega arith);
           }
 
-module _ {file index : List ℕ} {n head : ℕ} where
-  pub follow-row : head ≡ 65535 → Follows file index n head head
-  follow-row mark = record { next = λ rs w row i a τ x. by rs w row i a τ x }
-    where
-      by : (rs : List Record) → Typed file index n rs → (row : List ℕ) (i : ℕ) (a : Tys) (τ : Ty) → HeadType rs n row i head (arrow a τ) → HeadType rs n row (suc i) head τ
-      by rs w row i a τ (listed x) = let l = goal-below (w .few) x in absurd (omega arith)
-      by rs w row i a τ (of-row arity q g four few small e) = of-row arity q g four few small (row-arrow row arity q i a τ four few e .rest)
+-- an arrow that a row makes is one of its first four targets
+pub row-few : {n head : ℕ} {row : List ℕ} {i : ℕ} {rs : List Record} (a : Tys) (τ : Ty) → HeadType rs n true row i head (arrow a τ) → i < 4
+row-few a τ x = by-row a τ x .0
 
-  pub follow-result : (head ≡ 65535 → ⊥) → (r : ℕ) → IsResult file index n head r → Follows file index n head r
-  follow-result ne r is = record { next = λ rs w row i a τ x. by rs w row i a τ x }
-    where
-      by : (rs : List Record) → Typed file index n rs → (row : List ℕ) (i : ℕ) (a : Tys) (τ : Ty) → HeadType rs n row i head (arrow a τ) → HeadType rs n row (suc i) r τ
-      by rs w row i a τ (listed x) = listed (is .result rs w a τ x)
-      by rs w row i a τ (of-row arity q g four few small e) = absurd (ne g)
+pub follow-row : {index : List ℕ} {n head : ℕ} → Follows index n true head head
+follow-row = record { next = λ rs w row i a τ x. by rs row i a τ x }
+  where
+    by : {n head : ℕ} (rs : List Record) (row : List ℕ) (i : ℕ) (a : Tys) (τ : Ty) → HeadType rs n true row i head (arrow a τ) → HeadType rs n true row (suc i) head τ
+    by rs row i a τ (listed f x) = let z : _≡_ {A = ℕ} 0 1 = cc in absurd (omega arith)
+    by rs row i a τ (of-row arity q f four few small e) = of-row arity q f four few small (row-arrow row arity q i a τ four few e .rest)
+
+pub follow-result : {index : List ℕ} {n head : ℕ} (r : ℕ) → IsResult index n head r → Follows index n false head r
+follow-result r is = record { next = λ rs w row i a τ x. listed refl (is .result rs w a τ (by-number a τ x)) }
+
+-- a target as a goal
+module _ {n : ℕ} {row : List ℕ} {i : ℕ} where
+  pub target-many : 1024 < n → IsTarget n row i 65535
+  target-many h = record { target = λ ne. absurd (ne refl); past = λ e. inl h }
+
+  pub target-far : 3 < i → IsTarget n row i 65535
+  target-far h = record { target = λ ne. absurd (ne refl); past = λ e. inr h }
+
+  pub target-there : n ≤ 1024 → getD row i 0 < 256 → IsTarget n row i (n + getD row i 0)
+  target-there few small = record { target = λ ne. refl; past = λ e. absurd (omega arith) }

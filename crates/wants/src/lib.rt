@@ -1,34 +1,15 @@
-// What the arguments of a head must have. The head's type is a goal, or, marked by 65,535, that of a constructor by a row
-// of target states.
-use goals::member_of;
-use goals::members_of;
-use goals::result_of;
-ghost use Rattle.wants.specs.Wants.{Wants, Follows};
+// What the arguments of a head must have.
+use goal_tables::member_of;
+use goal_tables::members_of;
+ghost use mathlib.Core.Bool.{false};
+ghost use mathlib.Core.List.{List};
+ghost use Prim.Native.Nat.{ℕ};
+ghost use Rattle.wants.specs.Wants.{Wants, IsTarget};
 
-// Member j of the set that argument i must have, as a goal; 65,535 behind the last.
-pub fn wanted(
-    file: &[u8],
-    index: &[u16],
-    types: usize,
-    head: usize,
-    row: [u8; 4],
-    i: usize,
-    j: usize,
-) -> usize
-    ensures { λ r. ⌜ Wants (now (file .entry)) (now (index .entry)) types head row i j r ⌝ }
+// Member j of the set that the next argument must have, by the head's type; 65,535 behind the last.
+pub fn wanted(file: &[u8], index: &[u16], types: usize, head: usize, j: usize) -> usize
+    ensures { λ r. ⌜ ((row : List ℕ) (i : ℕ) → Wants (now (file .entry)) (now (index .entry)) types false head row i j r) ⌝ }
 {
-    if 1024 < types {
-        return 65535;
-    }
-    if head == 65535 {
-        if 3 < i {
-            return 65535;
-        }
-        if 0 < j {
-            return 65535;
-        }
-        return types + row[i] as usize;
-    }
     if 15 < j {
         return 65535;
     }
@@ -38,12 +19,15 @@ pub fn wanted(
     member_of(file, index, types, head, j)
 }
 
-// The head's type behind an argument.
-pub fn following(file: &[u8], index: &[u16], types: usize, head: usize) -> usize
-    ensures { λ r. ⌜ Follows (now (file .entry)) (now (index .entry)) types head r ⌝ }
+// Target i of a row, as a goal; 65,535 where it has none.
+pub fn target_of(types: usize, row: [u8; 4], i: usize) -> usize
+    ensures { λ r. ⌜ IsTarget types row i r ⌝ }
 {
-    if head != 65535 {
-        return result_of(file, index, types, head);
+    if 1024 < types {
+        return 65535;
     }
-    head
+    if 3 < i {
+        return 65535;
+    }
+    types + row[i] as usize
 }

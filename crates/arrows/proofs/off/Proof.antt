@@ -7,13 +7,13 @@ use Rattle.arrows.proofs.off.Statement.{statement}
 use Rattle.arrows.proofs.off.Tie as tie
 
 abbrev Inv-loop : tie.InvT-loop
-Inv-loop file index types goal k g₀ i₀ g i = Off file index types goal k g i
+Inv-loop index types goal k g₀ i₀ g i = Off index types goal k g i
 
 abbrev μ-loop : tie.MeasureT-loop
-μ-loop file index types goal k g₀ i₀ g i = k - i
+μ-loop index types goal k g₀ i₀ g i = k - i
 
 loop-holds : tie.Need-loop-holds Inv-loop μ-loop
-loop-holds c = off-start _ _ _ _ _
+loop-holds c = off-start _ _ _ _
 
 returns : tie.Need-returns Inv-loop μ-loop
 returns c = off-none (c .before .before .loop .inv) (c .before .loop-test .taken) (c .if1 .taken)

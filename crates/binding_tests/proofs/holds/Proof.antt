@@ -10,7 +10,7 @@ use Rattle.binding_tests.proofs.holds.Lts as lts
 use Rattle.binding_tests.proofs.from_node.Reads as from-node-reads
 use Rattle.entries.proofs.place_at.Reads as place-at-reads
 use Rattle.finals.proofs.final_of.Reads as final-of-reads
-use Rattle.goals.proofs.goal_of.Reads as goal-of-reads
+use Rattle.goal_tables.proofs.goal_of.Reads as goal-of-reads
 use Rattle.lookup.proofs.entry.Reads as entry-reads
 use Rattle.records.proofs.word_at.Reads as word-at-reads
 use Rattle.term_check.proofs.check_term.Reads as check-term-reads

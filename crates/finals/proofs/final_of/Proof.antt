@@ -6,17 +6,17 @@ use Rattle.finals.proofs.final_of.Statement.{statement}
 use Rattle.finals.proofs.final_of.Tie as tie
 use Rattle.finals.proofs.final_of.Reads as reads
 use Rattle.finals.proofs.final_of.Lts as lts
-use Rattle.goals.proofs.result_of.Reads as result-of-reads
+use Rattle.goal_tables.proofs.result_of.Reads as result-of-reads
 
 abbrev Inv-loop : tie.InvT-loop
-Inv-loop file index types goal g₀ left₀ g left = Ending file index types goal g left
+Inv-loop index types goal g₀ left₀ g left = Ending index types goal g left
 
 abbrev μ-loop : tie.MeasureT-loop
-μ-loop file index types goal g₀ left₀ g left = left
+μ-loop index types goal g₀ left₀ g left = left
 
 -- src/lib.rt:11:5
 loop-holds : tie.Need-loop-holds Inv-loop μ-loop
-loop-holds c = ending-start _ _ _ _
+loop-holds c = ending-start _ _ _
 
 -- src/lib.rt:13:13
 returns : tie.Need-returns Inv-loop μ-loop

@@ -1,14 +1,14 @@
 -- `members_of` meets its contract.
-use Rattle.goals.proofs.Goals.{members-many, members-far, members-none, members-short, members-there}
+use Rattle.goal_tables.proofs.Tables.{members-many, members-far, members-none, members-short, members-there}
 use borrow.Author.Needs.{needs}
-use Rattle.goals.proofs.members_of.Statement.{statement}
-use Rattle.goals.proofs.members_of.Tie as tie
+use Rattle.goal_tables.proofs.members_of.Statement.{statement}
+use Rattle.goal_tables.proofs.members_of.Tie as tie
 
 returns : tie.Need-returns
-returns c = members-many (c .if1 .taken)
+returns c = members-far (c .if1 .taken)
 
 returns-2 : tie.Need-returns-2
-returns-2 c = members-far (c .if2 .taken)
+returns-2 c = members-many (c .if2 .taken)
 
 add-place-at : tie.Need-add-place-at
 add-place-at c = search needs

@@ -1,8 +1,8 @@
--- `goal_of` meets its contract.
+-- `goal_at` meets its contract.
 use Rattle.goals.proofs.Goals.{goal-many, goal-far, goal-none, goal-arrow, goal-state}
 use borrow.Author.Needs.{needs}
-use Rattle.goals.proofs.goal_of.Statement.{statement}
-use Rattle.goals.proofs.goal_of.Tie as tie
+use Rattle.goals.proofs.goal_at.Statement.{statement}
+use Rattle.goals.proofs.goal_at.Tie as tie
 
 returns : tie.Need-returns
 returns c = goal-many (c .if1 .taken)
@@ -34,8 +34,8 @@ add-result c = search needs
 returns-5 : tie.Need-returns-5
 returns-5 c = goal-state _ (c .before .before .before .before .place-at .ensures .value) _ (c .before .before .word-at .ensures .value) (c .before .if4 .left) _ (c .byte-at .ensures .value)
 
-pub goal-of-spec : {M : Type 1} → statement M
-goal-of-spec =
+pub goal-at-spec : {M : Type 1} → statement M
+goal-at-spec =
     tie.close
     (tie.spec
     returns

@@ -1,8 +1,8 @@
--- `result_of` meets its contract.
+-- `result_at` meets its contract.
 use Rattle.goals.proofs.Goals.{result-many, result-far, result-there}
 use borrow.Author.Needs.{needs}
-use Rattle.goals.proofs.result_of.Statement.{statement}
-use Rattle.goals.proofs.result_of.Tie as tie
+use Rattle.goals.proofs.result_at.Statement.{statement}
+use Rattle.goals.proofs.result_at.Tie as tie
 
 returns : tie.Need-returns
 returns c = result-many (c .if1 .taken)
@@ -19,14 +19,14 @@ place-at-requires c κs = search needs
 word-at-requires : tie.Need-word-at-requires
 word-at-requires c κs = search needs
 
-goal-of-requires : tie.Need-goal-of-requires
-goal-of-requires c κs = search needs
+goal-at-requires : tie.Need-goal-at-requires
+goal-at-requires c κs = search needs
 
 returns-3 : tie.Need-returns-3
-returns-3 c = result-there _ (c .before .before .place-at .ensures .value) _ _ (c .before .word-at .ensures .value) (c .goal-of .ensures)
+returns-3 c = result-there _ (c .before .before .place-at .ensures .value) _ _ (c .before .word-at .ensures .value) (c .goal-at .ensures)
 
-pub result-of-spec : {M : Type 1} → statement M
-result-of-spec =
+pub result-at-spec : {M : Type 1} → statement M
+result-at-spec =
     tie.close
     (tie.spec
     returns
@@ -34,5 +34,5 @@ result-of-spec =
     add-place-at
     place-at-requires
     word-at-requires
-    goal-of-requires
+    goal-at-requires
     returns-3)

@@ -1,14 +1,14 @@
 -- `member_of` meets its contract.
-use Rattle.goals.proofs.Goals.{member-many, member-far, member-past, member-there}
+use Rattle.goal_tables.proofs.Tables.{member-many, member-far, member-past, member-there}
 use borrow.Author.Needs.{needs}
-use Rattle.goals.proofs.member_of.Statement.{statement}
-use Rattle.goals.proofs.member_of.Tie as tie
+use Rattle.goal_tables.proofs.member_of.Statement.{statement}
+use Rattle.goal_tables.proofs.member_of.Tie as tie
 
 returns : tie.Need-returns
-returns c = member-many (c .if1 .taken)
+returns c = member-far (c .if1 .taken)
 
 returns-2 : tie.Need-returns-2
-returns-2 c = member-far (c .if2 .taken)
+returns-2 c = member-many (c .if2 .taken)
 
 returns-3 : tie.Need-returns-3
 returns-3 c = member-past (c .if3 .taken)
