@@ -17,19 +17,17 @@ use Rattle.scheme.specs.Typing.{Binding}
 use Rattle.scheme.specs.Flags.{isKept, chosen}
 use Rattle.scheme.specs.Acceptance.{isStart}
 use Rattle.scheme.proofs.Lists.{and-no, getD-map-in}
-use Rattle.records.specs.Fields.{field, word, IsField}
+use Rattle.records.specs.Fields.{word}
 use Rattle.records.specs.Records.{Record}
 use Rattle.casefile.specs.Kinds.{Kind, payloads}
 use Rattle.casefile.specs.Tables.{typesOf, bindingsOf}
-use Rattle.casefile.specs.Refusals.{wrongLength}
 use Rattle.casefile.proofs.Passed.{entry}
 use Rattle.casefile.proofs.TypeTable.{count-payloads}
 use Rattle.entries.specs.Index.{Indexed}
 use Rattle.entries.specs.Tests.{IsPlace}
 use Rattle.groups.specs.Groups.{nonterminalOf, Grouped}
-use Rattle.goals.specs.Goals.{of-state, Typed, IsGoal}
+use Rattle.goals.specs.Goals.{of-state, Typed, typeOfBinding, IsOwn}
 use Rattle.goals.proofs.Goals.{goals-same}
-use Rattle.misfits.proofs.Offers.{binding-numbers}
 use Rattle.rounds.proofs.Turning.{bindings-many}
 use Rattle.binding_cases.specs.Judging.{startsAt, StartsAt, FindsStart}
 
@@ -60,12 +58,12 @@ binding-at : (rs : List Record) (b : ℕ) → b < length (payloads Kind.binding 
 unfolding bindingsOf
 binding-at rs b h = getD-map-in (λ (p : List ℕ). record { nonterminal = word p 0; type = getD (typesOf rs) (word p 2) (state 0) }) (payloads Kind.binding rs) b noBinding [] h
 
-module _ (file index : List ℕ) (types b flag : ℕ) where
-  pub starts-dropped : flag ≡ 0 → StartsAt file index types b flag false
+module _ (index : List ℕ) (types b flag : ℕ) where
+  pub starts-dropped : flag ≡ 0 → StartsAt index types b flag false
   unfolding isKept
   starts-dropped z = record { answer = λ n rs w ix few h. sym (ap (λ x. startsAt rs b x) z) }
 
-  pub starts-far : 1024 ≤ b → StartsAt file index types b flag false
+  pub starts-far : 1024 ≤ b → StartsAt index types b flag false
   starts-far k = record { answer = λ n rs w ix few h. absurd (omega arith) }
 
   on : (v : ℕ) → (v ≡ 0 → ⊥) → isKept v ≡ true
@@ -73,36 +71,29 @@ module _ (file index : List ℕ) (types b flag : ℕ) where
   on zero h = absurd (h refl)
   on (suc v) h = refl
 
-  pub starts-here : (flag ≡ 0 → ⊥) → (place t g : ℕ) → IsPlace index (2144 + b) place → IsField 2 file (place + 2) t → IsGoal file index types t g → StartsAt file index types b flag (eqb g types)
-  unfolding wrongLength
-  starts-here nz place t g at is goal = record { answer = answer }
+  pub starts-here : (flag ≡ 0 → ⊥) → b < 1024 → (g : ℕ) → IsOwn index b g → StartsAt index types b flag (eqb g types)
+  starts-here nz near g own = record { answer = λ n rs w ix few h. answer n rs w ix h }
     where
-      answer : (n : ℕ) (rs : List Record) → Typed file index types rs → Indexed file index Kind.binding n rs → n ≤ 1024 → b < n → eqb g types ≡ startsAt rs b flag
-      answer n rs w ix few h =
-          let p = getD (payloads Kind.binding rs) b [] in
+      answer : {file : List ℕ} (n : ℕ) (rs : List Record) → Typed file index types rs → Indexed file index Kind.binding n rs → b < n → eqb g types ≡ startsAt rs b flag
+      answer n rs w ix h =
           let many = count-payloads Kind.binding rs in
           let counted = ix .counted in
-          let e = entry (w .passed) Kind.binding b (omega arith) in
-          let four : length p ≡ 4 = ap length (e .here) ∙ eqb-true (length (e .payload)) 4 (not-false (eqb (length (e .payload)) 4) (e .passed-tests .fits)) in
-          let number : t ≡ word p 2 = is .value ∙ ap (λ k. field 2 file (k + 2)) (at .value) ∙ ix .field-there b h 2 2 (omega arith) in
-          let numbers = binding-numbers (w .passed) b (omega arith) in
-          let listed = w .there .counted in
-          let inside : t < types = omega arith in
-          let same-type : same (getD (typesOf rs) t (state 0)) (state 0) ≡ eqb g types = goals-same w g types (getD (typesOf rs) t (state 0)) (state 0) (goal .goal rs w inside) (of-state 0 (omega arith) (sym (add-zero types)) refl) in
-          let is-type : getD (bindingsOf rs) b noBinding .type ≡ getD (typesOf rs) t (state 0) = ap (λ (x : Binding). x .type) (binding-at rs b (omega arith)) ∙ ap (λ k. getD (typesOf rs) k (state 0)) (sym number) in
-          sym same-type ∙ ap (λ τ. same τ (state 0)) (sym is-type) ∙ ap (λ x. x && same (getD (bindingsOf rs) b noBinding .type) (state 0)) (sym (on flag nz))
+          let τ = getD (typesOf rs) (typeOfBinding rs b) (state 0) in
+          let same-type : same τ (state 0) ≡ eqb g types = goals-same w g types τ (state 0) (own .own rs types w (omega arith) near) (of-state 0 (omega arith) (sym (add-zero types)) refl) in
+          let is-type : getD (bindingsOf rs) b noBinding .type ≡ τ = ap (λ (x : Binding). x .type) (binding-at rs b (omega arith)) in
+          sym same-type ∙ ap (λ σ. same σ (state 0)) (sym is-type) ∙ ap (λ x. x && same (getD (bindingsOf rs) b noBinding .type) (state 0)) (sym (on flag nz))
 
 -- The bindings of nonterminal 0, one after the other.
 -- none of the first b starts
-pub record NoneTo (file index counts flags : List ℕ) (last b : ℕ) : Type 0 where
-  pub none-starts : (n : ℕ) (rs : List Record) → Typed file index (getD counts 7 0) rs → Indexed file index Kind.binding n rs → n ≤ 1024 → last ≤ n → (i : ℕ) → i < b → startsAt rs i (getD flags i 0) ≡ false
+pub record NoneTo (index counts flags : List ℕ) (last b : ℕ) : Type 0 where
+  pub none-starts : {file : List ℕ} (n : ℕ) (rs : List Record) → Typed file index (getD counts 7 0) rs → Indexed file index Kind.binding n rs → n ≤ 1024 → last ≤ n → (i : ℕ) → i < b → startsAt rs i (getD flags i 0) ≡ false
 
-pub none-yet : (file index counts flags : List ℕ) (last : ℕ) → NoneTo file index counts flags last 0
-none-yet file index counts flags last = record { none-starts = λ n rs w ix few l i h. absurd (omega arith) }
+pub none-yet : (index counts flags : List ℕ) (last : ℕ) → NoneTo index counts flags last 0
+none-yet index counts flags last = record { none-starts = λ n rs w ix few l i h. absurd (omega arith) }
 
-module _ (file index counts groups flags : List ℕ) where
+module _ (index counts groups flags : List ℕ) where
   -- a binding below the entry of nonterminal 1 is of nonterminal 0, and no other
-  module _ (n last : ℕ) (rs : List Record) (ix : Indexed file index Kind.binding n rs) (grouped : Grouped rs n groups) (room : 1 < length groups) (is : IsPlace groups 1 last) where
+  module _ {file : List ℕ} (n last : ℕ) (rs : List Record) (ix : Indexed file index Kind.binding n rs) (grouped : Grouped rs n groups) (room : 1 < length groups) (is : IsPlace groups 1 last) where
     within : last ≤ n
     within = let a = grouped .within 1 room in let b = is .value in omega arith
 
@@ -128,15 +119,15 @@ module _ (file index counts groups flags : List ℕ) where
         let there : getD (bindingsOf rs) i noBinding .nonterminal ≡ nonterminalOf rs i = ap (λ (x : Binding). x .nonterminal) (binding-at rs i (omega arith)) in
         ap (λ x. x && same (getD (bindingsOf rs) i noBinding .type) (state 0)) (ne-eqb (getD (bindingsOf rs) i noBinding .nonterminal) 0 (λ z. omega arith))
 
-  module _ (types last : ℕ) (t : IsPlace counts 7 types) (is : IsPlace groups 1 last) (b : ℕ) (none : NoneTo file index counts flags last b) where
-    module _ (h : b < last) (r : Bool) (at : StartsAt file index types b (getD flags b 0) r) where
-      here : (n : ℕ) (rs : List Record) → Typed file index (getD counts 7 0) rs → Indexed file index Kind.binding n rs → n ≤ 1024 → last ≤ n → r ≡ startsAt rs b (getD flags b 0)
-      here n rs w ix few l = at .answer n rs (subst (λ k. Typed file index k rs) (sym (t .value)) w) ix few (omega arith)
+  module _ (types last : ℕ) (t : IsPlace counts 7 types) (is : IsPlace groups 1 last) (b : ℕ) (none : NoneTo index counts flags last b) where
+    module _ (h : b < last) (r : Bool) (at : StartsAt index types b (getD flags b 0) r) where
+      here : {file : List ℕ} (n : ℕ) (rs : List Record) → Typed file index (getD counts 7 0) rs → Indexed file index Kind.binding n rs → n ≤ 1024 → last ≤ n → r ≡ startsAt rs b (getD flags b 0)
+      here {file} n rs w ix few l = at .answer n rs (subst (λ k. Typed file index k rs) (sym (t .value)) w) ix few (omega arith)
 
-      pub none-more : r ≡ false → NoneTo file index counts flags last (b + 1)
+      pub none-more : r ≡ false → NoneTo index counts flags last (b + 1)
       none-more e = record { none-starts = λ n rs w ix few l. below-more (λ i. startsAt rs i (getD flags i 0) ≡ false) b (none .none-starts n rs w ix few l) (sym (here n rs w ix few l) ∙ e) }
 
-      pub start-found : r ≡ true → FindsStart file index counts groups flags true
+      pub start-found : r ≡ true → FindsStart index counts groups flags true
       start-found e =
           record {
             answer = λ n rs w ix few grouped room.
@@ -147,7 +138,7 @@ module _ (file index counts groups flags : List ℕ) where
                 (ap (isKept (getD flags b 0) &&_) (starts-low n last rs ix grouped room is b h) ∙ sym (here n rs w ix few l) ∙ e));
           }
 
-    pub start-none : last ≤ b → FindsStart file index counts groups flags false
+    pub start-none : last ≤ b → FindsStart index counts groups flags false
     start-none h =
         record {
           answer = λ n rs w ix few grouped room.
@@ -157,11 +148,11 @@ module _ (file index counts groups flags : List ℕ) where
               sym (any-none isStart flags (bindingsOf rs) noBinding (λ i k. each n rs w ix few grouped room l i (omega arith) (decLt i last)));
         }
       where
-        each : (n : ℕ) (rs : List Record) → Typed file index (getD counts 7 0) rs → Indexed file index Kind.binding n rs → n ≤ 1024 → Grouped rs n groups → 1 < length groups → last ≤ n → (i : ℕ) → i < n → Dec (i < last)
+        each : {file : List ℕ} (n : ℕ) (rs : List Record) → Typed file index (getD counts 7 0) rs → Indexed file index Kind.binding n rs → n ≤ 1024 → Grouped rs n groups → 1 < length groups → last ≤ n → (i : ℕ) → i < n → Dec (i < last)
             → (isKept (getD flags i 0) && isStart (getD (bindingsOf rs) i noBinding)) ≡ false
         each n rs w ix few grouped room l i k (yes j) = ap (isKept (getD flags i 0) &&_) (starts-low n last rs ix grouped room is i j) ∙ none .none-starts n rs w ix few l i (omega arith)
         each n rs w ix few grouped room l i k (no j) = ap (isKept (getD flags i 0) &&_) (starts-high n last rs ix grouped room is i (omega arith) k) ∙ and-no (isKept (getD flags i 0))
 
   -- a file has no more bindings
-  pub start-far : (last : ℕ) → IsPlace groups 1 last → 1024 < last → FindsStart file index counts groups flags false
+  pub start-far : (last : ℕ) → IsPlace groups 1 last → 1024 < last → FindsStart index counts groups flags false
   start-far last is h = record { answer = λ n rs w ix few grouped room. absurd (let l = within n last rs ix grouped room is in omega arith) }

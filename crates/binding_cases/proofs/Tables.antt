@@ -10,6 +10,7 @@ use borrow.Author.Tests.{ltb-false}
 use lib.Dec.{eqb, ltb}
 use lib.ListN.{length, getD, take, drop}
 use Rattle.scheme.specs.Lists.{any}
+use Rattle.scheme.specs.Types.{Ty, state, arrow, Tys}
 use Rattle.scheme.specs.Rounds.{kept}
 use Rattle.scheme.specs.Flags.{chosen, keptFlags}
 use Rattle.scheme.specs.Acceptance.{isStart, accepts}
@@ -17,18 +18,19 @@ use Rattle.scheme.proofs.Flags.{chosen-kept, keptFlags-length}
 use Rattle.records.specs.Records.{Record}
 use Rattle.records.proofs.Fields.{Bytes}
 use Rattle.casefile.specs.Kinds.{Kind, number, ofKind, count}
-use Rattle.casefile.specs.Tables.{aritiesOf, signaturesOf, planOf, automatonOf, bindingsOf}
+use Rattle.casefile.specs.Tables.{aritiesOf, signaturesOf, typesOf, planOf, automatonOf, bindingsOf}
 use Rattle.casefile.specs.Refusals.{Test, refuse_at_when_, wrongStart, wrongBodies, misfits, refuseWhole}
 use Rattle.casefile.proofs.Passed.{Passed, first-none}
-use Rattle.entries.specs.Index.{Indexed}
+use Rattle.entries.specs.Index.{base, Indexed}
 use Rattle.entries.specs.Tests.{IsPlace}
-use Rattle.kinds.specs.Known.{Known}
+use Rattle.kinds.specs.Known.{room, Known}
 use Rattle.rule_bodies.specs.RuleBodies.{firstNode}
 use Rattle.plan_tests.specs.PlanTests.{EndsAre}
 use Rattle.plan_tests.proofs.Contents.{payload-bytes}
 use Rattle.groups.specs.Groups.{Grouped, Fills}
 use Rattle.moves.specs.Moves.{Holds}
-use Rattle.goals.specs.Goals.{Typed}
+use Rattle.goals.specs.Goals.{Goal, of-state, of-arrow, Listed, goalBase, ownBase, Goals, Typed, FillsGoals, FillsOwns}
+use Rattle.goals.proofs.Filling.{indexed-same}
 use Rattle.steps.proofs.Wholes.{first-both, plan-right, whole-body}
 use Rattle.binding_tests.specs.BindingTests.{Ready}
 use Rattle.rounds.specs.Shrinking.{testOf, Shrinks}
@@ -49,11 +51,7 @@ enough-flags rs flags e =
     let last = first-both others ((refuse 12 at 0 when ltb flags (count Kind.binding rs)) ∷ []) b .1 in
     ltb-false flags (count Kind.binding rs) (first-none 12 0 (ltb flags (count Kind.binding rs)) [] last .0)
 
-module _ {file index lens counts : List ℕ} {rs : List Record} (known : Known file index lens counts rs) (ok : Passed rs) (bytes : Bytes file) where
-  typed : Typed file index (getD counts 7 0) rs
-  unfolding number
-  typed = record { passed = ok; bytes = payload-bytes (known .entries Kind.type) bytes; there = known .entries Kind.type; few = known .fits Kind.type }
-
+module _ {file index lens counts : List ℕ} {rs : List Record} (known : Known file index lens counts rs) (ok : Passed rs) (bytes : Bytes file) (typed : Typed file index (getD counts 7 0) rs) where
   ready : {ends : List ℕ} → EndsAre rs ends → (flags : ℕ) → refuseWhole rs flags ≡ none → (groups : List ℕ) → length groups ≡ 257 → Fills file index (getD counts 8 0) groups
       → (firsts : List ℕ) → ((f : ℕ) → f < getD counts 4 0 → getD firsts f 0 ≡ firstNode rs f) → (table : List (List (List ℕ))) → Holds file index (getD counts 6 0) table
       → Ready file index counts groups firsts ends table rs
@@ -64,6 +62,7 @@ module _ {file index lens counts : List ℕ} {rs : List Record} (known : Known f
         bytes = bytes;
         passed = ok;
         known = known;
+        typed = typed;
         rules-all = plan-right ok flags whole .0;
         bodies = whole-body ok flags whole;
         groups-long = long;
@@ -76,7 +75,7 @@ module _ {file index lens counts : List ℕ} {rs : List Record} (known : Known f
   -- the promise, from what was made and found
   is-shrunk : {ends : List ℕ} (groups firsts : List ℕ) (table : List (List (List ℕ))) → Ready file index counts groups firsts ends table rs
       → (lent flags marks : List ℕ) (r : Bool) (many rounds total : ℕ) → refuseWhole rs (length lent) ≡ none → total ≡ getD counts 8 0
-      → Shrinks file index counts groups firsts ends table flags many rounds → FindsStart file index counts groups flags r → Writes flags total lent marks
+      → Shrinks file index counts groups firsts ends table flags many rounds → FindsStart index counts groups flags r → Writes flags total lent marks
       → IsShrunk (shrunk (automatonOf rs) (planOf rs) (bindingsOf rs)) lent marks r many total rounds
   unfolding number shrunk accepts
   is-shrunk groups firsts table w lent flags marks r many rounds total whole et shrinks starts writes =
@@ -99,18 +98,67 @@ module _ {file index lens counts : List ℕ} {rs : List Record} (known : Known f
         flags-are = writes (omega arith) (shrinks .long) (omega arith) ∙ ap₂ (λ (l : List ℕ) (n : ℕ). l ++ drop n lent) (ap (λ n. take n flags) all ∙ taken) (all ∙ sym (keptFlags-length test bs));
       }
 
-module _ (file index counts ends lent marks : List ℕ) (r : Bool) (many rounds : ℕ) where
-  pub judged : Bytes file → (total : ℕ) → IsPlace counts 8 total → (groups : List ℕ) → length groups ≡ 257 → Fills file index total groups
+-- The tables of goals, entered in the index.
+-- an index that is the same up to them has the same entries
+known-same : {file before index lens counts : List ℕ} {rs : List Record} → ((i : ℕ) → i < goalBase → getD index i 0 ≡ getD before i 0) → Known file before lens counts rs → Known file index lens counts rs
+known-same {counts = counts} same known =
+    record {
+      entries = λ k. indexed-same (λ i h. same (base k + i) (inside k i (let f = known .fits k in omega arith))) (known .entries k);
+      fits = known .fits;
+      sort-lens = known .sort-lens;
+    }
+  where
+    inside : (k : Kind) (i : ℕ) → i < room k → base k + i < goalBase
+    inside Kind.sort i h = omega arith
+    inside Kind.constructor i h = omega arith
+    inside Kind.nonterminal i h = omega arith
+    inside Kind.rule i h = omega arith
+    inside Kind.states i h = omega arith
+    inside Kind.transition i h = omega arith
+    inside Kind.type i h = omega arith
+    inside Kind.binding i h = omega arith
+    inside Kind.path i h = omega arith
+
+listed-known : {file index lens counts : List ℕ} {rs : List Record} → Known file index lens counts rs → Passed rs → Bytes file → Listed file index (getD counts 7 0) rs
+unfolding number
+listed-known known ok bytes = record { passed = ok; bytes = payload-bytes (known .entries Kind.type) bytes; there = known .entries Kind.type; few = known .fits Kind.type }
+
+goals-same : {before index : List ℕ} {n : ℕ} {rs : List Record} → n ≤ 1024 → ((i : ℕ) → i < ownBase → getD index i 0 ≡ getD before i 0) → Goals before n rs → Goals index n rs
+goals-same {before} {index} {n} {rs} few same w =
+    record {
+      goal-there = λ t h. subst (λ x. Goal rs n x (getD (typesOf rs) t (state 0))) (sym (same (4450 + t) (omega arith))) (w .goal-there t h);
+      result-there = λ g a τ x. subst (λ y. Goal rs n y τ) (sym (same (5474 + g) (by g a τ x))) (w .result-there g a τ x);
+    }
+  where
+    by : (g : ℕ) (a : Tys) (τ : Ty) → Goal rs n g (arrow a τ) → 5474 + g < ownBase
+    by g a τ (of-state q small e f) = let z : _≡_ {A = ℕ} 0 1 = cc in absurd (omega arith)
+    by g a τ (of-arrow b r inside e f) = omega arith
+
+module _ (file before counts ends lent marks : List ℕ) (r : Bool) (many rounds : ℕ) where
+  pub judged : Bytes file → (total : ℕ) → IsPlace counts 8 total → (types : ℕ) → IsPlace counts 7 types → (middle index : List ℕ) → FillsGoals file before types middle → FillsOwns file middle types total index
+      → (groups : List ℕ) → length groups ≡ 257 → Fills file index total groups
       → (rules : ℕ) → IsPlace counts 4 rules → (firsts : List ℕ) → ((rs : List Record) → Passed rs → Indexed file index Kind.rule rules rs → rules ≤ 256 → (f : ℕ) → f < rules → getD firsts f 0 ≡ firstNode rs f)
       → (transitions : ℕ) → IsPlace counts 6 transitions → (table : List (List (List ℕ))) → Holds file index transitions table
-      → (flags : List ℕ) → Shrinks file index counts groups firsts ends table flags many rounds → FindsStart file index counts groups flags r → Writes flags total lent marks
-      → JudgesBindings file index counts ends lent marks r many total rounds
+      → (flags : List ℕ) → Shrinks file index counts groups firsts ends table flags many rounds → FindsStart index counts groups flags r → Writes flags total lent marks
+      → JudgesBindings file before counts ends lent marks r many total rounds
   unfolding number
-  judged bytes total et groups long fills rules er firsts first-nodes transitions em table holds flags shrinks starts writes =
+  judged bytes total et types ey middle index fills-goals fills-owns groups long fills rules er firsts first-nodes transitions em table holds flags shrinks starts writes =
       record {
-        judged = λ lens rs known ok ends-are whole.
+        judged = λ lens rs known₀ room ok ends-are whole.
+            let known₁ : Known file middle lens counts rs = known-same (fills-goals .stays) known₀ in
+            let known : Known file index lens counts rs = known-same (λ i h. fills-owns .stays i (omega arith)) known₁ in
+            let listed₀ : Listed file before types rs = subst (λ n. Listed file before n rs) (sym (ey .value)) (listed-known known₀ ok bytes) in
+            let listed₁ : Listed file middle types rs = subst (λ n. Listed file middle n rs) (sym (ey .value)) (listed-known known₁ ok bytes) in
+            let listed : Listed file index types rs = subst (λ n. Listed file index n rs) (sym (ey .value)) (listed-known known ok bytes) in
+            let there : Indexed file middle Kind.binding total rs = subst (λ n. Indexed file middle Kind.binding n rs) (sym (et .value)) (known₁ .entries Kind.binding) in
+            let all-fit = known₀ .fits Kind.binding in
+            let te = et .value in
+            let owns = fills-owns .owns rs listed₁ there (omega arith) (omega (arith, fills-goals .long)) in
+            let goals = goals-same (listed .few) (fills-owns .stays) (fills-goals .goals rs listed₀ (omega arith)) in
+            let typed : Typed file index types rs = record { passed = ok; bytes = listed .bytes; there = listed .there; few = listed .few; goals = goals; owns = owns } in
             let nodes : (f : ℕ) → f < getD counts 4 0 → getD firsts f 0 ≡ firstNode rs f =
             λ f h. first-nodes rs ok (subst (λ n. Indexed file index Kind.rule n rs) (sym (er .value)) (known .entries Kind.rule)) (let a = known .fits Kind.rule in let b = er .value in omega arith) f (let b = er .value in omega arith) in
-            let w = ready known ok bytes ends-are (length lent) whole groups long (subst (λ n. Fills file index n groups) (et .value) fills) firsts nodes table (subst (λ n. Holds file index n table) (em .value) holds) in
-            is-shrunk known ok bytes groups firsts table w lent flags marks r many rounds total whole (et .value) shrinks starts writes;
+            let here : Typed file index (getD counts 7 0) rs = subst (λ n. Typed file index n rs) (ey .value) typed in
+            let w = ready known ok bytes here ends-are (length lent) whole groups long (subst (λ n. Fills file index n groups) (et .value) fills) firsts nodes table (subst (λ n. Holds file index n table) (em .value) holds) in
+            is-shrunk known ok bytes here groups firsts table w lent flags marks r many rounds total whole (et .value) shrinks starts writes;
       }

@@ -27,12 +27,12 @@ abbrev pub startsAt : List Record → ℕ → ℕ → Bool
 startsAt rs b flag = isKept flag && same (getD (bindingsOf rs) b noBinding .type) (state 0)
 
 -- r says so
-pub record StartsAt (file index : List ℕ) (types b flag : ℕ) (r : Bool) : Type 0 where
-  pub answer : (n : ℕ) (rs : List Record) → Typed file index types rs → Indexed file index Kind.binding n rs → n ≤ 1024 → b < n → r ≡ startsAt rs b flag
+pub record StartsAt (index : List ℕ) (types b flag : ℕ) (r : Bool) : Type 0 where
+  pub answer : {file : List ℕ} (n : ℕ) (rs : List Record) → Typed file index types rs → Indexed file index Kind.binding n rs → n ≤ 1024 → b < n → r ≡ startsAt rs b flag
 
 -- r says whether a binding that is kept by its flag is the start binding
-pub record FindsStart (file index counts groups flags : List ℕ) (r : Bool) : Type 0 where
-  pub answer : (n : ℕ) (rs : List Record) → Typed file index (getD counts 7 0) rs → Indexed file index Kind.binding n rs → n ≤ 1024 → Grouped rs n groups → 1 < length groups
+pub record FindsStart (index counts groups flags : List ℕ) (r : Bool) : Type 0 where
+  pub answer : {file : List ℕ} (n : ℕ) (rs : List Record) → Typed file index (getD counts 7 0) rs → Indexed file index Kind.binding n rs → n ≤ 1024 → Grouped rs n groups → 1 < length groups
       → r ≡ any isStart (chosen flags (bindingsOf rs))
 
 -- the first n flags are written
@@ -49,5 +49,5 @@ pub record IsShrunk (s : Shrunk) (lent flags : List ℕ) (accepted : Bool) (kept
 
 -- the promise, for the tables of a file that is not refused
 pub record JudgesBindings (file index counts ends lent flags : List ℕ) (accepted : Bool) (kept total rounds : ℕ) : Type 0 where
-  pub judged : (lens : List ℕ) (rs : List Record) → Known file index lens counts rs → Passed rs → EndsAre rs ends → refuseWhole rs (length lent) ≡ none
+  pub judged : (lens : List ℕ) (rs : List Record) → Known file index lens counts rs → 7522 ≤ length index → Passed rs → EndsAre rs ends → refuseWhole rs (length lent) ≡ none
       → IsShrunk (shrunk (automatonOf rs) (planOf rs) (bindingsOf rs)) lent flags accepted kept total rounds

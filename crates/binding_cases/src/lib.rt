@@ -1,10 +1,11 @@
 // Binding cases: which of the bindings offered are kept, in how many rounds, and whether the start binding is one of them.
 use entries::place_at;
 use first_nodes::fill_firsts;
-use goals::goal_of;
+use goal_tables::own_of;
+use goals::fill_goals;
+use goals::fill_owns;
 use groups::fill_groups;
 use moves::moves;
-use records::word_at;
 use rounds::shrink;
 ghost use mathlib.Core.Path.{_≡_};
 ghost use lib.ListN.{length};
@@ -20,8 +21,8 @@ pub struct Shrunken {
 }
 
 // Whether binding b is kept by its flag and has the state 0 for its type.
-fn starts_at(file: &[u8], index: &[u16], types: usize, b: usize, flag: u8) -> bool
-    ensures { λ r. ⌜ StartsAt (now (file .entry)) (now (index .entry)) types b flag r ⌝ }
+fn starts_at(index: &[u16], types: usize, b: usize, flag: u8) -> bool
+    ensures { λ r. ⌜ StartsAt (now (index .entry)) types b flag r ⌝ }
 {
     if flag == 0 {
         return false;
@@ -29,19 +30,12 @@ fn starts_at(file: &[u8], index: &[u16], types: usize, b: usize, flag: u8) -> bo
     if 1024 <= b {
         return false;
     }
-    let t = word_at(file, place_at(index, 2144 + b) + 2);
-    goal_of(file, index, types, t) == types
+    own_of(index, b) == types
 }
 
 // Whether the start binding is kept: one of nonterminal 0, whose bindings are the first, with the state 0.
-fn start_kept(
-    file: &[u8],
-    index: &[u16],
-    counts: &[u16],
-    groups: &[u16],
-    flags: &[u8; 1024],
-) -> bool
-    ensures { λ r. ⌜ FindsStart (now (file .entry)) (now (index .entry)) (now (counts .entry)) (now (groups .entry)) (now (flags .entry)) r ⌝ }
+fn start_kept(index: &[u16], counts: &[u16], groups: &[u16], flags: &[u8; 1024]) -> bool
+    ensures { λ r. ⌜ FindsStart (now (index .entry)) (now (counts .entry)) (now (groups .entry)) (now (flags .entry)) r ⌝ }
 {
     let types = place_at(counts, 7);
     let last = place_at(groups, 1);
@@ -51,7 +45,7 @@ fn start_kept(
     let mut b: usize = 0;
     while b < last {
         let flag = flags[b];
-        if starts_at(file, index, types, b, flag) {
+        if starts_at(index, types, b, flag) {
             return true;
         }
         b = b + 1;
@@ -77,10 +71,11 @@ fn write_flags(from: &[u8; 1024], n: usize, to: &mut [u8])
 }
 
 // What comes of the bindings of a file, with the tables of its records; their flags are written, 1 for a kept binding and
-// 0 for a dropped one. What the memo held before does not matter.
+// 0 for a dropped one. Behind its entries the index gets the goals that its types are. What the memo held before does not
+// matter.
 pub fn judge_bindings(
     file: &[u8],
-    index: &[u16],
+    index: &mut [u16],
     counts: &[u16],
     ends: &[u16],
     flags: &mut [u8],
@@ -89,6 +84,9 @@ pub fn judge_bindings(
     ensures { λ r. ⌜ JudgesBindings (now (file .entry)) (now (index .entry)) (now (counts .entry)) (now (ends .entry)) (now (flags .entry)) (now (flags .exit)) (r .accepted) (r .kept) (r .total) (r .rounds) ⌝ }
 {
     let total = place_at(counts, 8);
+    let types = place_at(counts, 7);
+    fill_goals(file, index, types);
+    fill_owns(file, index, types, total);
     let mut groups = [0u16; 257];
     fill_groups(file, index, total, &mut groups);
     let mut firsts = [0u16; 256];
@@ -96,7 +94,7 @@ pub fn judge_bindings(
     let table = moves(file, index, place_at(counts, 6));
     let ended = shrink(file, index, counts, &groups, &firsts, ends, table, memo);
     let kept = ended.flags;
-    let accepted = start_kept(file, index, counts, &groups, &kept);
+    let accepted = start_kept(index, counts, &groups, &kept);
     write_flags(&kept, total, flags);
     Shrunken {
         accepted,

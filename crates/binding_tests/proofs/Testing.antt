@@ -31,12 +31,12 @@ use Rattle.lookup.proofs.Found.{entry-there}
 use Rattle.rule_bodies.specs.RuleBodies.{ruleOf}
 use Rattle.plan_tests.proofs.Contents.{payload-bytes}
 use Rattle.moves.proofs.Targets.{arity-small}
-use Rattle.goals.specs.Goals.{Goal, Typed, IsGoal}
+use Rattle.goals.specs.Goals.{Goal, Typed, typeOfBinding, IsOwn}
+use Rattle.goals.proofs.Goals.{fewer, binding-there}
 use Rattle.finals.specs.Finals.{IsFinal}
 use Rattle.memo.specs.Memo.{Under}
 use Rattle.memo.proofs.Remembering.{faithful-none}
 use Rattle.candidates.proofs.Spanning.{binding-made}
-use Rattle.candidates.proofs.Choosing.{fewer, binding-there}
 use Rattle.term_check.specs.Checking.{Body, Setting, Right, ChecksTerm}
 use Rattle.candidates.specs.Candidates.{noBinding}
 use Rattle.binding_tests.specs.BindingTests.{Ready, entriesFor, TestsBinding}
@@ -100,8 +100,8 @@ module _ (file index counts groups firsts ends : List ℕ) (table : List (List (
         under = λ n t u. under-more memo n (stamp * 2) (stamp * 2 + 2) (omega arith) u;
       }
 
-  module _ (types constructors place f t own goal first : ℕ) (body here : List ℕ) (is-types : types ≡ getD counts 7 0) (is-constructors : constructors ≡ getD counts 2 0) (is-place : place ≡ getD index (2144 + b) 0)
-      (is-f : f ≡ word file place) (is-t : t ≡ word file (place + 2)) (is-own : IsGoal file index types t own) (is-goal : IsFinal file index types own goal) (is-body : body ≡ entryOf file index (352 + f))
+  module _ (types constructors place f own goal first : ℕ) (body here : List ℕ) (is-types : types ≡ getD counts 7 0) (is-constructors : constructors ≡ getD counts 2 0) (is-place : place ≡ getD index (2144 + b) 0)
+      (is-f : f ≡ word file place) (is-own : IsOwn index b own) (near : b < 1024) (is-goal : IsFinal index types own goal) (is-body : body ≡ entryOf file index (352 + f))
       (is-first : first ≡ getD firsts f 0) (is-here : here ≡ drop first ends) where
     abbrev x : Body
     x = record { file = file; index = index; groups = groups; kept = kept; ends = here; body = body; table = table; test = record { types = types; constructors = constructors; own = own; stamp = stamp } }
@@ -121,12 +121,6 @@ module _ (file index counts groups firsts ends : List ℕ) (table : List (List (
           let z : place ≡ getD index (2144 + b) 0 + 0 = omega arith in
           is-f ∙ ap (word file) z ∙ w .known .entries Kind.binding .field-there b (omega arith) 2 0 (let (four, s, k) = binding-there (w .passed) b inside in omega arith)
 
-      type-is : t ≡ word payload 2
-      unfolding number
-      type-is =
-          let (c, d) = bindings-count rs w in
-          is-t ∙ ap (λ z. word file (z + 2)) is-place ∙ w .known .entries Kind.binding .field-there b (omega arith) 2 2 (let (four, s, k) = binding-there (w .passed) b inside in omega arith)
-
       rule-there : f < count Kind.rule rs
       unfolding number
       rule-there = let (four, s, k) = binding-there (w .passed) b inside in let e = symbol-is in let r = w .rules-all in omega arith
@@ -138,25 +132,13 @@ module _ (file index counts groups firsts ends : List ℕ) (table : List (List (
           is-body ∙ entry-there (w .known .entries Kind.rule) f (let r = rule-there in omega arith)
 
       typed : Typed file index types rs
-      unfolding number
-      typed =
-          record {
-            passed = w .passed;
-            bytes = payload-bytes (w .known .entries Kind.type) (w .bytes);
-            there = subst (λ n. Indexed file index Kind.type n rs) (sym is-types) (w .known .entries Kind.type);
-            few = let k = w .known .fits Kind.type in omega arith;
-          }
+      typed = subst (λ n. Typed file index n rs) (sym is-types) (w .typed)
 
       abbrev τ : Ty
-      τ = getD (typesOf rs) t (state 0)
+      τ = getD (typesOf rs) (typeOfBinding rs b) (state 0)
 
       own-type : Goal rs types own τ
-      unfolding number
-      own-type =
-          is-own .goal rs typed (let (four, s, k) = binding-there (w .passed) b inside in
-          let e = type-is in
-          let c = w .known .entries Kind.type .counted in
-          omega arith)
+      own-type = is-own .own rs types typed l near
 
       setting : Setting x rs τ
       unfolding number
@@ -195,7 +177,7 @@ module _ (file index counts groups firsts ends : List ℕ) (table : List (List (
       holds-is =
           let made = binding-made rs b inside in
           let ef : getD (bindingsOf rs) b noBinding .nonterminal ≡ f = made .0 ∙ sym symbol-is in
-          let et : getD (bindingsOf rs) b noBinding .type ≡ τ = made .1 ∙ ap (λ z. getD (typesOf rs) z (state 0)) (sym type-is) in
+          let et : getD (bindingsOf rs) b noBinding .type ≡ τ = made .1 in
           let eb : getD (map bodyOf (payloads Kind.rule rs)) f (node (nt f) []ᵗ) ≡ bodyOf (ruleOf rs f) = getD-map-in bodyOf (payloads Kind.rule rs) f (node (nt f) []ᵗ) [] (let c = count-payloads Kind.rule rs in let r = rule-there in omega arith) in
           ap₂ (λ g σ. has same (headTypes (automatonOf rs) (chosen kept (bindingsOf rs)) (domains σ)) (getD (map bodyOf (payloads Kind.rule rs)) g (node (nt g) []ᵗ)) (final σ)) ef et
           ∙ ap (λ z. has same (headTypes (automatonOf rs) (chosen kept (bindingsOf rs)) (domains τ)) z (final τ)) eb

@@ -16,17 +16,19 @@ use Rattle.rule_bodies.specs.RuleBodies.{ruleOf, firstNode}
 use Rattle.plan_tests.specs.PlanTests.{EndsAre}
 use Rattle.groups.specs.Groups.{Grouped}
 use Rattle.moves.specs.Moves.{TableFor}
+use Rattle.goals.specs.Goals.{Typed}
 use Rattle.steps.specs.Steps.{Whole}
 use Rattle.memo.specs.Memo.{Under}
 use Rattle.candidates.specs.Candidates.{noBinding}
 
--- the tables of a file that is not refused: its index and counts, the groups of its bindings, where the nodes of each
+-- the tables of a file that is not refused: its index, with its types as goals, and counts, the groups of its bindings, where the nodes of each
 -- rule begin, the ends of the subterms, the transitions
 pub record Ready (file index counts groups firsts ends : List ℕ) (table : List (List (List ℕ))) (rs : List Record) : Type 0 where
   pub lens : List ℕ
   pub bytes : Bytes file
   pub passed : Passed rs
   pub known : Known file index lens counts rs
+  pub typed : Typed file index (getD counts 7 0) rs
   pub rules-all : count Kind.rule rs ≡ count Kind.nonterminal rs
   pub bodies : (f : ℕ) → f < count Kind.rule rs → Whole (ruleOf rs f)
   pub groups-long : length groups ≡ 257

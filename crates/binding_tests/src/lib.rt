@@ -1,7 +1,7 @@
 // The test of one binding.
 use entries::place_at;
 use finals::final_of;
-use goals::goal_of;
+use goal_tables::own_of;
 use lookup::entry;
 use records::word_at;
 use term_check::Test;
@@ -43,8 +43,8 @@ pub fn holds(
     let constructors = place_at(counts, 2);
     let binding = place_at(index, 2144 + b);
     let f = word_at(file, binding);
-    let own = goal_of(file, index, types, word_at(file, binding + 2));
-    let goal = final_of(file, index, types, own);
+    let own = own_of(index, b);
+    let goal = final_of(index, types, own);
     let body = entry(file, index, 352 + f);
     let here = from_node(ends, place_at(firsts, f));
     let test = Test {

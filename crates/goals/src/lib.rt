@@ -1,8 +1,8 @@
 // Types by number, as the goals of a check: of so many types, an arrow by its number, and a state by its number behind
 // those of the types. The index of a file has, behind its entries, the goal that each type is from number 4,450 on, the
 // result of each arrow from 5,474 on, and the type of each binding from 6,498 on.
-use entries::place_at;
 use enter::store;
+use entries::place_at;
 use records::byte_at;
 use records::word_at;
 ghost use Rattle.goals.specs.Goals.{ReadsGoal, ReadsResult, FillsGoals, FillsOwns};

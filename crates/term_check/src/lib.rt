@@ -54,7 +54,17 @@ pub fn check_term(
         if tag != 0 {
             let own = test.own;
             let nonterminal = tag == 1;
-            return bare_has(file, index, types, groups, kept, own, nonterminal, number, goal);
+            return bare_has(
+                file,
+                index,
+                types,
+                groups,
+                kept,
+                own,
+                nonterminal,
+                number,
+                goal,
+            );
         }
     }
     let old = known(memo, types + 16, test.stamp, at, goal);

@@ -1,19 +1,9 @@
 -- `holds` meets its contract.
 use native.Mathlib.Omega.{arith}
-use mathlib.Core.Path.{refl, sym}
 use Rattle.binding_tests.proofs.Testing.{binding-far, binding-tested}
 use borrow.Author.Needs.{needs}
 use Rattle.binding_tests.proofs.holds.Statement.{statement}
 use Rattle.binding_tests.proofs.holds.Tie as tie
-use Rattle.binding_tests.proofs.holds.Reads as reads
-use Rattle.binding_tests.proofs.holds.Lts as lts
-use Rattle.binding_tests.proofs.from_node.Reads as from-node-reads
-use Rattle.entries.proofs.place_at.Reads as place-at-reads
-use Rattle.finals.proofs.final_of.Reads as final-of-reads
-use Rattle.goal_tables.proofs.goal_of.Reads as goal-of-reads
-use Rattle.lookup.proofs.entry.Reads as entry-reads
-use Rattle.records.proofs.word_at.Reads as word-at-reads
-use Rattle.term_check.proofs.check_term.Reads as check-term-reads
 
 -- src/lib.rt:40:9
 returns : tie.Need-returns
@@ -39,17 +29,9 @@ place-at-requires-3 c κs = search needs
 word-at-requires : tie.Need-word-at-requires
 word-at-requires c κs = search needs
 
--- src/lib.rt:46:57
-add-word-at : tie.Need-add-word-at
-add-word-at c = search needs
-
--- src/lib.rt:46:43
-word-at-requires-2 : tie.Need-word-at-requires-2
-word-at-requires-2 c κs = search needs
-
 -- src/lib.rt:46:9
-goal-of-requires : tie.Need-goal-of-requires
-goal-of-requires c κs = search needs
+own-of-requires : tie.Need-own-of-requires
+own-of-requires c κs = search needs
 
 -- src/lib.rt:47:9
 final-of-requires : tie.Need-final-of-requires
@@ -81,7 +63,7 @@ same-length c = search needs
 
 -- src/lib.rt:24:1
 returns-2 : tie.Need-returns-2
-returns-2 c = binding-tested _ _ _ _ _ _ _ _ _ _ _ _ _ _ _ _ _ _ _ _ _ (c .before .before .before .before .before .before .before .before .before .before .before .before .before .place-at .ensures .value) (c .before .before .before .before .before .before .before .before .before .before .before .before .place-at2 .ensures .value) (c .before .before .before .before .before .before .before .before .before .before .before .place-at3 .ensures .value) (c .before .before .before .before .before .before .before .before .before .before .word-at .ensures .value) (c .before .before .before .before .before .before .before .before .before .word-at2 .ensures .value) (c .before .before .before .before .before .before .before .before .goal-of .ensures) (c .before .before .before .before .before .before .before .final-of .ensures) (c .before .before .before .before .before .before .entry .ensures) (c .before .before .before .before .before .place-at4 .ensures .value) (c .before .before .before .before .from-node .ensures) _ _ (c .before .before .check-term .ensures)
+returns-2 c = binding-tested _ _ _ _ _ _ _ _ _ _ _ _ _ _ _ _ _ _ _ _ (c .before .before .before .before .before .before .before .before .before .before .before .before .place-at .ensures .value) (c .before .before .before .before .before .before .before .before .before .before .before .place-at2 .ensures .value) (c .before .before .before .before .before .before .before .before .before .before .place-at3 .ensures .value) (c .before .before .before .before .before .before .before .before .before .word-at .ensures .value) (c .before .before .before .before .before .before .before .before .own-of .ensures) (let h = c .before .before .before .before .before .before .before .before .before .before .before .before .before .if1 .left in omega arith) (c .before .before .before .before .before .before .before .final-of .ensures) (c .before .before .before .before .before .before .entry .ensures) (c .before .before .before .before .before .place-at4 .ensures .value) (c .before .before .before .before .from-node .ensures) _ _ (c .before .before .check-term .ensures)
 
 pub holds-spec : {M : Type 1} → statement M
 holds-spec =
@@ -93,9 +75,7 @@ holds-spec =
     add-place-at
     place-at-requires-3
     word-at-requires
-    add-word-at
-    word-at-requires-2
-    goal-of-requires
+    own-of-requires
     final-of-requires
     add-entry
     entry-requires
