@@ -70,6 +70,21 @@ pub chains-other : (index : List ℕ) (kind n : ℕ) (p : List ℕ) → (kind �
 unfolding chainsAfter
 chains-other index kind n p k = simp (ne-eqb kind 7 k)
 
+pub chains-set : (index : List ℕ) (kind n : ℕ) (p : List ℕ) → kind ≡ 7 → getD index (3170 + hashOf p) 0 < 65536 → n + 1 < 65536
+    → chainsAfter index kind n p ≡ set (set index (3426 + n) (getD index (3170 + hashOf p) 0)) (3170 + hashOf p) (n + 1)
+unfolding chainsAfter
+chains-set index kind n p k small few =
+    simp (eq-eqb kind 7 k) (ap (λ z. stored z (3170 + hashOf p) (n + 1)) (stored-set index (3426 + n) (getD index (3170 + hashOf p) 0) small)
+    ∙ stored-set (set index (3426 + n) (getD index (3170 + hashOf p) 0)) (3170 + hashOf p) (n + 1) few)
+
+pub chains-length : (index : List ℕ) (kind n : ℕ) (p : List ℕ) → length (chainsAfter index kind n p) ≡ length index
+unfolding chainsAfter
+chains-length index kind n p = by (eqb kind 7)
+  where
+    by : (b : Bool) → length (if b then stored (stored index (3426 + n) (getD index (3170 + hashOf p) 0)) (3170 + hashOf p) (n + 1) else index) ≡ length index
+    by true = stored-length (stored index (3426 + n) (getD index (3170 + hashOf p) 0)) (3170 + hashOf p) (n + 1) ∙ stored-length index (3426 + n) (getD index (3170 + hashOf p) 0)
+    by false = refl
+
 -- the block of a kind, by its number
 module _ (kind : ℕ) where
   abbrev pub Base : ℕ → Type 0
