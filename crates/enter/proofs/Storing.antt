@@ -12,7 +12,8 @@ use Rattle.scheme.specs.Lists.{if_then_else_}
 use Rattle.records.specs.Fields.{word}
 use Rattle.casefile.specs.Kinds.{Kind, sort, constructor, nonterminal, rule, states, transition, type, binding, path, number, kindOf}
 use Rattle.entries.specs.Index.{base}
-use Rattle.enter.specs.Entering.{stored, lensAfter}
+use Rattle.entries.specs.Chains.{hashOf}
+use Rattle.enter.specs.Entering.{stored, lensAfter, chainsAfter}
 use mathlib.Core.Option.{some}
 use Rattle.casefile.proofs.Passed.{kindOf-number}
 
@@ -58,6 +59,32 @@ lens-length lens kind n p = by (eqb kind 1)
     by true = stored-length lens (n + 1) (getD lens (word p 2) 0 + 1)
     by false = refl
 
+-- the chains after a type, and after another record
+pub chains-type : (index : List ℕ) (kind n : ℕ) (p : List ℕ) (h last : ℕ) (between after : List ℕ) → kind ≡ 7 → h ≡ hashOf p → last ≡ getD index (3170 + h) 0
+    → between ≡ stored index (3426 + n) last → after ≡ stored between (3170 + h) (n + 1) → after ≡ chainsAfter index kind n p
+unfolding chainsAfter
+chains-type index kind n p h last between after k eh el eb e =
+    simp (eq-eqb kind 7 k) (e ∙ ap (λ z. stored z (3170 + h) (n + 1)) (eb ∙ ap (stored index (3426 + n)) el) ∙ ap (λ z. stored (stored index (3426 + n) (getD index (3170 + z) 0)) (3170 + z) (n + 1)) eh)
+
+pub chains-other : (index : List ℕ) (kind n : ℕ) (p : List ℕ) → (kind ≡ 7 → ⊥) → index ≡ chainsAfter index kind n p
+unfolding chainsAfter
+chains-other index kind n p k = simp (ne-eqb kind 7 k)
+
+pub chains-set : (index : List ℕ) (kind n : ℕ) (p : List ℕ) → kind ≡ 7 → getD index (3170 + hashOf p) 0 < 65536 → n + 1 < 65536
+    → chainsAfter index kind n p ≡ set (set index (3426 + n) (getD index (3170 + hashOf p) 0)) (3170 + hashOf p) (n + 1)
+unfolding chainsAfter
+chains-set index kind n p k small few =
+    simp (eq-eqb kind 7 k) (ap (λ z. stored z (3170 + hashOf p) (n + 1)) (stored-set index (3426 + n) (getD index (3170 + hashOf p) 0) small)
+    ∙ stored-set (set index (3426 + n) (getD index (3170 + hashOf p) 0)) (3170 + hashOf p) (n + 1) few)
+
+pub chains-length : (index : List ℕ) (kind n : ℕ) (p : List ℕ) → length (chainsAfter index kind n p) ≡ length index
+unfolding chainsAfter
+chains-length index kind n p = by (eqb kind 7)
+  where
+    by : (b : Bool) → length (if b then stored (stored index (3426 + n) (getD index (3170 + hashOf p) 0)) (3170 + hashOf p) (n + 1) else index) ≡ length index
+    by true = stored-length (stored index (3426 + n) (getD index (3170 + hashOf p) 0)) (3170 + hashOf p) (n + 1) ∙ stored-length index (3426 + n) (getD index (3170 + hashOf p) 0)
+    by false = refl
+
 -- the block of a kind, by its number
 module _ (kind : ℕ) where
   abbrev pub Base : ℕ → Type 0
@@ -79,8 +106,10 @@ module _ (kind : ℕ) where
   base-rest a b c d e f g h path x = refl
 
 -- What a record enters, by what the steps of the program did.
-pub entered-index : (index counts : List ℕ) (kind start n b x : ℕ) {after : List ℕ} → n ≡ getD counts kind 0 → b ≡ x → after ≡ stored index (b + n) start → after ≡ stored index (x + getD counts kind 0) start
-entered-index index counts kind start n b x en eb e = e ∙ ap₂ (λ y z. stored index (y + z) start) eb en
+pub entered-index : (index counts : List ℕ) (kind start n b x : ℕ) (p between after : List ℕ) → n ≡ getD counts kind 0 → b ≡ x → between ≡ stored index (b + n) start → after ≡ chainsAfter between kind n p
+    → after ≡ chainsAfter (stored index (x + getD counts kind 0) start) kind (getD counts kind 0) p
+entered-index index counts kind start n b x p between after en eb e f =
+    f ∙ ap₂ (λ y z. chainsAfter y kind z p) (e ∙ ap₂ (λ y z. stored index (y + z) start) eb en) en
 
 pub entered-lens : (lens counts : List ℕ) (kind n : ℕ) (p after : List ℕ) → n ≡ getD counts kind 0 → after ≡ lensAfter lens kind n p → after ≡ lensAfter lens kind (getD counts kind 0) p
 entered-lens lens counts kind n p after en e = e ∙ ap (λ z. lensAfter lens kind z p) en

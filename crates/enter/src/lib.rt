@@ -1,4 +1,5 @@
 // One record entered in the tables of the walk: the index, the argument counts of the sorts, the counts of the kinds.
+use chains::hash_of;
 use entries::place_at;
 use records::word_at;
 ghost use mathlib.Core.Path.{_≡_};
@@ -6,7 +7,7 @@ ghost use Prim.Native.Nat.{_+_, _<_, _≤_};
 ghost use lib.ListN.{getD};
 ghost use Rattle.casefile.specs.Kinds.{Kind, number};
 ghost use Rattle.entries.specs.Index.{base};
-ghost use Rattle.enter.specs.Entering.{stored, lensAfter};
+ghost use Rattle.enter.specs.Entering.{stored, lensAfter, chainsAfter};
 
 // Stores v at i of a table; a number of over two bytes, or a place past the end, changes nothing.
 pub fn store(a: &mut [u16], i: usize, v: usize)
@@ -52,6 +53,22 @@ fn enter_sort(lens: &mut [u16], kind: usize, n: usize, p: &[u8])
     store(lens, n + 1, arguments + 1);
 }
 
+// Chains a type after n others by the hash of its payload p; nothing for another kind.
+fn enter_type(index: &mut [u16], kind: usize, n: usize, p: &[u8])
+    ensures { λ _. ⌜ (n < 65536 → now (index .exit) ≡ chainsAfter (now (index .entry)) kind n (now (p .entry))) ⌝ }
+{
+    if kind != 7 {
+        return;
+    }
+    if 65535 < n {
+        return;
+    }
+    let head = 3170 + hash_of(p);
+    let last = place_at(index, head);
+    store(index, 3426 + n, last);
+    store(index, head, n + 1);
+}
+
 // Enters a record of a kind, whose payload p starts at start, behind the others of its kind.
 pub fn enter(
     index: &mut [u16],
@@ -61,7 +78,7 @@ pub fn enter(
     start: usize,
     p: &[u8],
 )
-    ensures index { λ _. ⌜ ((k : Kind) → kind ≡ number k → now (index .exit) ≡ stored (now (index .entry)) (base k + getD (now (counts .entry)) kind 0) start) ⌝ }
+    ensures index { λ _. ⌜ ((k : Kind) → kind ≡ number k → now (index .exit) ≡ chainsAfter (stored (now (index .entry)) (base k + getD (now (counts .entry)) kind 0) start) kind (getD (now (counts .entry)) kind 0) (now (p .entry))) ⌝ }
     ensures lens { λ _. ⌜ now (lens .exit) ≡ lensAfter (now (lens .entry)) kind (getD (now (counts .entry)) kind 0) (now (p .entry)) ⌝ }
     ensures counts { λ _. ⌜ now (counts .exit) ≡ stored (now (counts .entry)) kind (getD (now (counts .entry)) kind 0 + 1) ⌝ }
 {
@@ -69,5 +86,6 @@ pub fn enter(
     enter_sort(lens, kind, n, p);
     let first = base_of(kind);
     store(index, first + n, start);
+    enter_type(index, kind, n, p);
     store(counts, kind, n + 1);
 }

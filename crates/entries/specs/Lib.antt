@@ -1,3 +1,4 @@
 pub mod Index
+pub mod Chains
 pub mod Codes
 pub mod Tests

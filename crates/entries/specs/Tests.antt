@@ -12,6 +12,7 @@ use Rattle.casefile.specs.Tables.{sortsOf, stateCount}
 use Rattle.casefile.specs.Refusals.{wrongLength}
 use Rattle.entries.specs.Codes.{codeFor}
 use Rattle.entries.specs.Index.{Indexed}
+use Rattle.entries.specs.Chains.{Chained}
 
 -- r is entry i of the index, and fits two bytes; 0 past the end
 pub record IsPlace (index : List ℕ) (i r : ℕ) : Type 0 where
@@ -61,6 +62,6 @@ module _ (file index : List ℕ) where
       → ((i : ℕ) → i < nonterminals → word (getD (payloads nonterminal rs) i []) 0 < suc sorts)
       → r ≡ codeFor rs p rule
 
-  -- a type after n others, with so many states
+  -- a type after n others, which are chained, with so many states
   abbrev pub TestsType : ℕ → ℕ → List ℕ → ℕ → Type 0
-  TestsType n states p r = (rs : List Record) → Indexed file index type n rs → stateCount rs ≡ states → r ≡ codeFor rs p type
+  TestsType n states p r = (rs : List Record) → Indexed file index type n rs → stateCount rs ≡ states → Chained index (payloads type rs) n → r ≡ codeFor rs p type

@@ -38,7 +38,7 @@ pub fn case_of(file: &[u8], flags: &mut [u8]) -> Case
     ensures case { λ r. ⌜ caseAs (now (file .entry)) r ≡ caseOf (now (file .entry)) (length (now (flags .entry))) ⌝ }
     ensures flags { λ _. ⌜ now (flags .exit) ≡ now (flags .entry) ⌝ }
 {
-    let mut index = [0u16; 3170];
+    let mut index = [0u16; 4450];
     let mut lens = [0u16; 65];
     let mut counts = [0u16; 10];
     let mut ends = [0u16; 15000];

@@ -19,6 +19,7 @@ use Rattle.casefile.proofs.Growth.{grow-length}
 use Rattle.casefile.proofs.TypeTable.{count-payloads}
 use Rattle.entries.specs.Codes.{codeFor}
 use Rattle.entries.specs.Index.{Indexed}
+use Rattle.entries.specs.Chains.{Chained}
 use Rattle.entries.specs.Tests.{Fitting, Tests, TestsNonterminal, TestsBinding, TestsTransition, SortLens, TestsSort, TestsRule, TestsType}
 use Rattle.kinds.specs.Known.{Known}
 use Rattle.kinds.specs.Codes.{codeAs}
@@ -97,7 +98,7 @@ module _ (file index lens counts : List ℕ) (rs : List Record) (known : Known f
 
       pub of-type : (states : ℕ) → states ≡ stateCount rs → kind ≡ 7 → TestsType file index n states p r → r ≡ codeAs rs p (kindOf kind)
       unfolding number
-      of-type qs eq e t = let m = here type n e at-kind in as-kind type r e (t rs (subst (λ z. Indexed file index type z rs) m (known .entries type)) (sym eq))
+      of-type qs eq e t = let m = here type n e at-kind in as-kind type r e (t rs (subst (λ z. Indexed file index type z rs) m (known .entries type)) (sym eq) (subst (Chained index (payloads type rs)) m (known .chained)))
 
       pub of-binding : (nonterminals types : ℕ) → nonterminals ≡ getD counts 3 0 → types ≡ getD counts 7 0 → kind ≡ 8 → TestsBinding file index n nonterminals types p r → r ≡ codeAs rs p (kindOf kind)
       unfolding number

@@ -47,7 +47,7 @@ same-length (a ∷ p) (b ∷ q) ne = ap (λ y. eqb a b && y) (same-length p q (�
 module _ (file index : List ℕ) (b n : ℕ) (p : List ℕ) where
   module _ {k : Kind} {rs : List Record} (is-base : b ≡ base k) (ix : Indexed file index k n rs) where
     -- entry i
-    entry-same : (i at : ℕ) → i < n → at ≡ getD index (b + i) 0 → samePayload p file at ≡ sameBytes p (getD (payloads k rs) i [])
+    pub entry-same : (i at : ℕ) → i < n → at ≡ getD index (b + i) 0 → samePayload p file at ≡ sameBytes p (getD (payloads k rs) i [])
     unfolding samePayload
     entry-same i at h e =
         let there : getD index (base k + i) 0 ≡ at = ap (λ z. getD index (z + i) 0) (sym is-base) ∙ sym e in

@@ -1,7 +1,7 @@
 -- The code of a type record, by what the tests of the program found.
 use Prim.Native.Nat.{ℕ, _%_, _<_, _≤_}
 use native.Mathlib.Omega.{arith}
-use mathlib.Core.Path.{_≡_, refl}
+use mathlib.Core.Path.{_≡_}
 use mathlib.Core.Bool.{Bool, true, false}
 use mathlib.Core.List.{List}
 use borrow.Author.Tests.{lt-ltb, le-ltb, le-leb, lt-leb, eq-eqb, ne-eqb}
@@ -10,14 +10,15 @@ use lib.ListN.{length, drop}
 use Rattle.scheme.specs.Lists.{if_then_else_, any}
 use Rattle.records.specs.Fields.{byte}
 use Rattle.records.specs.Records.{Record}
-use Rattle.casefile.specs.Kinds.{type}
+use Rattle.casefile.specs.Kinds.{type, payloads}
 use Rattle.casefile.specs.Tables.{stateCount, words}
 use Rattle.casefile.specs.Refusals.{wrongLength, tooMany, tooLarge, outOfRange, misplaced, ascends}
 use Rattle.entries.specs.Codes.{codeFor}
 use Rattle.entries.specs.Index.{Indexed}
-use Rattle.repeats.specs.Matching.{Repeats}
+use Rattle.entries.specs.Chains.{Chained}
+use Rattle.chains.specs.Listing.{Listed}
 
-module _ (file index : List ℕ) (n states : ℕ) (p : List ℕ) (rs : List Record) (ix : Indexed file index type n rs) (st : stateCount rs ≡ states) where
+module _ (file index : List ℕ) (n states : ℕ) (p : List ℕ) (rs : List Record) (ix : Indexed file index type n rs) (st : stateCount rs ≡ states) (ch : Chained index (payloads type rs) n) where
   -- a state
   module _ (h : length p ≡ 1) where
     right-length : wrongLength type (length p) ≡ false
@@ -32,10 +33,10 @@ module _ (file index : List ℕ) (n states : ℕ) (p : List ℕ) (rs : List Reco
     unfolding codeFor tooMany tooLarge outOfRange
     state-range m q e l = simp (right-length, ix .counted, lt-leb 1024 n m, eq-eqb (length p) 1 h, st, ← e, le-leb states q l)
 
-    pub state-rest : n < 1024 → (q : ℕ) → q ≡ byte p 0 → q < states → (r : Bool) → Repeats file index 1120 n p r → codeFor rs p type ≡ (if r then 7 else 0)
+    pub state-rest : n < 1024 → (q : ℕ) → q ≡ byte p 0 → q < states → (r : Bool) → Listed file index p r → codeFor rs p type ≡ (if r then 7 else 0)
     unfolding codeFor tooMany tooLarge outOfRange misplaced
     state-rest m q e l r rep =
-        simp (right-length, ix .counted, lt-leb 1024 n m, eq-eqb (length p) 1 h, st, ← e, lt-leb states q l, le-ltb 1 (length p) (omega arith), ← rep type rs refl ix (omega arith) (omega arith))
+        simp (right-length, ix .counted, lt-leb 1024 n m, eq-eqb (length p) 1 h, st, ← e, lt-leb states q l, le-ltb 1 (length p) (omega arith), ← rep n rs ix ch (omega arith) (omega arith))
 
   -- an arrow
   module _ (ne : length p ≡ 1 → ⊥) where
@@ -69,7 +70,7 @@ module _ (file index : List ℕ) (n states : ℕ) (p : List ℕ) (rs : List Reco
         unfolding codeFor tooMany tooLarge outOfRange misplaced
         arrow-down e = simp (even-length, ix .counted, lt-leb 1024 n m, ne-eqb (length p) 1 ne, ← el, el′, lt-ltb 1 (length p) h, ← eu, e)
 
-        pub arrow-rest : up ≡ true → (again : Bool) → Repeats file index 1120 n p again → codeFor rs p type ≡ (if again then 7 else 0)
+        pub arrow-rest : up ≡ true → (again : Bool) → Listed file index p again → codeFor rs p type ≡ (if again then 7 else 0)
         unfolding codeFor tooMany tooLarge outOfRange misplaced
         arrow-rest e again rep =
-            simp (even-length, ix .counted, lt-leb 1024 n m, ne-eqb (length p) 1 ne, ← el, el′, lt-ltb 1 (length p) h, ← eu, e, ← rep type rs refl ix (omega arith) (omega arith))
+            simp (even-length, ix .counted, lt-leb 1024 n m, ne-eqb (length p) 1 ne, ← el, el′, lt-ltb 1 (length p) h, ← eu, e, ← rep n rs ix ch (omega arith) (omega arith))

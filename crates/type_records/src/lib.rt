@@ -1,7 +1,7 @@
 // The test of a type record, 4 to 7.
+use chains::listed;
 use records::byte_at;
 use records::word_at;
-use repeats::repeats;
 ghost use mathlib.Core.Path.{_≡_};
 ghost use Prim.Native.Nat.{ℕ};
 ghost use lib.ListN.{length, drop};
@@ -71,7 +71,7 @@ pub fn test_type(file: &[u8], index: &[u16], n: usize, states: usize, p: &[u8]) 
     if !members_ascend(p) {
         return 7;
     }
-    if repeats(file, index, 1120, n, p) {
+    if listed(file, index, p) {
         return 7;
     }
     0
@@ -87,7 +87,7 @@ fn test_state(file: &[u8], index: &[u16], n: usize, states: usize, p: &[u8]) -> 
     if states <= byte_at(p, 0) {
         return 6;
     }
-    if repeats(file, index, 1120, n, p) {
+    if listed(file, index, p) {
         return 7;
     }
     0

@@ -9,7 +9,7 @@ use mathlib.Core.Bool.{true, false}
 use mathlib.Core.List.{List, [], _∷_, _++_, map, map-append, append-nil}
 use borrow.Author.Tests.{eq-eqb, ne-eqb, le-ltb, lt-ltb}
 use lib.Dec.{eqb, ltb}
-use lib.ListN.{length, getD, set, length-map, length-append, List·getD-append}
+use lib.ListN.{length, getD, set, length-set, length-map, length-append, List·getD-append}
 use lib.Seq.{getD-at, getD-set-same, getD-set-other, getD-append-seam}
 use Rattle.scheme.specs.Lists.{if_then_else_, keepIf, select}
 use Rattle.scheme.proofs.Lists.{select-append}
@@ -25,8 +25,10 @@ use Rattle.casefile.proofs.Passed.{payloads-more, payloads-other}
 use Rattle.casefile.proofs.Growth.{grow-append, grow-length}
 use Rattle.casefile.proofs.TypeTable.{count-payloads}
 use Rattle.entries.specs.Index.{base, Indexed}
+use Rattle.entries.specs.Chains.{hashOf, Chained}
 use Rattle.kinds.specs.Known.{room, Known}
 use Rattle.enter.proofs.Storing.{number-inj}
+use Rattle.walk.proofs.Chains.{chained-below, chained-more}
 
 -- the number of the kind whose block holds a place of the index
 blockOf : ℕ → ℕ
@@ -157,6 +159,18 @@ module _ (file index : List ℕ) (rs : List Record) (r : Record) (k : Kind) (n :
           field-there = each (λ b p. (w off : ℕ) → off + w ≤ length p → field w file (b + off) ≡ field w p off) (λ i h. old .field-there i h) new-field;
         }
 
+-- the entries of a kind stay where every other place is written
+indexed-same : (file index index′ : List ℕ) (k : Kind) (n : ℕ) (rs : List Record) → ((i : ℕ) → i < n → getD index′ (base k + i) 0 ≡ getD index (base k + i) 0) → Indexed file index k n rs → Indexed file index′ k n rs
+indexed-same file index index′ k n rs same old =
+    record {
+      counted = old .counted;
+      behind-header = λ i h. rw (same i h) (old .behind-header i h);
+      place-there = λ i h. old .place-there i h ∙ sym (same i h);
+      length-there = λ i at h f. old .length-there i at h (f ∙ same i h);
+      payload-there = λ i h. rw (same i h) (old .payload-there i h);
+      field-there = λ i h w at l. rw (same i h) (old .field-there i h w at l);
+    }
+
 pub number-few : (k : Kind) → number k < 10
 unfolding number
 number-few sort = omega arith
@@ -184,7 +198,7 @@ base-room path i h = omega arith
 module _ (file index lens counts : List ℕ) (rs : List Record) (known : Known file index lens counts rs)
     (r : Record) (at start : ℕ) (is-record : r ≡ recordAt file at) (fits : whole file at ≡ true) (is-start : start ≡ at + 4)
     (k : Kind) (is-kind : r .kind ≡ number k) (many : getD counts (number k) 0 < room k)
-    (index-long : length index ≡ 3170) (counts-long : length counts ≡ 10) where
+    (index-long : length index ≡ 4450) (counts-long : length counts ≡ 10) where
   abbrev n : ℕ
   n = getD counts (number k) 0
 
@@ -225,17 +239,64 @@ module _ (file index lens counts : List ℕ) (rs : List Record) (known : Known f
       go (yes e) = subst (λ z. getD counts⁺ (number z) 0 ≤ room z) (sym (number-inj k′ k e)) (let f = counted-here in omega arith)
       go (no ne) = let f = counted-other k′ ne in let g = known .fits k′ in omega arith
 
-  -- a record that is no sort
-  pub known-more : number k ≢ 1 → Known file (set index (base k + n) start) lens (set counts (number k) (n + 1)) (rs ++ (r ∷ []))
+  chained⁺ : Chained index⁺ (payloads type rs) (getD counts 7 0)
+  chained⁺ = chained-below index (payloads type rs) (getD counts 7 0) (base k + n) start (base-room k n many) (known .chained)
+
+  -- a record that is no type leaves the chains
+  chained-other : number k ≢ 7 → Chained index⁺ (payloads type (rs ++ (r ∷ []))) (getD counts⁺ 7 0)
+  unfolding number
+  chained-other ne = rw (payloads-other type rs r (ne-eqb (r .kind) 7 (λ e. ne (sym is-kind ∙ e))), counted-other type (λ e. ne (sym e))) chained⁺
+
+  -- one that is no sort leaves their argument counts
+  lens-other : number k ≢ 1 → (i : ℕ) → i < suc (getD counts⁺ 1 0) → getD lens i 0 ≡ length (arguments (getD (sortsOf (rs ++ (r ∷ []))) i o))
   unfolding sortsOf number
-  known-more ne =
-      record {
-        entries = entries-all;
-        fits = fits-all;
-        sort-lens = λ i h.
-            rw (payloads-other sort rs r (ne-eqb (r .kind) 1 (λ e. ne (sym is-kind ∙ e))))
-            (known .sort-lens i (subst (λ m. i < suc m) (counted-other sort (λ e. ne (sym e))) h));
-      }
+  lens-other ne i h =
+      rw (payloads-other sort rs r (ne-eqb (r .kind) 1 (λ e. ne (sym is-kind ∙ e))))
+      (known .sort-lens i (subst (λ m. i < suc m) (counted-other sort (λ e. ne (sym e))) h))
+
+  -- a record that is no sort and no type
+  pub known-more : number k ≢ 1 → number k ≢ 7 → Known file (set index (base k + n) start) lens (set counts (number k) (n + 1)) (rs ++ (r ∷ []))
+  known-more ne ne′ = record { entries = entries-all; fits = fits-all; sort-lens = lens-other ne; chained = chained-other ne′ }
+
+  -- a type, chained by the hash of its payload
+  module _ (is-type : number k ≡ 7) where
+    abbrev head : ℕ
+    head = 3170 + hashOf (r .payload)
+
+    abbrev index⁺⁺ : List ℕ
+    index⁺⁺ = set (set index⁺ (3426 + n) (getD index⁺ head 0)) head (n + 1)
+
+    pub chained-before : Chained (set index (base k + n) start) (payloads type rs) n
+    chained-before = subst (Chained index⁺ (payloads type rs)) (ap (λ z. getD counts z 0) (sym is-type)) chained⁺
+
+    types-many : length (payloads type rs) ≡ n
+    unfolding number
+    types-many = sym (count-payloads type rs) ∙ known .entries type .counted ∙ ap (λ z. getD counts z 0) (sym is-type)
+
+    few : n < 1024
+    unfolding number
+    few = subst (λ z. n < room z) (number-inj k type is-type) many
+
+    outside : (k′ : Kind) (i : ℕ) → i < getD counts⁺ (number k′) 0 → getD index⁺⁺ (base k′ + i) 0 ≡ getD index⁺ (base k′ + i) 0
+    outside k′ i h =
+        let below = base-room k′ i (let f = fits-all k′ in omega arith) in
+        getD-set-other (set index⁺ (3426 + n) (getD index⁺ head 0)) head (base k′ + i) (n + 1) 0 (omega arith) ∙ getD-set-other index⁺ (3426 + n) (base k′ + i) (getD index⁺ head 0) 0 (omega arith)
+
+    chained-type : Chained index⁺⁺ (payloads type (rs ++ (r ∷ []))) (getD counts⁺ 7 0)
+    unfolding number
+    chained-type =
+        let one : suc n ≡ getD counts⁺ 7 0 = (let a = counted-here in let b = ap (λ z. getD counts⁺ z 0) is-type in omega arith) in
+        rw (payloads-more type rs r (eq-eqb (r .kind) 7 (is-kind ∙ is-type)), ← one)
+        (chained-more index⁺ (payloads type rs) n (r .payload) (length-set index (base k + n) start ∙ index-long) types-many few chained-before)
+
+    pub known-type : Known file (set (set (set index (base k + n) start) (3426 + n) (getD (set index (base k + n) start) (3170 + hashOf (r .payload)) 0)) (3170 + hashOf (r .payload)) (n + 1)) lens (set counts (number k) (n + 1)) (rs ++ (r ∷ []))
+    known-type =
+        record {
+          entries = λ k′. indexed-same file index⁺ index⁺⁺ k′ (getD counts⁺ (number k′) 0) (rs ++ (r ∷ [])) (outside k′) (entries-all k′);
+          fits = fits-all;
+          sort-lens = lens-other (λ e. let z : _≡_ {A = ℕ} 1 7 = sym e ∙ is-type in omega arith);
+          chained = chained-type;
+        }
 
   -- a sort, of one argument more than the sort its `to` names
   module _ (is-sort : k ≡ sort) (len : ℕ) (to-listed : word (r .payload) 2 ≤ n) (is-len : len ≡ getD lens (word (r .payload) 2) 0 + 1) (lens-long : length lens ≡ 65) where
@@ -270,6 +331,7 @@ module _ (file index lens counts : List ℕ) (rs : List Record) (known : Known f
           entries = entries-all;
           fits = fits-all;
           sort-lens = λ i h. lens-by i (last-sort i (subst (λ m. i < suc m) counted h));
+          chained = chained-other (λ e. let z : _≡_ {A = ℕ} 1 7 = sym (ap number is-sort) ∙ e in omega arith);
         }
       where
         counted : getD counts⁺ 1 0 ≡ suc n

@@ -1,4 +1,5 @@
 pub mod Clearing
+pub mod Chains
 pub mod Known
 pub mod Lending
 pub mod Turns

@@ -35,15 +35,19 @@ use Rattle.kinds.proofs.Dispatch.{sorts-length}
 use Rattle.scheme.proofs.Lists.{or-false, and-false}
 use Rattle.entries.specs.Codes.{codeFor}
 use Rattle.entries.specs.Index.{base, Indexed}
+use Rattle.entries.specs.Chains.{hashOf}
+use Rattle.chains.proofs.Hashing.{hash-few}
+use Rattle.chains.proofs.Chaining.{latest-few}
 use Rattle.walk.specs.declared.Walked.{Walked}
 use Rattle.walk.specs.declared.Walked.the-variants as walked
 use Rattle.kinds.specs.Known.{room, Known}
 use Rattle.kinds.specs.Codes.{codeAs}
-use Rattle.enter.specs.Entering.{stored, lensAfter}
+use Rattle.enter.specs.Entering.{stored, lensAfter, chainsAfter}
 use Rattle.walk.specs.declared.Turned.{Turned}
-use Rattle.walk.specs.Walking.{Walking, WalkEnds, endOf, ended, GoesOn, endsOr, TurnsTo, PassesTo, WalksTo}
-use Rattle.walk.proofs.Known.{known-more, known-sort, number-few}
-use Rattle.enter.proofs.Storing.{number-inj, stored-set, lens-length, lens-other}
+use Rattle.walk.specs.Walking.{Emptied, Walking, WalkEnds, endOf, ended, GoesOn, endsOr, TurnsTo, PassesTo, WalksTo}
+use Rattle.walk.proofs.Chains.{chained-none}
+use Rattle.walk.proofs.Known.{known-more, known-sort, known-type, chained-before, number-few}
+use Rattle.enter.proofs.Storing.{number-inj, stored-set, lens-length, lens-other, chains-other, chains-set, chains-length}
 
 -- no record yet
 none-indexed : (file index : List ℕ) (k : Kind) (n : ℕ) → n ≡ 0 → Indexed file index k n []
@@ -61,10 +65,10 @@ none-indexed file index k n e =
 zero-count : (k : ℕ) → k < 10 → (counts : List ℕ) → counts ≡ replicate 10 0 → getD counts k 0 ≡ 0
 zero-count k h counts e = ap (λ z. getD z k 0) e ∙ getD-replicate 10 k 0 0 h
 
-pub starts : (file index lens lens′ counts counts′ : List ℕ) → length index ≡ 3170 → length lens ≡ 65 → length counts ≡ 10 → counts′ ≡ replicate (length counts) 0 → lens′ ≡ stored lens 0 0
+pub starts : (file index lens lens′ counts counts′ : List ℕ) → length index ≡ 4450 → ((h : ℕ) → h < 256 → getD index (3170 + h) 0 ≡ 0) → length lens ≡ 65 → length counts ≡ 10 → counts′ ≡ replicate (length counts) 0 → lens′ ≡ stored lens 0 0
     → Walking file index lens′ counts′ 0 0
 unfolding lastKind lastOr recordsOf sortsOf payloads ofKind select grow arguments
-starts file index lens lens′ counts counts′ hi hl hc ec el =
+starts file index lens lens′ counts counts′ hi hz hl hc ec el =
     let ten : counts′ ≡ replicate 10 0 = ec ∙ ap (λ n. replicate n 0) hc in
     let is : lens′ ≡ set lens 0 0 = el ∙ stored-set lens 0 0 (omega arith) in
     record {
@@ -76,6 +80,7 @@ starts file index lens lens′ counts counts′ hi hl hc ec el =
             let none-there = zero-count 1 (omega arith) counts′ ten in
             let first : i ≡ 0 = omega arith in
             rw first (ap (λ z. getD z 0 0) is ∙ getD-set-same lens 0 0 0 (omega arith));
+        chained = rw (zero-count 7 (omega arith) counts′ ten) (chained-none index hz);
       };
       passed = nothing;
       lastly = refl;
@@ -281,7 +286,7 @@ module _ {file index lens counts : List ℕ} {at last : ℕ} (w : Walking file i
 
     -- a record that passes
     module _ (p index′ lens′ counts′ : List ℕ) (ep : p ≡ partOf file start len) (up : last ≤ kind) (ez : 0 ≡ codeAs (w .rs) p (kindOf kind)) (few : length file ≤ 60000)
-        (ei : (k : Kind) → kind ≡ number k → index′ ≡ stored index (base k + getD counts kind 0) start)
+        (ei : (k : Kind) → kind ≡ number k → index′ ≡ chainsAfter (stored index (base k + getD counts kind 0) start) kind (getD counts kind 0) p)
         (el : lens′ ≡ lensAfter lens kind (getD counts kind 0) p) (ec : counts′ ≡ stored counts kind (getD counts kind 0 + 1)) where
       passes : (refuseRecord (w .rs) r ≡ none) × ((k : Kind) × (kindOf (r .kind) ≡ some k))
       passes = passed-code (w .rs) r (not-lower up) (code-of p 0 ep ez)
@@ -311,8 +316,13 @@ module _ {file index lens counts : List ℕ} {at last : ℕ} (w : Walking file i
       start-few : start < 65536
       start-few = let a = rr .start-is in let b = rr .next-is in let c = rr .next-fits in omega arith
 
-      index-is : index′ ≡ set index (base k + n) start
-      index-is = ei k is-kind ∙ ap (λ z. stored index (base k + getD counts z 0) start) is-kind ∙ stored-set index (base k + getD counts (number k) 0) start start-few
+      index-is : index′ ≡ chainsAfter (set index (base k + n) start) kind n (r .payload)
+      index-is =
+          ei k is-kind ∙ ap₂ (λ z y. chainsAfter (stored index (base k + getD counts z 0) start) kind (getD counts z 0) y) is-kind (r-payload p ep)
+          ∙ ap (λ z. chainsAfter z kind n (r .payload)) (stored-set index (base k + n) start start-few)
+
+      index-other : (number k ≡ 7 → ⊥) → index′ ≡ set index (base k + n) start
+      index-other ne = index-is ∙ sym (chains-other (set index (base k + n) start) kind n (r .payload) (λ z. ne (sym is-kind ∙ z)))
 
       counts-is : counts′ ≡ set counts (number k) (n + 1)
       counts-is = ec ∙ ap (λ z. stored counts z (getD counts z 0 + 1)) is-kind ∙ stored-set counts (number k) (getD counts (number k) 0 + 1) (let h = room-few k in let m = many in omega arith)
@@ -338,20 +348,31 @@ module _ {file index lens counts : List ℕ} {at last : ℕ} (w : Walking file i
       abbrev next-records : List Record
       next-records = w .rs ++ (r ∷ [])
 
-      with-lens : (x : List ℕ) → lens′ ≡ x → Known file (set index (base k + n) start) x (set counts (number k) (n + 1)) next-records → Known file index′ lens′ counts′ next-records
-      with-lens x e h = subst (λ z. Known file index′ lens′ z next-records) (sym counts-is) (subst (λ z. Known file index′ z (set counts (number k) (n + 1)) next-records) (sym e) (subst (λ z. Known file z x (set counts (number k) (n + 1)) next-records) (sym index-is) h))
+      as-told : (y x : List ℕ) → index′ ≡ y → lens′ ≡ x → Known file y x (set counts (number k) (n + 1)) next-records → Known file index′ lens′ counts′ next-records
+      as-told y x f e h = subst (λ z. Known file index′ lens′ z next-records) (sym counts-is) (subst (λ z. Known file index′ z (set counts (number k) (n + 1)) next-records) (sym e) (subst (λ z. Known file z x (set counts (number k) (n + 1)) next-records) (sym f) h))
+
+      lens-kept : (number k ≡ 1 → ⊥) → lens′ ≡ lens
+      lens-kept ne = el ∙ sym (lens-other lens kind (getD counts kind 0) p (λ z. ne (sym is-kind ∙ z)))
 
       known-next : Known file index′ lens′ counts′ next-records
       unfolding lensAfter number
-      known-next = by (ℕ-discrete (number k) 1)
+      known-next = by (ℕ-discrete (number k) 1) (ℕ-discrete (number k) 7)
         where
-          by : Dec (number k ≡ 1) → Known file index′ lens′ counts′ next-records
-          by (no ne) = with-lens lens (el ∙ sym (lens-other lens kind (getD counts kind 0) p (λ z. ne (sym is-kind ∙ z)))) (known-more file index lens counts (w .rs) (w .known) r at start r-is (rr .fits) (rr .start-is) k (r-kind ∙ is-kind) many (w .index-long) (w .counts-long) ne)
-          by (yes e) =
+          by : Dec (number k ≡ 1) → Dec (number k ≡ 7) → Known file index′ lens′ counts′ next-records
+          by (no ne) (no ne′) = as-told (set index (base k + n) start) lens (index-other ne′) (lens-kept ne) (known-more file index lens counts (w .rs) (w .known) r at start r-is (rr .fits) (rr .start-is) k (r-kind ∙ is-kind) many (w .index-long) (w .counts-long) ne ne′)
+          by (no ne) (yes e) =
+              let before = chained-before file index lens counts (w .rs) (w .known) r at start r-is (rr .fits) (rr .start-is) k (r-kind ∙ is-kind) many (w .index-long) (w .counts-long) e in
+              let small = before .heads (hashOf (r .payload)) (hash-few (r .payload)) in
+              let below = latest-few (payloads type (w .rs)) (hashOf (r .payload)) n in
+              let rooms = room-few k in
+              let m = many in
+              as-told _ lens (index-is ∙ chains-set (set index (base k + n) start) kind n (r .payload) (is-kind ∙ e) (omega arith) (omega arith)) (lens-kept ne)
+              (known-type file index lens counts (w .rs) (w .known) r at start r-is (rr .fits) (rr .start-is) k (r-kind ∙ is-kind) many (w .index-long) (w .counts-long) e)
+          by (yes e) d =
               let is-sort : k ≡ sort = number-inj k sort e in
               let (listed-to, few-arguments) = arguments-few is-sort in
               let len = getD lens (word (r .payload) 2) 0 + 1 in
-              with-lens (set lens (n + 1) len)
+              as-told (set index (base k + n) start) (set lens (n + 1) len) (index-other (λ f. let z : _≡_ {A = ℕ} 1 7 = sym e ∙ f in omega arith))
               (el ∙ ap₂ (λ x y. lensAfter lens kind (getD counts x 0) y) is-kind (r-payload p ep) ∙ simp (eq-eqb kind 1 (is-kind ∙ e)) (stored-set lens (n + 1) len (omega arith)))
               (known-sort file index lens counts (w .rs) (w .known) r at start r-is (rr .fits) (rr .start-is) k (r-kind ∙ is-kind) many (w .index-long) (w .counts-long) is-sort len listed-to refl (w .lens-long))
 
@@ -368,7 +389,7 @@ module _ {file index lens counts : List ℕ} {at last : ℕ} (w : Walking file i
             enough = let a = w .enough in let b = step-of (w .fuel) (w .enough) .1 in let d = rr .next-is in omega (arith, left-is);
             same = λ flags. sym (ap (λ z. unlessRefused z (caseFrom flags (walk left file (c .at)) next-records)) (passes .0)) ∙ sym (ap (λ z. caseFrom flags z (w .rs)) stepped) ∙ w .same flags;
             all = append-assoc (w .rs) (r ∷ []) (listed (walk left file (c .at))) ∙ sym (ap (λ z. w .rs ++ listed z) stepped) ∙ w .all;
-            index-long = ap length index-is ∙ length-set index (base k + n) start ∙ w .index-long;
+            index-long = ap length index-is ∙ chains-length (set index (base k + n) start) kind n (r .payload) ∙ length-set index (base k + n) start ∙ w .index-long;
             lens-long = ap length el ∙ lens-length lens kind (getD counts kind 0) p ∙ w .lens-long;
             counts-long = ap length counts-is ∙ length-set counts (number k) (n + 1) ∙ w .counts-long;
           }
@@ -392,7 +413,7 @@ module _ {file index lens counts : List ℕ} {last : ℕ} where
       turn-refuses ne t e = over-at g p t (walked.Refused n place) e (λ at eg ep few w. turned w place start len kind c (sym is ∙ eg) p n (ep ∙ ap (payloadOf file) is) up (en (w .rs) (w .known) (w .passed)) ne)
 
       pub turn-goes-on : (index′ lens′ counts′ : List ℕ) → n ≡ 0
-          → ((k : Kind) → kind ≡ number k → index′ ≡ stored index (base k + getD counts kind 0) start) → lens′ ≡ lensAfter lens kind (getD counts kind 0) p → counts′ ≡ stored counts kind (getD counts kind 0 + 1)
+          → ((k : Kind) → kind ≡ number k → index′ ≡ chainsAfter (stored index (base k + getD counts kind 0) start) kind (getD counts kind 0) p) → lens′ ≡ lensAfter lens kind (getD counts kind 0) p → counts′ ≡ stored counts kind (getD counts kind 0 + 1)
           → TurnsTo file g p last index lens counts index′ lens′ counts′ (record { over = false; walked = walked.Read; next = c .at; kind = kind })
       turn-goes-on index′ lens′ counts′ ez ei el ec = record {
         comes-to = λ at eg ep.
@@ -474,6 +495,7 @@ module _ {file index₀ lens₀ counts₀ : List ℕ} (c : Carried file index₀
   carried-less y = still-on y .less
 
 -- The walk, from what its functions promise.
-pub whole-walk : (file index lens lens′ counts counts′ index″ lens″ counts″ : List ℕ) (t : Turned) → counts′ ≡ replicate (length counts) 0 → lens′ ≡ stored lens 0 0
-    → PassesTo file index lens′ counts′ index″ lens″ counts″ t → WalksTo file index lens counts index″ lens″ counts″ (t .walked)
-whole-walk file index lens lens′ counts counts′ index″ lens″ counts″ t ec el passes = λ hi hl hc few. passes few (starts file index lens lens′ counts counts′ hi hl hc ec el)
+pub whole-walk : (file index index′ lens lens′ counts counts′ index″ lens″ counts″ : List ℕ) (t : Turned) → counts′ ≡ replicate (length counts) 0 → lens′ ≡ stored lens 0 0 → Emptied index index′
+    → PassesTo file index′ lens′ counts′ index″ lens″ counts″ t → WalksTo file index lens counts index″ lens″ counts″ (t .walked)
+whole-walk file index index′ lens lens′ counts counts′ index″ lens″ counts″ t ec el empty passes = λ hi hl hc few.
+    passes few (starts file index′ lens lens′ counts counts′ (empty .long ∙ hi) (empty .none (omega arith)) hl hc ec el)

@@ -3,7 +3,7 @@ use Prim.Native.Nat.{ℕ, _+_, _-_, _<_, _≤_}
 use mathlib.Core.Path.{_≡_}
 use mathlib.Core.Bool.{Bool, true, false}
 use mathlib.Core.List.{List, [], _++_}
-use lib.ListN.{length}
+use lib.ListN.{length, getD}
 use Rattle.records.specs.Records.{Record, walk, recordsOf, listed}
 use Rattle.reading.specs.Reading.{readAt}
 use Rattle.reader.specs.Parts.{payloadOf}
@@ -16,6 +16,11 @@ use Rattle.walk.specs.declared.Walked.{Walked}
 use Rattle.walk.specs.declared.Walked.the-variants.{Refused, Read}
 use Rattle.walk.specs.declared.Turned.{Turned}
 
+-- no type is chained: the heads of all hashes are 0
+pub record Emptied (index index′ : List ℕ) : Type 0 where
+  pub long : length index′ ≡ length index
+  pub none : 3426 ≤ length index → (h : ℕ) → h < 256 → getD index′ (3170 + h) 0 ≡ 0
+
 -- the walk is under way: the tables hold the records before `at`, whose last kind is `last`, and what is left of the file decides
 pub record Walking (file index lens counts : List ℕ) (at last : ℕ) : Type 0 where
   pub rs : List Record
@@ -27,7 +32,7 @@ pub record Walking (file index lens counts : List ℕ) (at last : ℕ) : Type 0 
   pub enough : length file ≤ at + fuel
   pub same : (flags : ℕ) → caseFrom flags (walk fuel file at) rs ≡ caseFrom flags (recordsOf file) []
   pub all : rs ++ listed (walk fuel file at) ≡ listed (recordsOf file)
-  pub index-long : length index ≡ 3170
+  pub index-long : length index ≡ 4450
   pub lens-long : length lens ≡ 65
   pub counts-long : length counts ≡ 10
 
@@ -76,4 +81,4 @@ PassesTo file index lens counts index′ lens′ counts′ t = length file ≤ 6
 
 -- the promise of the walk, for tables of the right sizes
 abbrev pub WalksTo : List ℕ → List ℕ → List ℕ → List ℕ → List ℕ → List ℕ → List ℕ → Walked → Type 0
-WalksTo file index lens counts index′ lens′ counts′ r = length index ≡ 3170 → length lens ≡ 65 → length counts ≡ 10 → length file ≤ 60000 → WalkEnds file index′ lens′ counts′ r
+WalksTo file index lens counts index′ lens′ counts′ r = length index ≡ 4450 → length lens ≡ 65 → length counts ≡ 10 → length file ≤ 60000 → WalkEnds file index′ lens′ counts′ r

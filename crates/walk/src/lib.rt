@@ -6,7 +6,7 @@ use reader::Reader;
 use reading::Read;
 ghost use mathlib.Core.Path.{_≡_};
 ghost use lib.ListN.{length, replicate};
-ghost use Rattle.walk.specs.Walking.{endOf, ended, TurnsTo, PassesTo, WalksTo};
+ghost use Rattle.walk.specs.Walking.{Emptied, endOf, ended, TurnsTo, PassesTo, WalksTo};
 
 // How a walk ends: with the first refusal by 2 to 7, or with every record read.
 pub enum Walked {
@@ -30,6 +30,20 @@ fn clear(a: &mut [u16])
     while i < a.len() {
         a[i] = 0;
         i = i + 1;
+    }
+}
+
+// Empties the chains of the types: sets the head of each hash to 0.
+fn empty_chains(index: &mut [u16])
+    ensures { λ _. ⌜ Emptied (now (index .entry)) (now (index .exit)) ⌝ }
+{
+    if index.len() < 3426 {
+        return;
+    }
+    let mut h: usize = 0;
+    while h < 256 {
+        index[3170 + h] = 0;
+        h = h + 1;
     }
 }
 
@@ -124,6 +138,7 @@ pub fn walk(file: &[u8], index: &mut [u16], lens: &mut [u16], counts: &mut [u16]
 {
     clear(counts);
     store(lens, 0, 0);
+    empty_chains(index);
     let t = pass(file, index, lens, counts);
     t.walked
 }

@@ -1,4 +1,3 @@
-use Prim.Native.Nat.{_-_}
 use Rattle.enter.proofs.Storing.{entered-index, entered-lens, entered-counts}
 use borrow.Author.Needs.{needs}
 use Rattle.enter.proofs.enter.Statement.{statement}
@@ -19,6 +18,9 @@ add-store c = search needs
 store-requires : tie.Need-store-requires
 store-requires c κs = search needs
 
+enter-type-requires : tie.Need-enter-type-requires
+enter-type-requires c κs = search needs
+
 add-store-2 : tie.Need-add-store-2
 add-store-2 c = search needs
 
@@ -35,7 +37,7 @@ same-length-3 : tie.Need-same-length-3
 same-length-3 c = search needs
 
 returns : tie.Need-returns
-returns c = (λ k e. entered-index _ (c .before .before .before .before .before .before .before .before .before .before .before .before .before .before .before .before .before .before .before .args .counts .now) (c .before .before .before .before .before .before .before .before .before .before .before .before .before .before .before .before .before .before .before .args .kind) _ _ _ _ (c .before .before .before .before .before .before .before .before .before .before .before .before .before .place-at .ensures .value) (c .before .before .before .before .before .before .before .before .base-of .ensures .0 k e) (c .before .before .before .before .before .before .store .ensures), (entered-lens _ (c .before .before .before .before .before .before .before .before .before .before .before .before .before .before .before .before .before .before .before .args .counts .now) (c .before .before .before .before .before .before .before .before .before .before .before .before .before .before .before .before .before .before .before .args .kind) _ _ _ (c .before .before .before .before .before .before .before .before .before .before .before .before .before .place-at .ensures .value) (c .before .before .before .before .before .before .before .before .before .before .before .enter-sort .ensures (c .before .before .before .before .before .before .before .before .before .before .before .before .before .place-at .ensures .bound)), entered-counts (c .before .before .before .before .before .before .before .before .before .before .before .before .before .before .before .before .before .before .before .args .counts .now) (c .before .before .before .before .before .before .before .before .before .before .before .before .before .before .before .before .before .before .before .args .kind) _ _ (c .before .before .before .before .before .before .before .before .before .before .before .before .before .place-at .ensures .value) (c .before .before .store2 .ensures)))
+returns c = (λ k e. entered-index _ (c .before .before .before .before .before .before .before .before .before .before .before .before .before .before .before .before .before .before .before .before .before .before .before .args .counts .now) (c .before .before .before .before .before .before .before .before .before .before .before .before .before .before .before .before .before .before .before .before .before .before .before .args .kind) _ _ _ _ _ _ _ (c .before .before .before .before .before .before .before .before .before .before .before .before .before .before .before .before .before .place-at .ensures .value) (c .before .before .before .before .before .before .before .before .before .before .before .before .base-of .ensures .0 k e) (c .before .before .before .before .before .before .before .before .before .before .store .ensures) (c .before .before .before .before .before .before .enter-type .ensures (c .before .before .before .before .before .before .before .before .before .before .before .before .before .before .before .before .before .place-at .ensures .bound)), (entered-lens _ (c .before .before .before .before .before .before .before .before .before .before .before .before .before .before .before .before .before .before .before .before .before .before .before .args .counts .now) (c .before .before .before .before .before .before .before .before .before .before .before .before .before .before .before .before .before .before .before .before .before .before .before .args .kind) _ _ _ (c .before .before .before .before .before .before .before .before .before .before .before .before .before .before .before .before .before .place-at .ensures .value) (c .before .before .before .before .before .before .before .before .before .before .before .before .before .before .before .enter-sort .ensures (c .before .before .before .before .before .before .before .before .before .before .before .before .before .before .before .before .before .place-at .ensures .bound)), entered-counts (c .before .before .before .before .before .before .before .before .before .before .before .before .before .before .before .before .before .before .before .before .before .before .before .args .counts .now) (c .before .before .before .before .before .before .before .before .before .before .before .before .before .before .before .before .before .before .before .before .before .before .before .args .kind) _ _ (c .before .before .before .before .before .before .before .before .before .before .before .before .before .before .before .before .before .place-at .ensures .value) (c .before .before .store2 .ensures)))
 
 pub enter-spec : {M : Type 1} → statement M
 enter-spec =
@@ -46,6 +48,7 @@ enter-spec =
     base-of-requires
     add-store
     store-requires
+    enter-type-requires
     add-store-2
     store-requires-2
     same-length

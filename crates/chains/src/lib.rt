@@ -1,0 +1,44 @@
+// Types by the hash of their payloads, test 7.
+use entries::place_at;
+use records::byte_at;
+use records::word_at;
+use repeats::same_payload;
+ghost use mathlib.Core.Path.{_≡_};
+ghost use Rattle.entries.specs.Chains.{hashOf};
+ghost use Rattle.chains.specs.Listing.{Listed};
+
+// The hash of a payload, below 256.
+pub fn hash_of(p: &[u8]) -> usize
+    ensures { λ r. ⌜ r ≡ hashOf (now (p .entry)) ⌝ }
+{
+    let mut h = byte_at(p, 0) * 256;
+    let mut i: usize = 0;
+    while 2 <= p.len() - i {
+        let w = word_at(p, i);
+        h = (h + w) * 40503 % 65536;
+        i = i + 2;
+    }
+    h / 256 % 256
+}
+
+// Whether one of the types that are chained in the index has the payload p: only types of its hash are compared with it.
+pub fn listed(file: &[u8], index: &[u16], p: &[u8]) -> bool
+    ensures { λ r. ⌜ Listed (now (file .entry)) (now (index .entry)) (now (p .entry)) r ⌝ }
+{
+    let h = hash_of(p);
+    let mut last = place_at(index, 3170 + h);
+    while 0 < last {
+        let i = last - 1;
+        let at = place_at(index, 1120 + i);
+        if same_payload(file, at, p) {
+            return true;
+        }
+        let before = place_at(index, 3426 + i);
+        // A chain only falls.
+        if i < before {
+            return false;
+        }
+        last = before;
+    }
+    false
+}
