@@ -96,7 +96,7 @@ weights-none : (xs ts : Terms) → ts ≡ []ᵗ → (nodesAll ts ≡ 0) × (weig
 unfolding nodesAll flats weights
 weights-none xs ts e = (ap nodesAll e, ap (λ (us : Terms). weights xs (flats us)) e)
 
-nodes-near : (file : List ℕ) (p : ℕ) (ts : Terms) → 0 < countᵗ ts → NodesAt file p (flats ts) → p < 131072
+pub nodes-near : (file : List ℕ) (p : ℕ) (ts : Terms) → 0 < countᵗ ts → NodesAt file p (flats ts) → p < 131072
 unfolding countᵗ
 nodes-near file p []ᵗ k w = absurd (omega arith)
 nodes-near file p (node x us ∷ᵗ ts) k w = let (a, b) = at-next file p x us ts w in a .near
@@ -163,16 +163,16 @@ module _ {file cells : List ℕ} {at block count next need sum : ℕ} (go : Meas
             };
       }
 
-some-term : (b : Term) → 0 < countᵗ (b ∷ᵗ []ᵗ)
+pub some-term : (b : Term) → 0 < countᵗ (b ∷ᵗ []ᵗ)
 unfolding countᵗ
 some-term b = omega arith
 
-applied-none : (t : Term) → applied t []ᵗ ≡ t
+pub applied-none : (t : Term) → applied t []ᵗ ≡ t
 unfolding applied
 applied-none (node y us) = ap (node y) (append-nilᵗ us)
 
 -- a parameter alone stands for its term
-put-alone : (number : ℕ) (h : Head) (ts : Terms) → h ≡ par number → ts ≡ []ᵗ → (xs : Terms) → put xs (node h ts) ≡ termAt xs number (node (par number) []ᵗ)
+pub put-alone : (number : ℕ) (h : Head) (ts : Terms) → h ≡ par number → ts ≡ []ᵗ → (xs : Terms) → put xs (node h ts) ≡ termAt xs number (node (par number) []ᵗ)
 unfolding put
 put-alone number h ts p n xs = ap₂ (λ (y : Head) (us : Terms). put xs (node y us)) p n ∙ applied-none (termAt xs number (node (par number) []ᵗ))
 
