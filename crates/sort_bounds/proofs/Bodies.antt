@@ -20,18 +20,13 @@ use Rattle.scheme.proofs.Sorting.{found-sort}
 use Rattle.records.specs.Fields.{word}
 use Rattle.records.specs.Records.{Record}
 use Rattle.casefile.specs.Kinds.{Kind, ofKind, payloads, count}
-use Rattle.casefile.specs.Tables.{sortFrom, sortsOf, aritiesOf, signaturesOf, nodesOf, bodyOf, planOf}
+use Rattle.casefile.specs.Tables.{sortsOf, aritiesOf, signaturesOf, nodesOf, bodyOf, planOf}
 use Rattle.casefile.specs.Refusals.{first, wrongBody, wrongStart, refuseWhole}
-use Rattle.casefile.proofs.Growth.{grow-grown}
 use Rattle.casefile.proofs.Passed.{first-none}
 use Rattle.casefile.proofs.Plans.{plan-right, body-passes, signatures-length}
+use Rattle.casefile.proofs.SortTable.{sort-zero}
 use Rattle.casefile.proofs.TypeTable.{count-payloads}
 use Rattle.sort_bounds.specs.Sorted.{closedSorts}
-
--- "Sort 0 is o"
-pub sort-zero : (rs : List Record) → getD (sortsOf rs) 0 o ≡ o
-unfolding sortsOf
-sort-zero rs = ap (λ l. getD l 0 o) (grow-grown sortFrom (o ∷ []) (payloads Kind.sort rs))
 
 -- the first nonterminal, if there is one, is of sort 0
 first-signature : (sorts : List Sort) (qs : List Record) → getD sorts 0 o ≡ o → first (wrongStart qs) ≡ none

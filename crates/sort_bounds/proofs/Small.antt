@@ -21,8 +21,8 @@ use Rattle.casefile.specs.Tables.{grow, sortFrom, sortsOf, aritiesOf, signature
 use Rattle.casefile.specs.Refusals.{tooMany, tooLarge, outOfRange}
 use Rattle.casefile.proofs.Growth.{sofar, grow-entry, grow-length}
 use Rattle.casefile.proofs.Passed.{Passed, Tested, entry}
+use Rattle.casefile.proofs.SortTable.{sort-zero}
 use Rattle.sort_bounds.specs.Sorted.{closedSorts}
-use Rattle.sort_bounds.proofs.Bodies.{sort-zero}
 
 -- a sort record that passed makes a sort of at most 8 arguments
 made-small : (earlier : List Record) (p : List ℕ) → Tested earlier p Kind.sort → length (arguments (sortFrom (sortsOf earlier) p)) ≤ 8
