@@ -20,6 +20,7 @@ use Rattle.casefile.specs.Kinds.{Kind, number, ofKind, count}
 use Rattle.casefile.specs.Tables.{aritiesOf, signaturesOf, planOf, automatonOf, bindingsOf}
 use Rattle.casefile.specs.Refusals.{Test, refuse_at_when_, wrongStart, wrongBodies, misfits, refuseWhole}
 use Rattle.casefile.proofs.Passed.{Passed, first-none}
+use Rattle.casefile.proofs.Plans.{first-both, plan-right}
 use Rattle.entries.specs.Index.{Indexed}
 use Rattle.entries.specs.Tests.{IsPlace}
 use Rattle.kinds.specs.Known.{Known}
@@ -29,7 +30,7 @@ use Rattle.plan_tests.proofs.Contents.{payload-bytes}
 use Rattle.groups.specs.Groups.{Grouped, Fills}
 use Rattle.moves.specs.Moves.{Holds}
 use Rattle.goals.specs.Goals.{Typed}
-use Rattle.steps.proofs.Wholes.{first-both, plan-right, whole-body}
+use Rattle.steps.proofs.Wholes.{whole-body}
 use Rattle.binding_tests.specs.BindingTests.{Ready}
 use Rattle.rounds.specs.Shrinking.{testOf, Shrinks}
 use Rattle.rounds.proofs.Flagged.{chosen-take}
@@ -64,7 +65,7 @@ module _ {file index lens counts : List ℕ} {rs : List Record} (known : Known f
         bytes = bytes;
         passed = ok;
         known = known;
-        rules-all = plan-right ok flags whole .0;
+        rules-all = plan-right rs flags whole .rules-all;
         bodies = whole-body ok flags whole;
         groups-long = long;
         grouped = subst (λ n. Grouped rs n groups) (sym (known .entries Kind.binding .counted)) (fills rs ok (known .entries Kind.binding) (known .fits Kind.binding));
