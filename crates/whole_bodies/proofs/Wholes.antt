@@ -5,8 +5,8 @@ use mathlib.Core.Path.{_≡_, sym, subst, _∙_}
 use mathlib.Core.Bool.{false, _&&_}
 use mathlib.Core.List.{List, [], append-nil}
 use mathlib.Core.Option.{none}
-use borrow.Author.Tests.{eqb-true, not-false}
-use lib.Dec.{eqb, leb}
+use borrow.Author.Tests.{eqb-true, not-false, ltb-false}
+use lib.Dec.{eqb, leb, ltb}
 use lib.ListN.{length, getD}
 use Rattle.scheme.specs.Lists.{found, any}
 use Rattle.scheme.specs.Sorts.{Sort, o, sameSort, arguments}
@@ -19,13 +19,13 @@ use Rattle.records.specs.Fields.{byte}
 use Rattle.records.specs.Records.{Record}
 use Rattle.casefile.specs.Kinds.{Kind, payloads, count}
 use Rattle.casefile.specs.Tables.{aritiesOf, signaturesOf, Cell, cellsOf, nodesOf, firstTerm, bodyOf}
-use Rattle.casefile.specs.Refusals.{wrongCell, outOfRange, wrongBody, refuseWhole}
+use Rattle.casefile.specs.Refusals.{wrongCell, tooMany, tooLarge, outOfRange, wrongBody, refuseWhole}
 use Rattle.casefile.proofs.Passed.{Passed, entry}
 use Rattle.casefile.proofs.TypeTable.{count-payloads}
 use Rattle.casefile.proofs.Plans.{body-passes}
 use Rattle.casefile.proofs.Cells.{cellAt, cells-length, cells-at, cell-range}
 use Rattle.entries.specs.Index.{Indexed}
-use Rattle.steps.specs.Steps.{Whole, Bodies}
+use Rattle.whole_bodies.specs.Wholes.{Whole, Bodies}
 
 -- the nodes of exactly one term
 single : (ts : Terms) → countᵗ ts ≡ 1 → flats ts ≡ flat (firstTerm ts)
@@ -61,12 +61,21 @@ module _ {rs : List Record} (ok : Passed rs) where
       let w = any-at (wrongCell (length (aritiesOf before)) (length sigs) (length (arguments (getD sigs n o)))) (cellsOf p) i d right (omega arith) in
       subst (λ (c : Cell). c .tag ≤ 2) (cells-at p i d k) (cell-range (length (aritiesOf before)) (length sigs) (length (arguments (getD sigs n o))) (getD (cellsOf p) i d) w .0))
 
+  nodes-few : (f : ℕ) → f < length (payloads Kind.rule rs) → length (getD (payloads Kind.rule rs) f []) / 4 ≤ 256
+  unfolding tooLarge tooMany
+  nodes-few f h =
+      let e = entry ok Kind.rule f h in
+      let l = cells-length (e .payload) in
+      let k = ltb-false 256 (length (cellsOf (e .payload))) (or-false false (ltb 256 (length (cellsOf (e .payload)))) (e .passed-tests .few) .1) in
+      subst (λ (p : List ℕ). length p / 4 ≤ 256) (sym (e .here)) (omega arith)
+
   module _ (flags : ℕ) (e : refuseWhole rs flags ≡ none) where
     -- the body of each rule
     pub whole-body : (f : ℕ) → f < count Kind.rule rs → Whole (getD (payloads Kind.rule rs) f [])
     whole-body f h =
         record {
           one-term = one-term (aritiesOf rs) (signaturesOf rs) (getD (signaturesOf rs) f o) (getD (payloads Kind.rule rs) f []) (body-passes rs flags e f h);
+          short = nodes-few f (let l = count-payloads Kind.rule rs in omega arith);
           tags = tags-small f (let l = count-payloads Kind.rule rs in omega arith);
         }
 
