@@ -30,7 +30,7 @@ use Rattle.plan_tests.proofs.Contents.{payload-bytes}
 use Rattle.groups.specs.Groups.{Grouped, Fills}
 use Rattle.moves.specs.Moves.{Holds}
 use Rattle.goals.specs.Goals.{Typed}
-use Rattle.steps.proofs.Wholes.{whole-body}
+use Rattle.whole_bodies.proofs.Wholes.{whole-body}
 use Rattle.binding_tests.specs.BindingTests.{Ready}
 use Rattle.rounds.specs.Shrinking.{testOf, Shrinks}
 use Rattle.rounds.proofs.Flagged.{chosen-take}

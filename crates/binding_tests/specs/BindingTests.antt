@@ -16,7 +16,7 @@ use Rattle.rule_bodies.specs.RuleBodies.{ruleOf, firstNode}
 use Rattle.plan_tests.specs.PlanTests.{EndsAre}
 use Rattle.groups.specs.Groups.{Grouped}
 use Rattle.moves.specs.Moves.{TableFor}
-use Rattle.steps.specs.Steps.{Whole}
+use Rattle.whole_bodies.specs.Wholes.{Whole}
 use Rattle.memo.specs.Memo.{Under}
 use Rattle.candidates.specs.Candidates.{noBinding}
 
