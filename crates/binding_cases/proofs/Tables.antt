@@ -21,6 +21,7 @@ use Rattle.casefile.specs.Kinds.{Kind, number, ofKind, count}
 use Rattle.casefile.specs.Tables.{aritiesOf, signaturesOf, typesOf, planOf, automatonOf, bindingsOf}
 use Rattle.casefile.specs.Refusals.{Test, refuse_at_when_, wrongStart, wrongBodies, misfits, refuseWhole}
 use Rattle.casefile.proofs.Passed.{Passed, first-none}
+use Rattle.casefile.proofs.Plans.{first-both, plan-right}
 use Rattle.entries.specs.Index.{base, Indexed}
 use Rattle.entries.specs.Tests.{IsPlace}
 use Rattle.kinds.specs.Known.{room, Known}
@@ -31,7 +32,7 @@ use Rattle.groups.specs.Groups.{Grouped, Fills}
 use Rattle.moves.specs.Moves.{Holds}
 use Rattle.goals.specs.Goals.{Goal, of-state, of-arrow, Listed, goalBase, ownBase, Goals, Typed, FillsGoals, FillsOwns}
 use Rattle.goals.proofs.Filling.{indexed-same}
-use Rattle.steps.proofs.Wholes.{first-both, plan-right, whole-body}
+use Rattle.whole_bodies.proofs.Wholes.{whole-body}
 use Rattle.binding_tests.specs.BindingTests.{Ready}
 use Rattle.rounds.specs.Shrinking.{testOf, Shrinks}
 use Rattle.rounds.proofs.Flagged.{chosen-take}
@@ -63,7 +64,7 @@ module _ {file index lens counts : List ℕ} {rs : List Record} (known : Known f
         passed = ok;
         known = known;
         typed = typed;
-        rules-all = plan-right ok flags whole .0;
+        rules-all = plan-right rs flags whole .rules-all;
         bodies = whole-body ok flags whole;
         groups-long = long;
         grouped = subst (λ n. Grouped rs n groups) (sym (known .entries Kind.binding .counted)) (fills rs ok (known .entries Kind.binding) (known .fits Kind.binding));

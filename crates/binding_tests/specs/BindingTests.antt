@@ -17,7 +17,7 @@ use Rattle.plan_tests.specs.PlanTests.{EndsAre}
 use Rattle.groups.specs.Groups.{Grouped}
 use Rattle.moves.specs.Moves.{TableFor}
 use Rattle.goals.specs.Goals.{Typed}
-use Rattle.steps.specs.Steps.{Whole}
+use Rattle.whole_bodies.specs.Wholes.{Whole}
 use Rattle.memo.specs.Memo.{Under}
 use Rattle.candidates.specs.Candidates.{noBinding}
 

@@ -15,6 +15,7 @@ use Rattle.scheme.specs.Sorting.{sortOf, sortAfter}
 use Rattle.scheme.specs.Terms.{Head, Terms, []ᵗ, _∷ᵗ_, countᵗ, nodes, nodesAll}
 use Rattle.scheme.specs.Prefix.{Node, takeᵗ, dropᵗ, terms, complete, depth, deepest}
 use Rattle.scheme.proofs.Lists.{and-left, and-right, and-both, true→T}
+use Rattle.scheme.proofs.Sorting.{after-out}
 use Rattle.records.specs.Fields.{field}
 use Rattle.casefile.specs.Tables.{headOf, nodesOf, firstTerm}
 use Rattle.bodies.specs.Tables.{Stored}
@@ -22,7 +23,6 @@ use Rattle.sort_codes.specs.Sorted.{Code}
 use Rattle.bodies.specs.Bodies.{Held, Fits, ArgumentsFit, Goods, Held-from, headsBy, Setting, HeadCode, NodeRead}
 use Rattle.bodies.specs.declared.Arguments.{Arguments}
 use Rattle.sort_codes.proofs.Codes.{code-small}
-use Rattle.bodies.proofs.Loop.{after-out}
 use Rattle.casefile.proofs.Cells.{cellAt, nodeAt, nodes-length, nodes-drop}
 
 -- a table after a store

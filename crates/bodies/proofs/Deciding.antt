@@ -3,7 +3,7 @@ use Prim.Native.Nat.{ℕ, _/_, _<_, _≤_}
 use mathlib.Core.Path.{_≡_, refl, sym, ap, subst, _∙_}
 use mathlib.Core.Bool.{Bool, true, false, _&&_, not}
 use mathlib.Core.List.{List, [], _∷_, map}
-use mathlib.Core.Option.{Option, none, some}
+use mathlib.Core.Option.{some}
 use native.Mathlib.Omega.{arith}
 use borrow.Author.Tests.{le-leb, leb-true, eqb-true, eqb-false, eq-eqb}
 use lib.Dec.{leb, eqb}
@@ -14,12 +14,12 @@ use Rattle.scheme.specs.Sorting.{sortOf}
 use Rattle.scheme.specs.Terms.{Head, Terms, []ᵗ, _∷ᵗ_, countᵗ}
 use Rattle.scheme.specs.Prefix.{terms, complete, depth}
 use Rattle.scheme.proofs.Lists.{and-true, T→true, true→T}
+use Rattle.scheme.proofs.Sorting.{same-refl, found-sort}
 use Rattle.casefile.specs.Tables.{nodesOf, firstTerm, bodyOf}
 use Rattle.casefile.specs.Refusals.{wrongBody}
 use Rattle.sort_codes.specs.Sorted.{SortArrays}
 use Rattle.bodies.specs.Bodies.{Held, Goods, headsBy, Setting, Scanned, BodyDecided}
 use Rattle.sort_codes.proofs.Codes.{code-listed, listed-code}
-use Rattle.bodies.proofs.Loop.{same-true, same-refl}
 use Rattle.casefile.proofs.Cells.{nodes-length}
 
 no-true : (b : Bool) → (b ≡ true → ⊥) → b ≡ false
@@ -34,11 +34,6 @@ no-elements : {A : Type 0} (l : List A) → length l ≡ 0 → l ≡ []
 no-elements [] e = refl
 no-elements (x ∷ xs) e = absurd (omega arith)
 
-found-o : (x : Option Sort) → found x (sameSort o) ≡ true → x ≡ some o
-unfolding found
-found-o none e = absurd (let z : _≡_ {A = ℕ} 0 1 = cc in omega arith)
-found-o (some a) e = ap some (sym (same-true o a e))
-
 module _ (hs : Head → Sort) where
   -- complete nodes, one term, of sort o, 64 deep at most
   unfoldable verdict : Bool → Terms → Bool
@@ -50,7 +45,7 @@ module _ (hs : Head → Sort) where
       let x = and-true (c && eqb (countᵗ ts) 1 && found (sortOf hs (firstTerm ts)) (sameSort o)) (leb (depth (firstTerm ts)) 64) e in
       let y = and-true (c && eqb (countᵗ ts) 1) (found (sortOf hs (firstTerm ts)) (sameSort o)) (x .0) in
       let z = and-true c (eqb (countᵗ ts) 1) (y .0) in
-      (z .0, eqb-true (countᵗ ts) 1 (z .1), found-o (sortOf hs (firstTerm ts)) (y .1), leb-true (depth (firstTerm ts)) 64 (x .1))
+      (z .0, eqb-true (countᵗ ts) 1 (z .1), found-sort (sortOf hs (firstTerm ts)) o (y .1), leb-true (depth (firstTerm ts)) 64 (x .1))
 
   verdict-in : (c : Bool) (ts : Terms) → c ≡ true → countᵗ ts ≡ 1 → sortOf hs (firstTerm ts) ≡ some o → depth (firstTerm ts) ≤ 64 → verdict c ts ≡ true
   unfolding verdict found

@@ -1,57 +1,21 @@
 -- The arguments of a node, one after another: what is left of them leads to what all of them come to.
 use Prim.Native.Nat.{ℕ, zero, suc, _+_, _-_, _<_, _≤_, max}
-use mathlib.Core.Path.{_≡_, refl, sym, ap, ap₂, _∙_}
-use mathlib.Core.Bool.{Bool, true, false}
+use mathlib.Core.Path.{_≡_, refl, sym, ap, _∙_}
+use mathlib.Core.Bool.{true, false}
 use mathlib.Core.List.{List}
-use mathlib.Core.Option.{Option, none, some}
+use mathlib.Core.Option.{some}
 use native.Mathlib.Omega.{arith}
 use lib.ListN.{getD}
-use Rattle.scheme.specs.Lists.{found}
-use Rattle.scheme.specs.Sorts.{Sort, o, _⇒_, sameSort}
-use Rattle.scheme.specs.Sorting.{sortOf, sortAfter}
-use Rattle.scheme.specs.Terms.{Head, Term, Terms, []ᵗ, _∷ᵗ_, countᵗ, nodes, nodesAll}
+use Rattle.scheme.specs.Sorts.{Sort, _⇒_}
+use Rattle.scheme.specs.Sorting.{sortAfter}
+use Rattle.scheme.specs.Terms.{Head, Terms, []ᵗ, _∷ᵗ_, countᵗ, nodes, nodesAll}
 use Rattle.scheme.specs.Prefix.{takeᵗ, depth, deepest}
-use Rattle.scheme.proofs.Lists.{and-true}
+use Rattle.scheme.proofs.Sorting.{after-fit, after-out}
 use Rattle.sort_codes.specs.Sorted.{Code, Coded, Off, misfit, off, Applied}
 use Rattle.bodies.specs.Bodies.{Held, Fits, ArgumentsFit}
 use Rattle.bodies.specs.declared.Arguments.{Arguments}
 
--- the test for the same sort
-pub same-refl : (s : Sort) → sameSort s s ≡ true
-unfolding sameSort
-same-refl o = refl
-same-refl (a ⇒ b) = let x = same-refl a in let y = same-refl b in rw (x, y) refl
-
-pub same-true : (s t : Sort) → sameSort s t ≡ true → s ≡ t
-unfolding sameSort
-same-true o o e = refl
-same-true o (c ⇒ d) e = absurd (let z : _≡_ {A = ℕ} 0 1 = cc in omega arith)
-same-true (a ⇒ b) o e = absurd (let z : _≡_ {A = ℕ} 0 1 = cc in omega arith)
-same-true (a ⇒ b) (c ⇒ d) e =
-    let (x, y) = and-true (sameSort a c) (sameSort b d) e in
-    ap₂ _⇒_ (same-true a c x) (same-true b d y)
-
 module _ (hs : Head → Sort) where
-  -- one argument that fits
-  pub after-fit : (t : Term) (ts : Terms) (a b : Sort) → sortOf hs t ≡ some a → sortAfter hs (t ∷ᵗ ts) (a ⇒ b) ≡ sortAfter hs ts b
-  unfolding sortAfter found
-  after-fit t ts a b e = let r = same-refl a in rw (e, r) refl
-
-  after-cases : (t : Term) (ts : Terms) (a b x : Sort) (u : Option Sort) (v : Bool) → sortOf hs t ≡ u → found u (sameSort a) ≡ v → sortAfter hs (t ∷ᵗ ts) (a ⇒ b) ≡ some x
-      → (sortOf hs t ≡ some a) × (sortAfter hs ts b ≡ some x)
-  unfolding sortAfter found
-  after-cases t ts a b x none v e f g = absurd (let h = rw e at g in let z : _≡_ {A = ℕ} 0 1 = cc in omega arith)
-  after-cases t ts a b x (some s) false e f g = absurd (let h = rw (e, f) at g in let z : _≡_ {A = ℕ} 0 1 = cc in omega arith)
-  after-cases t ts a b x (some s) true e f g = (e ∙ ap some (sym (same-true a s f)), rw (e, f) at g)
-
-  -- an argument of a sorted application fits
-  pub after-out : (t : Term) (ts : Terms) (s x : Sort) → sortAfter hs (t ∷ᵗ ts) s ≡ some x → (a : Sort) × (b : Sort) × (s ≡ a ⇒ b) × (sortOf hs t ≡ some a) × (sortAfter hs ts b ≡ some x)
-  unfolding sortAfter
-  after-out t ts o x e = absurd (let z : _≡_ {A = ℕ} 0 1 = cc in omega arith)
-  after-out t ts (a ⇒ b) x e =
-      let (p, q) = after-cases t ts a b x (sortOf hs t) (found (sortOf hs t) (sameSort a)) refl refl e in
-      (a, b, refl, p, q)
-
   module _ (sorts : List Sort) (froms tos trees ends codes depths : List ℕ) (n : ℕ) where
     -- `left` of the terms us behind node `end` lead from sort s to what k of the terms ts behind node `at` come to
     pub record Going (ts us : Terms) (s₀ s : Sort) (at k end left sort deep : ℕ) : Type 0 where
@@ -89,7 +53,7 @@ module _ (hs : Head → Sort) where
       going-misfit []ᵗ s end left sort deep r g p er f e x q = let v = g .needed e in omega arith
       going-misfit (t ∷ᵗ us) s end zero sort deep r g p er f e x q = omega arith
       going-misfit (t ∷ᵗ us) s end (suc l) sort deep r g p er f e x q =
-          let (a, b, es, ea, eb) = after-out t (takeᵗ l us) s x (sym (g .rest-is) ∙ q) in
+          let (a, b, es, ea, eb) = after-out hs t (takeᵗ l us) s x (sym (g .rest-is) ∙ q) in
           let h = g .held .2 in
           let et : h .0 ≡ a = (let u = h .1 in cc) in
           go (f (h .0) (h .2)) b (es ∙ ap (λ y. y ⇒ b) (sym et))
@@ -123,7 +87,7 @@ module _ (hs : Head → Sort) where
                   enough = λ x. g .enough (omega arith);
                   needed = λ x. let y = g .needed x in omega arith;
                   end-is = omega arith;
-                  rest-is = g .rest-is ∙ ap (sortAfter hs (t ∷ᵗ takeᵗ l us)) es ∙ after-fit t (takeᵗ l us) (h .2 .0) b (h .2 .1);
+                  rest-is = g .rest-is ∙ ap (sortAfter hs (t ∷ᵗ takeᵗ l us)) es ∙ after-fit hs t (takeᵗ l us) (h .2 .0) b (h .2 .1);
                   deep-is = omega arith;
                 },
               )

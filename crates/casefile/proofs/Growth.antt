@@ -33,7 +33,7 @@ module _ {A : Type 0} (f : List A → List ℕ → A) where
 
   -- entry i behind the first ones: made of the table so far, which the later entries extend
   module _ (t : List A) (ps : List (List ℕ)) (i : ℕ) (h : i < length ps) where
-    pub sofar : List A
+    unfoldable pub sofar : List A
     sofar = grow f t (take i ps)
 
     pub later : List A

@@ -7,3 +7,4 @@ pub mod TypeTable
 pub mod SortTable
 pub mod Steps
 pub mod Cells
+pub mod Plans

@@ -38,6 +38,11 @@ sort-extend : (sorts more : List Sort) (p : List ℕ) → word p 0 < length sort
 unfolding sortFrom
 sort-extend sorts more p h k = ap₂ _⇒_ (List·getD-append sorts more o (word p 0) h) (List·getD-append sorts more o (word p 2) k)
 
+-- "Sort 0 is o"
+pub sort-zero : (rs : List Record) → getD (sortsOf rs) 0 o ≡ o
+unfolding sortsOf
+sort-zero rs = ap (λ l. getD l 0 o) (grow-grown sortFrom (o ∷ []) (payloads sort rs))
+
 module _ {rs : List Record} (ok : Passed rs) (bytes : (i : ℕ) → Bytes (getD (payloads sort rs) i [])) where
   -- the payload of sort i + 1
   abbrev pay : ℕ → List ℕ
@@ -63,10 +68,6 @@ module _ {rs : List Record} (ok : Passed rs) (bytes : (i : ℕ) → Bytes (getD 
       let x′ = leb-false (length (sortsOf (n .earlier))) (word p 0) x in
       let y′ = leb-false (length (sortsOf (n .earlier))) (word p 2) y in
       subst (λ z. (length z ≡ 4) × (word z 0 < suc i) × (word z 2 < suc i)) (sym (n .here)) (four, omega arith, omega arith)
-
-  sort-start : getD (sortsOf rs) 0 o ≡ o
-  unfolding sortsOf
-  sort-start = ap (λ l. getD l 0 o) (grow-grown sortFrom (o ∷ []) (payloads sort rs))
 
   -- each listed sort is made of the table by its record
   pub sort-made : (i : ℕ) → i < length (payloads sort rs) → getD (sortsOf rs) (suc i) o ≡ sortFrom (sortsOf rs) (pay i)
@@ -109,8 +110,8 @@ module _ {rs : List Record} (ok : Passed rs) (bytes : (i : ℕ) → Bytes (getD 
 
   arrow-number : (a b : Sort) → Number a → Number b → Number (a ⇒ b)
   unfolding sortFrom
-  arrow-number a b na nb zero j hi hj e f = absurd (let s = sort-start in let z : _≡_ {A = ℕ} 0 1 = cc in omega arith)
-  arrow-number a b na nb (suc i) zero hi hj e f = absurd (let s = sort-start in let z : _≡_ {A = ℕ} 0 1 = cc in omega arith)
+  arrow-number a b na nb zero j hi hj e f = absurd (let s = sort-zero rs in let z : _≡_ {A = ℕ} 0 1 = cc in omega arith)
+  arrow-number a b na nb (suc i) zero hi hj e f = absurd (let s = sort-zero rs in let z : _≡_ {A = ℕ} 0 1 = cc in omega arith)
   arrow-number a b na nb (suc i) (suc j) hi hj e f =
       let hi′ = le-of-suc-le-suc hi in
       let hj′ = le-of-suc-le-suc hj in

@@ -1,87 +1,84 @@
--- One letter of a path, with the term held in one of two buffers. Section "Reduction and replay" of the scope.
-use Prim.Native.Nat.{ℕ, suc, _<_, _≤_}
+-- One letter of a path, on a term held as its head and a frame of its arguments. Section "Reduction and replay" of the scope.
+use Prim.Native.Nat.{ℕ, suc, _+_, _*_, _<_, _≤_}
 use mathlib.Core.Path.{_≡_}
-use mathlib.Core.Bool.{Bool, true, false, not}
+use mathlib.Core.Bool.{false}
 use mathlib.Core.List.{List}
 use mathlib.Core.Option.{Option, none, some}
-use lib.ListN.{length}
-use Rattle.scheme.specs.Lists.{if_then_else_}
-use Rattle.scheme.specs.Terms.{Term, nodes}
-use Rattle.scheme.specs.Prefix.{flat}
+use lib.ListN.{length, getD}
+use Rattle.scheme.specs.Sorts.{o}
+use Rattle.scheme.specs.Sorting.{sortOf}
+use Rattle.scheme.specs.Terms.{Head, Term, node, Terms, countᵗ, nodes}
 use Rattle.scheme.specs.Replay
 use Rattle.scheme.specs.Replay.{exceeds}
 use Rattle.records.specs.Records.{Record}
 use Rattle.casefile.specs.Kinds.{Kind}
 use Rattle.casefile.specs.Tables.{planOf, automatonOf}
+use Rattle.casefile.specs.Refusals.{refuseWhole}
 use Rattle.casefile.proofs.Passed.{Passed}
+use Rattle.sort_bounds.specs.Sorted.{closedSorts}
 use Rattle.entries.specs.Index.{Indexed}
-use Rattle.moves.specs.Moves.{TableFor}
-use Rattle.flat_terms.specs.Flat.{nodesIn, between}
-use Rattle.unfolding.specs.declared.Unfolded.{Unfolded}
-use Rattle.unfolding.specs.declared.Unfolded.the-variants.{Term as Unfolding, TooLarge as Larger}
-use Rattle.steps.specs.Steps.{Bodies}
+use Rattle.whole_bodies.specs.Wholes.{Bodies}
+use Rattle.moves.specs.Moves.{targetsIn, TableFor}
+use Rattle.closures.specs.Nodes.{headBy}
+use Rattle.closures.specs.Closures.{Frame}
 use Rattle.letters.specs.declared.Held.{Held}
 use Rattle.letters.specs.declared.Step.{Step}
 use Rattle.letters.specs.declared.Step.the-variants.{Lost, TooLarge, At}
 
--- where the term stands after an unfolding into the other buffer
-unfoldable pub settled : Held → Unfolded → Step
-settled held Larger = TooLarge
-settled held (Unfolding n) = At (record { second = not (held .second); from = 0; to = n; state = held .state })
-
 -- what a file has that a path is replayed on
 pub record Replaying (file index : List ℕ) (rules constructors : ℕ) (table : List (List (List ℕ))) (rs : List Record) : Type 0 where
   pub passed : Passed rs
+  pub flags : ℕ
+  pub whole : refuseWhole rs flags ≡ none
   pub bodies : Bodies file index rules rs
+  pub few-rules : rules ≤ 256
   pub constructors-there : Indexed file index Kind.constructor constructors rs
   pub few-constructors : constructors ≤ 32
   pub table-is : TableFor rs table
 
--- the part of a buffer holds a term, at a state
-pub record Holding (buffer : List ℕ) (held : Held) (t : Term) (q : ℕ) : Type 0 where
-  pub order : held .from ≤ held .to
-  pub inside : held .to ≤ length buffer
-  pub term-is : nodesIn (between buffer (held .from) (held .to)) ≡ flat t
+-- a term is held, at a state: its head, and its arguments in a block below `top`
+pub record Holding (file cells : List ℕ) (top : ℕ) (held : Held) (t : Term) (q : ℕ) : Type 0 where
+  pub head : Head
+  pub arguments : Terms
+  pub is : t ≡ node head arguments
+  pub head-is : headBy (held .tag) (held .number) ≡ head
+  pub frame : Frame file cells (held .block) (held .count) arguments
+  pub lower : held .block < top
+  pub size : nodes t ≤ 4096
   pub state-is : held .state ≡ q
 
--- a letter leads to a term in one buffer or in the other
-unfoldable pub LeadsTo : Option Replay.At → ℕ → Held → List ℕ → List ℕ → Step → Type 0
-LeadsTo o letter held buffer out Lost = o ≡ none
-LeadsTo o letter held buffer out TooLarge = (letter ≡ 0) × ((a : Replay.At) × (o ≡ some a) × (4096 < nodes (a .term)))
-LeadsTo o letter held buffer out (At next) =
-    (a : Replay.At) × (o ≡ some a) × (exceeds 4096 letter (a .term) ≡ false)
-    × ((next .second ≡ held .second → Holding buffer next (a .term) (a .state)) × (next .second ≡ not (held .second) → Holding out next (a .term) (a .state)))
+-- what a letter leads to, the next term's arguments being in block `top`
+unfoldable pub LeadsTo : List ℕ → List ℕ → ℕ → ℕ → Option Replay.At → Step → Type 0
+LeadsTo file cells top letter a Lost = a ≡ none
+LeadsTo file cells top letter a TooLarge = (letter ≡ 0) × ((b : Replay.At) × (a ≡ some b) × (4096 < nodes (b .term)))
+LeadsTo file cells top letter a (At next) = (b : Replay.At) × (a ≡ some b) × (exceeds 4096 letter (b .term) ≡ false) × Holding file cells (top + 1) next (b .term) (b .state)
 
--- letter 0 on the term held in a buffer
-pub record UnfoldsHeld (file index : List ℕ) (rules : ℕ) (buffer : List ℕ) (held : Held) (starts before out : List ℕ) (r : Step) : Type 0 where
-  pub long : length out ≡ length before
-  pub leads : (constructors : ℕ) (table : List (List (List ℕ))) (rs : List Record) → Replaying file index rules constructors table rs → length buffer ≡ 4096 → length before ≡ 4096 → 4096 < length starts
-      → (t : Term) (q : ℕ) → Holding buffer held t q → LeadsTo (Replay.follow (automatonOf rs) (planOf rs) 0 t q) 0 held buffer out r
+-- a sorted term is held, and there is room for the next term's arguments
+pub record Ready (file cells : List ℕ) (rs : List Record) (held : Held) (top : ℕ) (t : Term) (q : ℕ) : Type 0 where
+  pub few : top < 1048576
+  pub room : top * 8 + 8 ≤ length cells
+  pub sorted : sortOf (closedSorts rs) t ≡ some o
+  pub holding : Holding file cells top held t q
 
--- letter i + 1 on the term held in a buffer
-pub record DescendsHeld (file index : List ℕ) (constructors : ℕ) (table : List (List (List ℕ))) (buffer : List ℕ) (held : Held) (i : ℕ) (r : Step) : Type 0 where
-  pub leads : (rules : ℕ) (rs : List Record) → Replaying file index rules constructors table rs → length buffer ≡ 4096 → (t : Term) (q : ℕ) → Holding buffer held t q
-      → (out : List ℕ) → LeadsTo (Replay.follow (automatonOf rs) (planOf rs) (suc i) t q) (suc i) held buffer out r
+-- letter 0
+pub record Unfolds (file index : List ℕ) (rules : ℕ) (cells cells′ : List ℕ) (held : Held) (top : ℕ) (r : Step) : Type 0 where
+  pub long : length cells′ ≡ length cells
+  pub leads : (constructors : ℕ) (table : List (List (List ℕ))) (rs : List Record) → Replaying file index rules constructors table rs → (t : Term) (q : ℕ) → Ready file cells rs held top t q
+      → LeadsTo file cells′ top 0 (Replay.follow (automatonOf rs) (planOf rs) 0 t q) r
 
--- a letter on the term held in a buffer
-pub record Follows (file index : List ℕ) (rules constructors : ℕ) (table : List (List (List ℕ))) (buffer : List ℕ) (held : Held) (letter : ℕ) (starts before out : List ℕ) (r : Step) : Type 0 where
-  pub long : length out ≡ length before
-  pub leads : (rs : List Record) → Replaying file index rules constructors table rs → length buffer ≡ 4096 → length before ≡ 4096 → 4096 < length starts
-      → (t : Term) (q : ℕ) → Holding buffer held t q → LeadsTo (Replay.follow (automatonOf rs) (planOf rs) letter t q) letter held buffer out r
+-- r is the target for argument i, 256 where there is none
+pub record IsTarget (row : List ℕ) (arity count i r : ℕ) : Type 0 where
+  pub goes : (r ≡ 256 → ⊥) → (getD row 0 0 ≡ 255 → ⊥) × (i < count) × (i < arity) × (i < 4) × (getD row i 0 ≡ r)
+  pub stops : r ≡ 256 → (ts : Terms) → countᵗ ts ≡ count → length row ≡ 4 → Replay.descend i ts (targetsIn arity row) ≡ none
 
--- the buffer that holds the term, of two
-abbrev pub bufferOf : Held → List ℕ → List ℕ → List ℕ
-bufferOf held first second = if held .second then second else first
+-- letter i + 1
+pub record Descends (file index : List ℕ) (constructors : ℕ) (table : List (List (List ℕ))) (cells cells′ : List ℕ) (held : Held) (i top : ℕ) (r : Step) : Type 0 where
+  pub long : length cells′ ≡ length cells
+  pub leads : (rules : ℕ) (rs : List Record) → Replaying file index rules constructors table rs → (t : Term) (q : ℕ) → Ready file cells rs held top t q
+      → LeadsTo file cells′ top (suc i) (Replay.follow (automatonOf rs) (planOf rs) (suc i) t q) r
 
--- what a letter leads to, with the two buffers as they are then
-unfoldable pub Reaches : Option Replay.At → ℕ → List ℕ → List ℕ → Step → Type 0
-Reaches o letter first second Lost = o ≡ none
-Reaches o letter first second TooLarge = (letter ≡ 0) × ((a : Replay.At) × (o ≡ some a) × (4096 < nodes (a .term)))
-Reaches o letter first second (At next) = (a : Replay.At) × (o ≡ some a) × (exceeds 4096 letter (a .term) ≡ false) × Holding (bufferOf next first second) next (a .term) (a .state)
-
--- a letter on the term held in one of two buffers
-pub record Turns (file index : List ℕ) (rules constructors : ℕ) (table : List (List (List ℕ))) (held : Held) (letter : ℕ) (starts first second first′ second′ : List ℕ) (r : Step) : Type 0 where
-  pub long-first : length first′ ≡ length first
-  pub long-second : length second′ ≡ length second
-  pub reaches : (rs : List Record) → Replaying file index rules constructors table rs → length first ≡ 4096 → length second ≡ 4096 → 4096 < length starts
-      → (t : Term) (q : ℕ) → Holding (bufferOf held first second) held t q → Reaches (Replay.follow (automatonOf rs) (planOf rs) letter t q) letter first′ second′ r
+-- either letter
+pub record Follows (file index : List ℕ) (rules constructors : ℕ) (table : List (List (List ℕ))) (cells cells′ : List ℕ) (held : Held) (letter top : ℕ) (r : Step) : Type 0 where
+  pub long : length cells′ ≡ length cells
+  pub leads : (rs : List Record) → Replaying file index rules constructors table rs → (t : Term) (q : ℕ) → Ready file cells rs held top t q
+      → LeadsTo file cells′ top letter (Replay.follow (automatonOf rs) (planOf rs) letter t q) r

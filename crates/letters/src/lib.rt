@@ -1,19 +1,20 @@
-// One letter of a path, with the term held in one of two buffers.
-use flat_terms::part;
+// One letter of a path, on a term held as its head and a frame of its arguments.
+use closures::closure_at;
+use closures::measure;
+use entries::place_at;
+use fronts::gather;
 use rows::arity_of;
 use rows::row_of;
-use steps::Descent;
-use steps::descend;
-use steps::unfold_front;
-use unfolding::Unfolded;
 ghost use mathlib.Core.Path.{_≡_};
-ghost use Rattle.letters.specs.Letters.{settled, UnfoldsHeld, DescendsHeld, Follows, Turns};
+ghost use Prim.Native.Nat.{_<_};
+ghost use Rattle.letters.specs.Letters.{IsTarget, Unfolds, Descends, Follows};
 
-// Where the term held stands: in the first buffer or in the second, from which node up to which; and the state.
+// The term held: the tag and the number of its head, the block and the count of its arguments' closures; and the state.
 pub struct Held {
-    pub second: bool,
-    pub from: usize,
-    pub to: usize,
+    pub tag: usize,
+    pub number: usize,
+    pub block: usize,
+    pub count: usize,
     pub state: usize,
 }
 
@@ -24,143 +25,138 @@ pub enum Step {
     At { held: Held },
 }
 
-// Where the term stands after an unfolding into the other buffer.
-fn settle(held: Held, unfolded: Unfolded) -> Step
-    ensures { λ r. ⌜ r ≡ settled held unfolded ⌝ }
-{
-    match unfolded {
-        Unfolded::TooLarge => Step::TooLarge,
-        Unfolded::Term { nodes } => Step::At {
-            held: Held {
-                second: !held.second,
-                from: 0,
-                to: nodes,
-                state: held.state,
-            },
-        },
-    }
-}
-
-// Letter 0 on the term held: the nonterminal in front is unfolded into the other buffer.
+// Letter 0: the nonterminal in front is unfolded, its arguments in block `top`; without a rule it stands for itself.
 fn unfold_held(
     file: &[u8],
     index: &[u16],
     rules: usize,
-    buffer: &[u32],
+    cells: &mut [u64],
     held: Held,
-    starts: &mut [u16],
-    out: &mut [u32],
+    top: usize,
 ) -> Step
-    ensures { λ r. ⌜ UnfoldsHeld (now (file .entry)) (now (index .entry)) rules (now (buffer .entry)) held (now (starts .entry)) (now (out .entry)) (now (out .exit)) r ⌝ }
+    ensures { λ r. ⌜ Unfolds (now (file .entry)) (now (index .entry)) rules (now (cells .entry)) (now (cells .exit)) held top r ⌝ }
 {
-    let term = part(buffer, held.from, held.to);
-    if term.len() == 0 {
+    let number = held.number;
+    let block = held.block;
+    if held.tag != 1 {
         return Step::Lost;
     }
-    if term[0] as usize / 8192 % 4 != 1 {
+    if rules <= number {
+        let mut itself = held;
+        itself.count = 0;
+        return Step::At { held: itself };
+    }
+    if 256 <= number {
         return Step::Lost;
     }
-    settle(held, unfold_front(file, index, rules, term, starts, out))
+    let at = place_at(index, 352 + number);
+    let measured = measure(file, cells, at, block, held.count);
+    if 4096 < measured.nodes {
+        return Step::TooLarge;
+    }
+    let front = gather(file, cells, at, block, held.count, top);
+    Step::At {
+        held: Held {
+            tag: front.tag,
+            number: front.number,
+            block: top,
+            count: front.count,
+            state: held.state,
+        },
+    }
 }
 
-// Letter i + 1 on the term held: argument i of the constructor in front, with target i.
+// A byte as a number.
+fn wide(x: u8) -> usize
+    ensures { λ r. ⌜ (r ≡ x) × (r < 256) ⌝ }
+{
+    x as usize
+}
+
+// The target for argument i of a constructor, by the row of the table, its argument count and the arguments held; 256
+// where there is no such argument, no such target or no transition.
+fn target(row: [u8; 4], arity: usize, count: usize, i: usize) -> usize
+    ensures { λ r. ⌜ IsTarget row arity count i r ⌝ }
+{
+    if row[0] == 255 {
+        return 256;
+    }
+    if count <= i {
+        return 256;
+    }
+    if arity <= i {
+        return 256;
+    }
+    if 4 <= i {
+        return 256;
+    }
+    wide(row[i])
+}
+
+// Letter i + 1: argument i of the constructor in front, with target i; its arguments in block `top`.
 fn descend_held(
     file: &[u8],
     index: &[u16],
     constructors: usize,
     table: [[[u8; 4]; 32]; 16],
-    buffer: &[u32],
+    cells: &mut [u64],
     held: Held,
     i: usize,
+    top: usize,
 ) -> Step
-    ensures { λ r. ⌜ DescendsHeld (now (file .entry)) (now (index .entry)) constructors table (now (buffer .entry)) held i r ⌝ }
+    ensures { λ r. ⌜ Descends (now (file .entry)) (now (index .entry)) constructors table (now (cells .entry)) (now (cells .exit)) held i top r ⌝ }
 {
-    let start = held.from;
-    let term = part(buffer, start, held.to);
-    if term.len() == 0 {
+    let c = held.number;
+    if held.tag != 0 {
         return Step::Lost;
     }
-    let front = term[0] as usize;
-    if front / 8192 % 4 != 0 {
-        return Step::Lost;
-    }
-    let c = front / 32768;
     let row = row_of(table, constructors, held.state, c);
     let arity = arity_of(file, index, constructors, c);
-    let descent = descend(term, row, arity, i);
-    match descent {
-        Descent::None => Step::Lost,
-        Descent::Argument { from, to, state } => Step::At {
-            held: Held {
-                second: held.second,
-                from: start + from,
-                to: start + to,
-                state,
-            },
+    let state = target(row, arity, held.count, i);
+    if state == 256 {
+        return Step::Lost;
+    }
+    let closure = closure_at(cells, held.block, held.count, i);
+    let at = closure / 8192 % 131072;
+    let block = closure / 17179869184;
+    let count = closure / 1073741824 % 16;
+    let front = gather(file, cells, at, block, count, top);
+    Step::At {
+        held: Held {
+            tag: front.tag,
+            number: front.number,
+            block: top,
+            count: front.count,
+            state,
         },
     }
 }
 
-// A letter on the term held in a buffer; an unfolding goes into the other.
-fn follow(
+// A letter on the term held, with block `top` for the arguments of the next.
+pub fn follow(
     file: &[u8],
     index: &[u16],
     rules: usize,
     constructors: usize,
     table: [[[u8; 4]; 32]; 16],
-    buffer: &[u32],
+    cells: &mut [u64],
     held: Held,
     letter: usize,
-    starts: &mut [u16],
-    out: &mut [u32],
+    top: usize,
 ) -> Step
-    ensures { λ r. ⌜ Follows (now (file .entry)) (now (index .entry)) rules constructors table (now (buffer .entry)) held letter (now (starts .entry)) (now (out .entry)) (now (out .exit)) r ⌝ }
+    ensures { λ r. ⌜ Follows (now (file .entry)) (now (index .entry)) rules constructors table (now (cells .entry)) (now (cells .exit)) held letter top r ⌝ }
 {
     if letter == 0 {
-        return unfold_held(file, index, rules, buffer, held, starts, out);
+        return unfold_held(file, index, rules, cells, held, top);
     }
-    descend_held(file, index, constructors, table, buffer, held, letter - 1)
-}
-
-// A letter on the term held in one of two buffers.
-pub fn turn(
-    file: &[u8],
-    index: &[u16],
-    rules: usize,
-    constructors: usize,
-    table: [[[u8; 4]; 32]; 16],
-    held: Held,
-    letter: usize,
-    starts: &mut [u16],
-    first: &mut [u32],
-    second: &mut [u32],
-) -> Step
-    ensures { λ r. ⌜ Turns (now (file .entry)) (now (index .entry)) rules constructors table held letter (now (starts .entry)) (now (first .entry)) (now (second .entry)) (now (first .exit)) (now (second .exit)) r ⌝ }
-{
-    if held.second {
-        return follow(
-            file,
-            index,
-            rules,
-            constructors,
-            table,
-            second,
-            held,
-            letter,
-            starts,
-            first,
-        );
-    }
-    follow(
+    descend_held(
         file,
         index,
-        rules,
         constructors,
         table,
-        first,
+        cells,
         held,
-        letter,
-        starts,
-        second,
+        letter - 1,
+        top,
     )
 }

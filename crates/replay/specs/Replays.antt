@@ -1,5 +1,5 @@
 -- What the functions that replay a path promise: the answer of the definitions.
-use Prim.Native.Nat.{ℕ, _<_}
+use Prim.Native.Nat.{ℕ, _+_, _*_, _<_, _≤_}
 use mathlib.Core.Path.{_≡_}
 use mathlib.Core.List.{List, []}
 use mathlib.Core.Option.{none}
@@ -31,14 +31,14 @@ stoppedAt Lost i = Refused 13 i
 stoppedAt TooLarge i = Refused 14 i
 stoppedAt (At held) i = Refused 13 i
 
--- the answer behind the last letter, on the term held in a buffer
-pub record Arrives (table : List (List (List ℕ))) (constructors : ℕ) (buffer : List ℕ) (held : Held) (n : ℕ) (r : Replayed) : Type 0 where
-  pub answer : (file index : List ℕ) (rules : ℕ) (rs : List Record) → Replaying file index rules constructors table rs → (t : Term) (q : ℕ) → Holding buffer held t q
+-- the answer behind the last letter, on the term held
+pub record Arrives (table : List (List (List ℕ))) (constructors : ℕ) (held : Held) (n : ℕ) (r : Replayed) : Type 0 where
+  pub answer : (file index : List ℕ) (rules : ℕ) (rs : List Record) → Replaying file index rules constructors table rs → (cells : List ℕ) (top : ℕ) (t : Term) (q : ℕ) → Holding file cells top held t q
       → pathAs r ≡ pathAnswer (arrived n q (stuck (automatonOf rs) t q))
 
--- the answer to a path, where the buffers are as large as the limit
-pub record Runs (file index : List ℕ) (rules constructors : ℕ) (table : List (List (List ℕ))) (path starts first second : List ℕ) (r : Replayed) : Type 0 where
-  pub answer : (rs : List Record) → Replaying file index rules constructors table rs → length first ≡ 4096 → length second ≡ 4096 → 4096 < length starts
+-- the answer to a path, where there is a block of cells for the start symbol and one for each letter
+pub record Runs (file index : List ℕ) (rules constructors : ℕ) (table : List (List (List ℕ))) (path cells : List ℕ) (r : Replayed) : Type 0 where
+  pub answer : (rs : List Record) → Replaying file index rules constructors table rs → length path * 8 + 8 ≤ length cells → length path ≤ 4096
       → pathAs r ≡ replayed (automatonOf rs) (planOf rs) path
 
 -- the answer to the path of a file, whose records all passed and which 8 to 12 do not refuse

@@ -13,3 +13,4 @@ pub mod Runs
 pub mod Acceptance
 pub mod Alike
 pub mod Examples
+pub mod Sorting

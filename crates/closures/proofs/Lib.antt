@@ -1,0 +1,5 @@
+pub mod Trees
+pub mod Nodes
+pub mod Closures
+pub mod Measuring
+pub mod Spreading

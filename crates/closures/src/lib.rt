@@ -1,0 +1,138 @@
+// Closures: a term is a node of a body in the file, with closures for its parameters in a block of eight cells.
+use records::byte_at;
+use records::word_at;
+ghost use mathlib.Core.Path.{_≡_};
+ghost use lib.ListN.{getD};
+ghost use Rattle.closures.specs.Promises.{IsClosureAt, Weighs, Measures, Packs, Closes, Spreads};
+
+// Where the next term begins, and how many nodes a term has as a tree.
+pub struct Measured {
+    pub next: usize,
+    pub nodes: usize,
+}
+
+// The number in a cell; 0 past the end.
+pub fn cell_at(cells: &[u64], slot: usize) -> usize
+    ensures { λ r. ⌜ r ≡ getD (now (cells .entry)) slot 0 ⌝ }
+{
+    if slot < cells.len() {
+        cells[slot] as usize
+    } else {
+        0
+    }
+}
+
+// The closure of parameter i of a frame: of so many closures, which are the last of a block.
+pub fn closure_at(cells: &[u64], block: usize, count: usize, i: usize) -> usize
+    ensures { λ r. ⌜ IsClosureAt (now (cells .entry)) block count i r ⌝ }
+{
+    if 1048576 <= block {
+        return 0;
+    }
+    if 8 < count {
+        return 0;
+    }
+    if count <= i {
+        return 0;
+    }
+    cell_at(cells, block * 8 + 8 - count + i)
+}
+
+// How many nodes a node of a body counts with a frame: a parameter those of its closure, any other head one.
+fn weigh(file: &[u8], cells: &[u64], at: usize, block: usize, count: usize) -> usize
+    ensures { λ r. ⌜ Weighs (now (file .entry)) (now (cells .entry)) at block count r ⌝ }
+{
+    if 131072 <= at {
+        return 1;
+    }
+    if byte_at(file, at) < 2 {
+        return 1;
+    }
+    let number = word_at(file, at + 1);
+    if count <= number {
+        return 1;
+    }
+    closure_at(cells, block, count, number) % 8192
+}
+
+// The end of the term at a place of the file, and its nodes with a frame.
+pub fn measure(file: &[u8], cells: &[u64], at: usize, block: usize, count: usize) -> Measured
+    ensures { λ r. ⌜ Measures (now (file .entry)) (now (cells .entry)) at block count r ⌝ }
+{
+    let mut next = at;
+    let mut need: usize = 1;
+    let mut nodes: usize = 0;
+    while 0 < need {
+        if 131072 <= next {
+            return Measured { next, nodes };
+        }
+        nodes = nodes + weigh(file, cells, next, block, count);
+        need = need - 1 + byte_at(file, next + 3);
+        next = next + 4;
+    }
+    Measured { next, nodes }
+}
+
+// A closure as a number: block, count, place of the node, nodes as a tree.
+fn pack(at: usize, block: usize, count: usize, size: usize) -> usize
+    ensures { λ r. ⌜ Packs at block count size r ⌝ }
+{
+    ((block % 1048576 * 16 + count % 16) * 131072 + at % 131072) * 8192 + size % 8192
+}
+
+// The closure of the term at a place of the file with a frame; for a parameter alone it is the parameter's own.
+pub fn closure_of(
+    file: &[u8],
+    cells: &[u64],
+    at: usize,
+    block: usize,
+    count: usize,
+    size: usize,
+) -> usize
+    ensures { λ r. ⌜ Closes (now (file .entry)) (now (cells .entry)) at block count size r ⌝ }
+{
+    let packed = pack(at, block, count, size);
+    if 131072 <= at {
+        return packed;
+    }
+    if byte_at(file, at) < 2 {
+        return packed;
+    }
+    if 0 < byte_at(file, at + 3) {
+        return packed;
+    }
+    let number = word_at(file, at + 1);
+    if count <= number {
+        return packed;
+    }
+    closure_at(cells, block, count, number)
+}
+
+// Writes the closures of m terms that stand one after another, with a frame, into the cells from `low` on.
+pub fn spread(
+    file: &[u8],
+    cells: &mut [u64],
+    at: usize,
+    m: usize,
+    block: usize,
+    count: usize,
+    low: usize,
+)
+    ensures { λ r. ⌜ Spreads (now (file .entry)) (now (cells .entry)) (now (cells .exit)) at m block count low ⌝ }
+{
+    if cells.len() < low {
+        return;
+    }
+    if cells.len() - low < m {
+        return;
+    }
+    let mut i: usize = 0;
+    let mut next = at;
+    while i < m {
+        let measured = measure(file, cells, next, block, count);
+        let closure = closure_of(file, cells, next, block, count, measured.nodes);
+        cells[low + i] = closure as u64;
+        next = measured.next;
+        i = i + 1;
+    }
+}

@@ -1,3 +1,0 @@
-pub mod Codes
-pub mod Skipping
-pub mod Parts

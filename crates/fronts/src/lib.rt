@@ -1,0 +1,73 @@
+// The head in front of a term, with the closures of its arguments gathered in a block of their own.
+use closures::closure_at;
+use closures::spread;
+use records::byte_at;
+use records::word_at;
+ghost use Rattle.fronts.specs.Fronts.{IsHead, Gathers};
+
+// A head by its tag and number, and how many arguments it has.
+pub struct Front {
+    pub tag: usize,
+    pub number: usize,
+    pub count: usize,
+}
+
+// The head at a place of the file, with a count of arguments.
+fn head_at(file: &[u8], at: usize, count: usize) -> Front
+    ensures { λ r. ⌜ IsHead (now (file .entry)) at count r ⌝ }
+{
+    if 131072 <= at {
+        return Front {
+            tag: 0,
+            number: 0,
+            count,
+        };
+    }
+    let tag = byte_at(file, at);
+    let number = word_at(file, at + 1);
+    Front { tag, number, count }
+}
+
+// The head of the term at a place of the file with a frame; its arguments are gathered in block `top` from the back, those
+// of a parameter behind those of the term that it stands for.
+pub fn gather(
+    file: &[u8],
+    cells: &mut [u64],
+    at: usize,
+    block: usize,
+    count: usize,
+    top: usize,
+) -> Front
+    ensures { λ r. ⌜ Gathers (now (file .entry)) (now (cells .entry)) (now (cells .exit)) at block count top r ⌝ }
+{
+    if 1048576 <= top {
+        return head_at(file, at, 0);
+    }
+    let mut free: usize = 8;
+    let mut place = at;
+    let mut under = block;
+    let mut known = count;
+    while place < 131072 {
+        let m = byte_at(file, place + 3);
+        if free < m {
+            return head_at(file, place, 0);
+        }
+        free = free - m;
+        spread(file, cells, place + 4, m, under, known, top * 8 + free);
+        let head = head_at(file, place, 8 - free);
+        if head.tag < 2 {
+            return head;
+        }
+        if known <= head.number {
+            return head;
+        }
+        let closure = closure_at(cells, under, known, head.number);
+        if under <= closure / 17179869184 {
+            return head;
+        }
+        place = closure / 8192 % 131072;
+        known = closure / 1073741824 % 16;
+        under = closure / 17179869184;
+    }
+    head_at(file, place, 0)
+}

@@ -1,0 +1,3 @@
+pub mod Bodies
+pub mod Small
+pub mod Replays

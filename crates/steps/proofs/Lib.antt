@@ -1,3 +1,0 @@
-pub mod Descending
-pub mod Fronts
-pub mod Wholes

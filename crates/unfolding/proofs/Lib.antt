@@ -1,4 +1,0 @@
-pub mod Putting
-pub mod Arguments
-pub mod Copying
-pub mod Unfolding
