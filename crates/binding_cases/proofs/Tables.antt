@@ -102,11 +102,16 @@ module _ {file index lens counts : List ℕ} {rs : List Record} (known : Known f
 -- The tables of goals, entered in the index.
 -- an index that is the same up to them has the same entries
 known-same : {file before index lens counts : List ℕ} {rs : List Record} → ((i : ℕ) → i < goalBase → getD index i 0 ≡ getD before i 0) → Known file before lens counts rs → Known file index lens counts rs
+unfolding number
 known-same {counts = counts} same known =
     record {
       entries = λ k. indexed-same (λ i h. same (base k + i) (inside k i (let f = known .fits k in omega arith))) (known .entries k);
       fits = known .fits;
       sort-lens = known .sort-lens;
+      chained = record {
+        heads = λ h l. same (3170 + h) (omega arith) ∙ known .chained .heads h l;
+        links = λ i l. same (3426 + i) (omega (arith, known .fits Kind.type)) ∙ known .chained .links i l;
+      };
     }
   where
     inside : (k : Kind) (i : ℕ) → i < room k → base k + i < goalBase

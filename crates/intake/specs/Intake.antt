@@ -39,4 +39,4 @@ pub record Taken (file : List ℕ) (flags : ℕ) (index lens counts ends : List 
 -- the promise of the intake, for tables of the right sizes
 abbrev pub Examines : List ℕ → ℕ → List ℕ → List ℕ → List ℕ → List ℕ → List ℕ → List ℕ → List ℕ → List ℕ → Case → Type 0
 Examines file flags index lens counts ends index′ lens′ counts′ ends′ r =
-    length index ≡ 4450 → length lens ≡ 65 → length counts ≡ 10 → 15000 ≤ length ends → Taken file flags index′ lens′ counts′ ends′ r
+    4450 ≤ length index → length lens ≡ 65 → length counts ≡ 10 → 15000 ≤ length ends → Taken file flags index′ lens′ counts′ ends′ r

@@ -32,7 +32,7 @@ latest-more ps p h (suc n) l =
     ap₂ (λ (x : List ℕ) (y : ℕ). if eqb (hashOf x) h then suc n else y) (List·getD-append ps (p ∷ []) [] n l) (latest-more ps p h n (omega arith))
 
 -- a type more: its link is the head of its hash, and it becomes that head
-module _ (index : List ℕ) (ps : List (List ℕ)) (n : ℕ) (p : List ℕ) (long : length index ≡ 4450) (so-many : length ps ≡ n) (few : n < 1024) (c : Chained index ps n) where
+module _ (index : List ℕ) (ps : List (List ℕ)) (n : ℕ) (p : List ℕ) (long : 4450 ≤ length index) (so-many : length ps ≡ n) (few : n < 1024) (c : Chained index ps n) where
   abbrev head : ℕ
   head = 3170 + hashOf p
 

@@ -198,7 +198,7 @@ base-room path i h = omega arith
 module _ (file index lens counts : List ℕ) (rs : List Record) (known : Known file index lens counts rs)
     (r : Record) (at start : ℕ) (is-record : r ≡ recordAt file at) (fits : whole file at ≡ true) (is-start : start ≡ at + 4)
     (k : Kind) (is-kind : r .kind ≡ number k) (many : getD counts (number k) 0 < room k)
-    (index-long : length index ≡ 4450) (counts-long : length counts ≡ 10) where
+    (index-long : 4450 ≤ length index) (counts-long : length counts ≡ 10) where
   abbrev n : ℕ
   n = getD counts (number k) 0
 
@@ -287,7 +287,7 @@ module _ (file index lens counts : List ℕ) (rs : List Record) (known : Known f
     chained-type =
         let one : suc n ≡ getD counts⁺ 7 0 = (let a = counted-here in let b = ap (λ z. getD counts⁺ z 0) is-type in omega arith) in
         rw (payloads-more type rs r (eq-eqb (r .kind) 7 (is-kind ∙ is-type)), ← one)
-        (chained-more index⁺ (payloads type rs) n (r .payload) (length-set index (base k + n) start ∙ index-long) types-many few chained-before)
+        (chained-more index⁺ (payloads type rs) n (r .payload) (subst (λ z. 4450 ≤ z) (sym (length-set index (base k + n) start)) index-long) types-many few chained-before)
 
     pub known-type : Known file (set (set (set index (base k + n) start) (3426 + n) (getD (set index (base k + n) start) (3170 + hashOf (r .payload)) 0)) (3170 + hashOf (r .payload)) (n + 1)) lens (set counts (number k) (n + 1)) (rs ++ (r ∷ []))
     known-type =

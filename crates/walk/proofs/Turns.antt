@@ -65,7 +65,7 @@ none-indexed file index k n e =
 zero-count : (k : ℕ) → k < 10 → (counts : List ℕ) → counts ≡ replicate 10 0 → getD counts k 0 ≡ 0
 zero-count k h counts e = ap (λ z. getD z k 0) e ∙ getD-replicate 10 k 0 0 h
 
-pub starts : (file index lens lens′ counts counts′ : List ℕ) → length index ≡ 4450 → ((h : ℕ) → h < 256 → getD index (3170 + h) 0 ≡ 0) → length lens ≡ 65 → length counts ≡ 10 → counts′ ≡ replicate (length counts) 0 → lens′ ≡ stored lens 0 0
+pub starts : (file index lens lens′ counts counts′ : List ℕ) → 4450 ≤ length index → ((h : ℕ) → h < 256 → getD index (3170 + h) 0 ≡ 0) → length lens ≡ 65 → length counts ≡ 10 → counts′ ≡ replicate (length counts) 0 → lens′ ≡ stored lens 0 0
     → Walking file index lens′ counts′ 0 0
 unfolding lastKind lastOr recordsOf sortsOf payloads ofKind select grow arguments
 starts file index lens lens′ counts counts′ hi hz hl hc ec el =
@@ -389,7 +389,7 @@ module _ {file index lens counts : List ℕ} {at last : ℕ} (w : Walking file i
             enough = let a = w .enough in let b = step-of (w .fuel) (w .enough) .1 in let d = rr .next-is in omega (arith, left-is);
             same = λ flags. sym (ap (λ z. unlessRefused z (caseFrom flags (walk left file (c .at)) next-records)) (passes .0)) ∙ sym (ap (λ z. caseFrom flags z (w .rs)) stepped) ∙ w .same flags;
             all = append-assoc (w .rs) (r ∷ []) (listed (walk left file (c .at))) ∙ sym (ap (λ z. w .rs ++ listed z) stepped) ∙ w .all;
-            index-long = ap length index-is ∙ chains-length (set index (base k + n) start) kind n (r .payload) ∙ length-set index (base k + n) start ∙ w .index-long;
+            index-long = subst (λ z. 4450 ≤ z) (sym (ap length index-is ∙ chains-length (set index (base k + n) start) kind n (r .payload) ∙ length-set index (base k + n) start)) (w .index-long);
             lens-long = ap length el ∙ lens-length lens kind (getD counts kind 0) p ∙ w .lens-long;
             counts-long = ap length counts-is ∙ length-set counts (number k) (n + 1) ∙ w .counts-long;
           }
@@ -498,4 +498,4 @@ module _ {file index₀ lens₀ counts₀ : List ℕ} (c : Carried file index₀
 pub whole-walk : (file index index′ lens lens′ counts counts′ index″ lens″ counts″ : List ℕ) (t : Turned) → counts′ ≡ replicate (length counts) 0 → lens′ ≡ stored lens 0 0 → Emptied index index′
     → PassesTo file index′ lens′ counts′ index″ lens″ counts″ t → WalksTo file index lens counts index″ lens″ counts″ (t .walked)
 whole-walk file index index′ lens lens′ counts counts′ index″ lens″ counts″ t ec el empty passes = λ hi hl hc few.
-    passes few (starts file index′ lens lens′ counts counts′ (empty .long ∙ hi) (empty .none (omega arith)) hl hc ec el)
+    passes few (starts file index′ lens lens′ counts counts′ (subst (λ z. 4450 ≤ z) (sym (empty .long)) hi) (empty .none (omega arith)) hl hc ec el)

@@ -32,7 +32,7 @@ pub record Walking (file index lens counts : List ℕ) (at last : ℕ) : Type 0 
   pub enough : length file ≤ at + fuel
   pub same : (flags : ℕ) → caseFrom flags (walk fuel file at) rs ≡ caseFrom flags (recordsOf file) []
   pub all : rs ++ listed (walk fuel file at) ≡ listed (recordsOf file)
-  pub index-long : length index ≡ 4450
+  pub index-long : 4450 ≤ length index
   pub lens-long : length lens ≡ 65
   pub counts-long : length counts ≡ 10
 
@@ -81,4 +81,4 @@ PassesTo file index lens counts index′ lens′ counts′ t = length file ≤ 6
 
 -- the promise of the walk, for tables of the right sizes
 abbrev pub WalksTo : List ℕ → List ℕ → List ℕ → List ℕ → List ℕ → List ℕ → List ℕ → Walked → Type 0
-WalksTo file index lens counts index′ lens′ counts′ r = length index ≡ 4450 → length lens ≡ 65 → length counts ≡ 10 → length file ≤ 60000 → WalkEnds file index′ lens′ counts′ r
+WalksTo file index lens counts index′ lens′ counts′ r = 4450 ≤ length index → length lens ≡ 65 → length counts ≡ 10 → length file ≤ 60000 → WalkEnds file index′ lens′ counts′ r

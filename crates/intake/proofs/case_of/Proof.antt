@@ -21,7 +21,7 @@ examine-requires : tie.Need-examine-requires
 examine-requires c κs = search needs
 
 returns : tie.Need-returns
-returns c = (c .before .before .before .before .examine .ensures refl refl refl (omega arith) .is-case, refl)
+returns c = (c .before .before .before .before .examine .ensures (omega arith) refl refl (omega arith) .is-case, refl)
 
 pub case-of-spec : {M : Type 1} → statement M
 case-of-spec =

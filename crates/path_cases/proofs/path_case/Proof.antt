@@ -43,13 +43,13 @@ answered-requires : tie.Need-answered-requires
 answered-requires c κs = search needs
 
 returns : tie.Need-returns
-returns c = let a = answer-refused (c .before .before .before .before .before .before .before .examine .ensures refl refl refl (omega arith)) _ _ (c .before .case .given .1) in (a, (exactly _ _ _ a, refl))
+returns c = let a = answer-refused (c .before .before .before .before .before .before .before .examine .ensures (omega arith) refl refl (omega arith)) _ _ (c .before .case .given .1) in (a, (exactly _ _ _ a, refl))
 
 returns-2 : tie.Need-returns-2
-returns-2 c = let a = answer-bindings (c .before .before .before .before .before .before .examine .ensures refl refl refl (omega arith)) (c .enum-told .given .1) in (a, (exactly _ _ _ a, refl))
+returns-2 c = let a = answer-bindings (c .before .before .before .before .before .before .examine .ensures (omega arith) refl refl (omega arith)) (c .enum-told .given .1) in (a, (exactly _ _ _ a, refl))
 
 returns-3 : tie.Need-returns-3
-returns-3 c = let a = answer-replayed (c .before .before .before .before .before .before .before .before .before .before .examine .ensures refl refl refl (omega arith)) (c .before .before .before .before .enum-told2 .given .1) _ (c .before .replay-path .ensures) _ (c .answered .ensures) in (a, (exactly _ _ _ a, refl))
+returns-3 c = let a = answer-replayed (c .before .before .before .before .before .before .before .before .before .before .examine .ensures (omega arith) refl refl (omega arith)) (c .before .before .before .before .enum-told2 .given .1) _ (c .before .replay-path .ensures) _ (c .answered .ensures) in (a, (exactly _ _ _ a, refl))
 
 pub path-case-spec : {M : Type 1} → statement M
 path-case-spec =
