@@ -1,19 +1,15 @@
 -- The loop over the arguments of a constructor: each has its target.
-use Prim.Native.Nat.{ℕ, suc, _+_, _*_, _/_, _<_, _≤_}
+use Prim.Native.Nat.{ℕ, suc, _+_, _*_, _<_, _≤_}
 use native.Mathlib.Omega.{arith}
 use mathlib.Core.Path.{_≡_, refl, sym, subst, _∙_}
-use mathlib.Core.Logic.{_⊎_, inl, inr}
 use mathlib.Core.Bool.{Bool, true, false}
 use mathlib.Core.List.{List}
 use lib.ListN.{length, getD}
-use Rattle.scheme.specs.Types.{Ty, arrow, Tys}
-use Rattle.records.specs.Records.{Record}
 use Rattle.records.specs.Fields.{field, byte, word}
 use Rattle.moves.specs.Moves.{rowAt}
 use Rattle.serving.specs.Serving.{EndsIn, Serves}
-use Rattle.goals.specs.Goals.{Typed}
-use Rattle.wants.specs.Wants.{HeadType, IsTarget}
-use Rattle.wants.proofs.Wanting.{want-target, want-second, row-few, follow-row}
+use Rattle.wants.specs.Wants.{Wants, IsTarget}
+use Rattle.wants.proofs.Wanting.{want-target, want-second, follow-row}
 use Rattle.term_check.specs.Checking.{Body, ChecksTerm, ChecksTargets, ChecksArgs}
 use Rattle.term_check.proofs.Arguments.{Args, args-past, args-stuck, args-next, args-lacks, args-has}
 use Rattle.term_check.proofs.Heads.{no-state-there, no-constructor-there, row-not-served, row-checked}
@@ -48,28 +44,21 @@ head-told x memo i goal tag q c count is-tag zero-there is-c is-count ends after
 
 -- One argument.
 module _ (x : Body) {memo₀ : List ℕ} {first count : ℕ} {row memo : List ℕ} {at k : ℕ} (w : Args x memo₀ first count true 0 row memo at k 0 0) (h : k < count) where
-  pub target-stuck : (next : ℕ) → next ≡ getD (x .ends) at 0 → next ≤ at → ChecksArgs x memo₀ first count true 0 row memo false
-  target-stuck next e l = args-stuck x w h (x .test .types + getD row k 0) want-target next e l
-
   module _ (target : ℕ) (is : IsTarget (x .test .types) row k target) where
-    -- a constructor has four arguments at most
+    -- no file has so many types
     pub target-past : target ≡ 65535 → ChecksArgs x memo₀ first count true 0 row memo false
-    target-past e = args-past x w h (λ rs ty a τ t. by rs ty a τ t (is .past e))
-      where
-        by : (rs : List Record) → Typed (x .file) (x .index) (x .test .types) rs → (a : Tys) (τ : Ty) → HeadType rs (x .test .types) true row k 0 (arrow a τ) → (1024 < x .test .types) ⊎ (3 < k) → ⊥
-        by rs ty a τ t (inl m) = omega (arith, ty .few)
-        by rs ty a τ t (inr m) = let l = row-few a τ t in omega arith
+    target-past e = args-past x w h (λ rs ty a τ t. let m = is .past e in omega (arith, ty .few))
 
-    module _ (ne : target ≡ 65535 → ⊥) (memo′ : List ℕ) (b : Bool) (told : ChecksTerm x memo at target memo′ b) where
-      told-there : ChecksTerm x memo at (x .test .types + getD row k 0) memo′ b
-      told-there = subst (λ g. ChecksTerm x memo at g memo′ b) (is .target ne) told
+    module _ (ne : target ≡ 65535 → ⊥) where
+      wants-it : Wants (x .file) (x .index) (x .test .types) true 0 row k 0 target
+      wants-it = want-target target (is .target ne)
 
-      not-none : x .test .types + getD row k 0 ≡ 65535 → ⊥
-      not-none z = ne (is .target ne ∙ z)
+      pub target-stuck : (next : ℕ) → next ≡ getD (x .ends) at 0 → next ≤ at → ChecksArgs x memo₀ first count true 0 row memo false
+      target-stuck next e l = args-stuck x w h target wants-it next e l
 
-      pub target-lacks : b ≡ false → ChecksArgs x memo₀ first count true 0 row memo′ false
-      target-lacks e = args-lacks x w h (x .test .types + getD row k 0) want-target not-none memo′ b told-there e
+      module _ (memo′ : List ℕ) (b : Bool) (told : ChecksTerm x memo at target memo′ b) where
+        pub target-lacks : b ≡ false → ChecksArgs x memo₀ first count true 0 row memo′ false
+        target-lacks e = args-lacks x w h target wants-it ne memo′ b told e
 
-      pub target-has : b ≡ true → (next k′ : ℕ) → next ≡ getD (x .ends) at 0 → at < next → k′ ≡ suc k → Args x memo₀ first count true 0 row memo′ next k′ 0 0
-      target-has e next k′ en l ek =
-          args-next x (args-has x w h (x .test .types + getD row k 0) want-target not-none memo′ b told-there e 1 refl) h 65535 want-second refl next k′ 0 en l follow-row ek
+        pub target-has : b ≡ true → (next k′ : ℕ) → next ≡ getD (x .ends) at 0 → at < next → k′ ≡ suc k → Args x memo₀ first count true 0 row memo′ next k′ 0 0
+        target-has e next k′ en l ek = args-next x (args-has x w h target wants-it ne memo′ b told e 1 refl) h 65535 want-second refl next k′ 0 en l follow-row ek

@@ -1,5 +1,5 @@
 -- What the arguments of a head must have. A type that a row makes has one member, the target, for each argument.
-use Prim.Native.Nat.{ℕ, suc, _+_, _<_, _≤_}
+use Prim.Native.Nat.{ℕ, suc, _+_, _%_, _<_, _≤_}
 use native.Mathlib.Omega.{arith}
 use native.Mathlib.Decide.{decLt}
 use mathlib.Core.Path.{_≡_, refl, ap, _∙_}
@@ -53,11 +53,11 @@ by-number a τ (of-row arity q f four few small e) = let z : _≡_ {A = ℕ} 0 1
 
 module _ {file index : List ℕ} {n head : ℕ} {row : List ℕ} {i : ℕ} where
   -- the target is the only member
-  pub want-target : Wants file index n true head row i 0 (n + getD row i 0)
-  want-target =
+  pub want-target : (r : ℕ) → (i < 4 → r ≡ n + getD row i 0) → Wants file index n true head row i 0 r
+  want-target r here =
       record {
         few = inr (omega arith);
-        member = λ rs w a τ x k. let (near, small, one, is) = by-row a τ x in of-state (getD row i 0) small refl is;
+        member = λ rs w a τ x k. let (near, small, one, is) = by-row a τ x in of-state (getD row i 0) small (here near) is;
         behind = λ rs w a τ x k. absurd (omega (arith, by-row a τ x .2));
       }
 
@@ -90,10 +90,6 @@ module _ {file index : List ℕ} {n head : ℕ} {row : List ℕ} {i : ℕ} where
             behind = λ rs w a τ x k. let c = is .many rs w a τ (by-number a τ x) in absurd (omega arith);
           }
 
--- an arrow that a row makes is one of its first four targets
-pub row-few : {n head : ℕ} {row : List ℕ} {i : ℕ} {rs : List Record} (a : Tys) (τ : Ty) → HeadType rs n true row i head (arrow a τ) → i < 4
-row-few a τ x = by-row a τ x .0
-
 pub follow-row : {index : List ℕ} {n head : ℕ} → Follows index n true head head
 follow-row = record { next = λ rs w row i a τ x. by rs row i a τ x }
   where
@@ -107,10 +103,7 @@ follow-result r is = record { next = λ rs w row i a τ x. listed refl (is .resu
 -- a target as a goal
 module _ {n : ℕ} {row : List ℕ} {i : ℕ} where
   pub target-many : 1024 < n → IsTarget n row i 65535
-  target-many h = record { target = λ ne. absurd (ne refl); past = λ e. inl h }
+  target-many h = record { target = λ ne. absurd (ne refl); past = λ e. h }
 
-  pub target-far : 3 < i → IsTarget n row i 65535
-  target-far h = record { target = λ ne. absurd (ne refl); past = λ e. inr h }
-
-  pub target-there : n ≤ 1024 → getD row i 0 < 256 → IsTarget n row i (n + getD row i 0)
-  target-there few small = record { target = λ ne. refl; past = λ e. absurd (omega arith) }
+  pub target-there : n ≤ 1024 → getD row (i % 4) 0 < 256 → IsTarget n row i (n + getD row (i % 4) 0)
+  target-there few small = record { target = λ ne l. ap (λ k. n + getD row k 0) (let e : i % 4 ≡ i = omega arith in e); past = λ e. absurd (omega arith) }

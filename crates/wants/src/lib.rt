@@ -19,15 +19,12 @@ pub fn wanted(file: &[u8], index: &[u16], types: usize, head: usize, j: usize) -
     member_of(file, index, types, head, j)
 }
 
-// Target i of a row, as a goal; 65,535 where it has none.
+// Target i of a row, as a goal; 65,535 for more types than a file has. A constructor has four arguments at most.
 pub fn target_of(types: usize, row: [u8; 4], i: usize) -> usize
     ensures { λ r. ⌜ IsTarget types row i r ⌝ }
 {
     if 1024 < types {
         return 65535;
     }
-    if 3 < i {
-        return 65535;
-    }
-    types + row[i] as usize
+    types + row[i % 4] as usize
 }

@@ -262,7 +262,7 @@ check-args-check-term-requires : (t : ℕ) → check-args-lts.Need-check-term-re
   check-term-below t,
   check-term.Post,
 ) (check-args-at t) check-args.Post check-args-Inv-loop check-args-μ-loop
-check-args-check-term-requires t c κs = let p = c .before .before .before .before .before .before .before .before .before .before .before .before .pre .0 in let f = c .before .before .before .before .loop .inv .forward in (omega arith, Prim.tt)
+check-args-check-term-requires t c κs = let p = c .before .before .before .before .before .before .before .before .before .before .before .before  .pre .0 in let f = c .before .before .before .before .loop .inv .forward in (omega arith, Prim.tt)
 
 -- src/lib.rt:306:17
 check-args-same-length-2 : (t : ℕ) → check-args-lts.Need-same-length-2 (
@@ -571,7 +571,7 @@ check-choices-check-args-requires : (t : ℕ) → check-choices-lts.Need-check-a
   check-args-below t,
   check-args.Post,
 ) (check-choices-at t) check-choices.Post check-choices-Inv-loop check-choices-μ-loop
-check-choices-check-args-requires t c κs = let p = c .before .before .before .before .before .before .before .before .before .before .before .before .before .before .before .before .before .before .pre .0 in let h = c .before .before .before .before .before .before .before .before .before .before .if1 .left in (omega arith, Prim.tt)
+check-choices-check-args-requires t c κs = let p = c .before .before .before .before .before .before .before .before .before .before .before .before .before .before .before .before .before .before  .pre .0 in let h = c .before .before .before .before .before .before .before .before .before .before .if1 .left in (omega arith, Prim.tt)
 
 -- src/lib.rt:251:17
 check-choices-same-length : (t : ℕ) → check-choices-lts.Need-same-length (
@@ -751,7 +751,7 @@ check-head-check-choices-requires : (t : ℕ) → check-head-lts.Need-check-choi
   check-targets-below t,
   check-targets.Post,
 ) (check-head-at t) check-head.Post
-check-head-check-choices-requires t c κs = let p = c .before .before .before .before .before .before .before .before .before .before .before .pre .0 in (omega arith, Prim.tt)
+check-head-check-choices-requires t c κs = let p = c .before .before .before .before .before .before .before .before .before .before .before  .pre .0 in (omega arith, Prim.tt)
 
 -- src/lib.rt:104:9
 check-head-same-length : (t : ℕ) → check-head-lts.Need-same-length (
@@ -901,7 +901,7 @@ check-head-check-targets-requires : (t : ℕ) → check-head-lts.Need-check-targ
   check-targets-below t,
   check-targets.Post,
 ) (check-head-at t) check-head.Post
-check-head-check-targets-requires t c κs = let p = c .before .before .before .before .before .before .before .before .before .before .before .before .before .before .pre .0 in (omega arith, Prim.tt)
+check-head-check-targets-requires t c κs = let p = c .before .before .before .before .before .before .before .before .before .before .before .before .before .before  .pre .0 in (omega arith, Prim.tt)
 
 -- src/lib.rt:85:1
 check-head-same-length-2 : (t : ℕ) → check-head-lts.Need-same-length-2 (
@@ -1328,7 +1328,7 @@ check-targets-returns-6 : (t : ℕ) → check-targets-lts.Need-returns-6 (
   check-term-below t,
   check-term.Post,
 ) (check-targets-at t) check-targets.Post check-targets-Inv-loop check-targets-μ-loop
-check-targets-returns-6 t c = targets-told _ _ _ _ _ _ _ (c .before .before .before .before .before .before .before .before .before .before .before .before .word-at .ensures .value) (c .before .before .before .before .before .before .before .before .before .before .before .byte-at .ensures .value) (let h = c .before .before .before .before .before .before .before .before .before .before .if2 .left in omega arith) (let h = c .before .before .before .before .before .before .before .before .before .if3 .left in omega arith) _ refl _ (c .before .before .before .before .before .before .before .row-serves .ensures) (not-false _ (c .before .before .before .before .before .before .if4 .left)) _ (omega arith) _ _ (target-stuck _ (c .before .before .before .before .before .loop .inv) (c .before .before .before .before .loop-test .taken) _ (c .before .place-at .ensures .value) (c .if6 .taken))
+check-targets-returns-6 t c = targets-told _ _ _ _ _ _ _ (c .before .before .before .before .before .before .before .before .before .before .before .before .word-at .ensures .value) (c .before .before .before .before .before .before .before .before .before .before .before .byte-at .ensures .value) (let h = c .before .before .before .before .before .before .before .before .before .before .if2 .left in omega arith) (let h = c .before .before .before .before .before .before .before .before .before .if3 .left in omega arith) _ refl _ (c .before .before .before .before .before .before .before .row-serves .ensures) (not-false _ (c .before .before .before .before .before .before .if4 .left)) _ (omega arith) _ _ (target-stuck _ (c .before .before .before .before .before .loop .inv) (c .before .before .before .before .loop-test .taken) _ (c .before .before .before .target-of .ensures) (c .before .before .if5 .left) _ (c .before .place-at .ensures .value) (c .if6 .taken))
 
 -- src/lib.rt:185:13
 check-targets-add-i : (t : ℕ) → check-targets-lts.Need-add-i (
@@ -1362,7 +1362,7 @@ check-targets-check-term-requires : (t : ℕ) → check-targets-lts.Need-check-t
   check-term-below t,
   check-term.Post,
 ) (check-targets-at t) check-targets.Post check-targets-Inv-loop check-targets-μ-loop
-check-targets-check-term-requires t c κs = let p = c .before .before .before .before .before .before .before .before .before .before .before .before .before .before .before .before .before .before .before .before .before .before .pre .0 in let f = c .before .before .before .before .before .before .loop .inv .forward in let h = c .before .before .before .before .before .before .before .before .before .before .before .before .before .before .if1 .left in (omega arith, Prim.tt)
+check-targets-check-term-requires t c κs = let p = c .before .before .before .before .before .before .before .before .before .before .before .before .before .before .before .before .before .before .before .before .before .before  .pre .0 in let f = c .before .before .before .before .before .before .loop .inv .forward in let h = c .before .before .before .before .before .before .before .before .before .before .before .before .before .before .if1 .left in (omega arith, Prim.tt)
 
 -- src/lib.rt:199:13
 check-targets-same-length-3 : (t : ℕ) → check-targets-lts.Need-same-length-3 (
@@ -1787,7 +1787,7 @@ check-term-check-head-requires : (t : ℕ) → check-term-lts.Need-check-head-re
   learn-reads.Asked,
   learn-reads.Learnt,
 ) (check-term-at t) check-term.Post
-check-term-check-head-requires t c κs = let p = c .before .before .before .before .before .before .before .before .before .before .before .before .before .before .before .before .before .before .pre .0 in (omega arith, Prim.tt)
+check-term-check-head-requires t c κs = let p = c .before .before .before .before .before .before .before .before .before .before .before .before .before .before .before .before .before .before  .pre .0 in (omega arith, Prim.tt)
 
 -- src/lib.rt:80:17
 check-term-add-learn : (t : ℕ) → check-term-lts.Need-add-learn (

@@ -1,37 +1,33 @@
 -- `target_of` meets its contract.
+use Prim.Native.Nat.{_%_}
 use native.Mathlib.Omega.{arith}
 use mir.Syntax.{w8}
 use mir.Val.{Fits}
 use lib.ListN.{getD}
-use Rattle.wants.proofs.Wanting.{target-many, target-far, target-there}
+use Rattle.wants.proofs.Wanting.{target-many, target-there}
 use borrow.Author.Needs.{needs}
 use Rattle.wants.proofs.target_of.Statement.{statement}
 use Rattle.wants.proofs.target_of.Tie as tie
 
 -- src/lib.rt:27:9
 returns : tie.Need-returns
-returns c = target-many (c .if1 .taken)
+returns c = search needs
 
--- src/lib.rt:30:9
-returns-2 : tie.Need-returns-2
-returns-2 c = target-far (c .if2 .taken)
-
--- src/lib.rt:32:13
+-- src/lib.rt:29:13
 array-read-result : tie.Need-array-read-result
 array-read-result c = search needs
 
--- src/lib.rt:32:13
+-- src/lib.rt:29:13
 cast-result : tie.Need-cast-result
 cast-result c = search needs
 
--- src/lib.rt:32:5
+-- src/lib.rt:29:5
 add-result : tie.Need-add-result
-add-result c = let h : Fits w8 (getD (c .before .before .args .t2) (c .before .before .args .i) 0) = search needs in omega arith
+add-result c = let h : Fits w8 (getD (c .before  .args .t2) (c .before  .args .i % 4) 0) = search needs in omega arith
 
 -- src/lib.rt:23:1
-returns-3 : tie.Need-returns-3
-returns-3 c = target-there (let k = c .before .if1 .left in omega arith) (let h : Fits w8 (getD (c .before .before .args .t2) (c .before .before .args .i) 0) = search needs in omega arith)
+returns-2 : tie.Need-returns-2
+returns-2 c = target-there (let k = c .if1 .left in omega arith) (let h : Fits w8 (getD (c .before  .args .t2) (c .before  .args .i % 4) 0) = search needs in omega arith)
 
 pub target-of-spec : {M : Type 1} → statement M
-target-of-spec =
-    tie.close (tie.spec returns returns-2 array-read-result cast-result add-result returns-3)
+target-of-spec = tie.close (tie.spec returns array-read-result cast-result add-result returns-2)
