@@ -23,11 +23,11 @@ cast-result c = search needs
 
 -- src/lib.rt:29:5
 add-result : tie.Need-add-result
-add-result c = let h : Fits w8 (getD (c .before  .args .t2) (c .before  .args .i % 4) 0) = search needs in omega arith
+add-result c = let h : Fits w8 (getD (c .before .args .t2) (c .before .args .i % 4) 0) = search needs in omega arith
 
 -- src/lib.rt:23:1
 returns-2 : tie.Need-returns-2
-returns-2 c = target-there (let k = c .if1 .left in omega arith) (let h : Fits w8 (getD (c .before  .args .t2) (c .before  .args .i % 4) 0) = search needs in omega arith)
+returns-2 c = target-there (let k = c .if1 .left in omega arith) (let h : Fits w8 (getD (c .before .args .t2) (c .before .args .i % 4) 0) = search needs in omega arith)
 
 pub target-of-spec : {M : Type 1} → statement M
 target-of-spec = tie.close (tie.spec returns array-read-result cast-result add-result returns-2)
