@@ -131,6 +131,7 @@ fn read_node(
     requires { ⌜ i < 256 ⌝ }
     ensures { λ r. ⌜ NodeRead (now (p .entry)) (now (froms .entry)) (now (tos .entry)) (now (trees .entry)) (now (arities .entry)) (now (signatures .entry)) own i (now (ends .entry)) (now (codes .entry)) (now (depths .entry)) (now (ends .exit)) (now (codes .exit)) (now (depths .exit)) r ⌝ }
 {
+    // Asked once, so that it is not asked again at each byte of the node.
     if p.len() <= i * 4 + 3 {
         return false;
     }
@@ -219,6 +220,7 @@ pub fn body_fits(
     if n == 0 {
         return false;
     }
+    // Asked once, and not at each node.
     if ends.len() < n {
         return false;
     }
