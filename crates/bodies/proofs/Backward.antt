@@ -191,6 +191,17 @@ module _ (hs : Head → Sort) (sorts : List Sort) (ns : List Node) (i : ℕ) (nd
           ends-are = λ j l m. ends-from j l m (leb j i) refl;
         }
 
+-- a node that is not all there
+pub read-outside : {p froms tos trees arities signatures : List ℕ} {own i : ℕ} {ends codes depths : List ℕ} → length p ≤ i * 4 + 3 → NodeRead p froms tos trees arities signatures own i ends codes depths ends codes depths false
+read-outside {p} {i = i} l = record {
+  long = refl;
+  long-codes = refl;
+  long-depths = refl;
+  rest = λ m h. refl;
+  holds = λ sorts counts numbers w few inside he hc hd h e. absurd (omega arith);
+  fails = λ sorts counts numbers w inside h e c g. omega arith;
+}
+
 module _ {p froms tos trees arities signatures : List ℕ} {own i : ℕ} {ends codes depths : List ℕ} {head k : ℕ} {r : Arguments} (hc : HeadCode p froms tos trees arities signatures own i head)
     (ek : k ≡ field 1 p (i * 4 + 3)) (af : ArgumentsFit froms tos trees ends codes depths (length p / 4) (i + 1) k head r) where
   module _ {sorts : List Sort} {counts numbers : List ℕ} (w : Setting sorts counts numbers p froms tos trees arities signatures own) (inside : i < length p / 4)

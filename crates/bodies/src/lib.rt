@@ -131,6 +131,10 @@ fn read_node(
     requires { ⌜ i < 256 ⌝ }
     ensures { λ r. ⌜ NodeRead (now (p .entry)) (now (froms .entry)) (now (tos .entry)) (now (trees .entry)) (now (arities .entry)) (now (signatures .entry)) own i (now (ends .entry)) (now (codes .entry)) (now (depths .entry)) (now (ends .exit)) (now (codes .exit)) (now (depths .exit)) r ⌝ }
 {
+    // Asked once, so that it is not asked again at each byte of the node.
+    if p.len() <= i * 4 + 3 {
+        return false;
+    }
     let n = p.len() / 4;
     let head = head_code(p, froms, tos, trees, arities, signatures, own, i);
     let k = byte_at(p, i * 4 + 3);
@@ -214,6 +218,10 @@ pub fn body_fits(
         return false;
     }
     if n == 0 {
+        return false;
+    }
+    // Asked once, and not at each node.
+    if ends.len() < n {
         return false;
     }
     let mut codes = [0u16; 256];

@@ -1,9 +1,18 @@
 -- `read_node` meets its contract.
 use borrow.Author.Tests.{not-true, not-false}
-use Rattle.bodies.proofs.Backward.{read-misfit, read-deep, read-held}
+use Rattle.bodies.proofs.Backward.{read-outside, read-misfit, read-deep, read-held}
 use borrow.Author.Needs.{needs}
 use Rattle.bodies.proofs.read_node.Statement.{statement}
 use Rattle.bodies.proofs.read_node.Tie as tie
+
+mul-if1 : tie.Need-mul-if1
+mul-if1 c = search needs
+
+add-if1 : tie.Need-add-if1
+add-if1 c = search needs
+
+returns : tie.Need-returns
+returns c = read-outside (c .if1 .taken)
 
 head-code-requires : tie.Need-head-code-requires
 head-code-requires c κs = search needs
@@ -32,8 +41,8 @@ same-length-2 c = search needs
 same-length-3 : tie.Need-same-length-3
 same-length-3 c = search needs
 
-returns : tie.Need-returns
-returns c = read-misfit (c .before .before .before .before .before .before .before .head-code .ensures) (c .before .before .before .before .before .before .byte-at .ensures .value) (c .before .before .arguments-fit .ensures) (not-true _ (c .if1 .taken))
+returns-2 : tie.Need-returns-2
+returns-2 c = read-misfit (c .before .before .before .before .before .before .before .head-code .ensures) (c .before .before .before .before .before .before .byte-at .ensures .value) (c .before .before .arguments-fit .ensures) (not-true _ (c .if2 .taken))
 
 same-length-4 : tie.Need-same-length-4
 same-length-4 c = search needs
@@ -44,8 +53,8 @@ same-length-5 c = search needs
 same-length-6 : tie.Need-same-length-6
 same-length-6 c = search needs
 
-returns-2 : tie.Need-returns-2
-returns-2 c = read-deep (c .before .before .before .before .before .before .before .before .before .head-code .ensures) (c .before .before .before .before .before .before .before .before .byte-at .ensures .value) (c .before .before .before .before .arguments-fit .ensures) (not-false _ (c .before .before .if1 .left)) (c .if2 .taken)
+returns-3 : tie.Need-returns-3
+returns-3 c = read-deep (c .before .before .before .before .before .before .before .before .before .head-code .ensures) (c .before .before .before .before .before .before .before .before .byte-at .ensures .value) (c .before .before .before .before .arguments-fit .ensures) (not-false _ (c .before .before .if2 .left)) (c .if3 .taken)
 
 put-requires : tie.Need-put-requires
 put-requires c κs = search needs
@@ -68,13 +77,16 @@ same-length-8 c = search needs
 same-length-9 : tie.Need-same-length-9
 same-length-9 c = search needs
 
-returns-3 : tie.Need-returns-3
-returns-3 c = read-held (c .before .before .before .before .before .before .before .before .before .before .before .before .before .before .before .before .before .before .before .before .before .before .head-code .ensures) (c .before .before .before .before .before .before .before .before .before .before .before .before .before .before .before .before .before .before .before .before .before .byte-at .ensures .value) (c .before .before .before .before .before .before .before .before .before .before .before .before .before .before .before .before .before .arguments-fit .ensures) (not-false _ (c .before .before .before .before .before .before .before .before .before .before .before .before .before .before .before .if1 .left)) (c .before .before .before .before .before .before .before .before .before .before .before .before .before .if2 .left) (c .before .before .before .before .before .before .before .before .before .before .before .put .ensures) (c .before .before .before .before .before .before .before .put2 .ensures) (c .before .before .put3 .ensures)
+returns-4 : tie.Need-returns-4
+returns-4 c = read-held (c .before .before .before .before .before .before .before .before .before .before .before .before .before .before .before .before .before .before .before .before .before .before .head-code .ensures) (c .before .before .before .before .before .before .before .before .before .before .before .before .before .before .before .before .before .before .before .before .before .byte-at .ensures .value) (c .before .before .before .before .before .before .before .before .before .before .before .before .before .before .before .before .before .arguments-fit .ensures) (not-false _ (c .before .before .before .before .before .before .before .before .before .before .before .before .before .before .before .if2 .left)) (c .before .before .before .before .before .before .before .before .before .before .before .before .before .if3 .left) (c .before .before .before .before .before .before .before .before .before .before .before .put .ensures) (c .before .before .before .before .before .before .before .put2 .ensures) (c .before .before .put3 .ensures)
 
 pub read-node-spec : {M : Type 1} → statement M
 read-node-spec =
     tie.close
     (tie.spec
+    mul-if1
+    add-if1
+    returns
     head-code-requires
     mul-byte-at
     add-byte-at
@@ -84,11 +96,11 @@ read-node-spec =
     same-length
     same-length-2
     same-length-3
-    returns
+    returns-2
     same-length-4
     same-length-5
     same-length-6
-    returns-2
+    returns-3
     put-requires
     put-requires-2
     add-put
@@ -96,4 +108,4 @@ read-node-spec =
     same-length-7
     same-length-8
     same-length-9
-    returns-3)
+    returns-4)
