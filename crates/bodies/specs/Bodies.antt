@@ -61,6 +61,11 @@ HeadCode p froms tos trees arities signatures own i r =
     (sorts : List Sort) (counts numbers : List ℕ) → Setting sorts counts numbers p froms tos trees arities signatures own → i < length p / 4
     → Code sorts r (headsBy sorts counts numbers own (headOf (cellAt p i)))
 
+-- r is the code of the sort of the head of each node with a tag and a number
+abbrev pub HeadOf : List ℕ → List ℕ → List ℕ → List ℕ → List ℕ → ℕ → ℕ → ℕ → ℕ → Type 0
+HeadOf froms tos trees arities signatures own tag number r =
+    (p : List ℕ) (i : ℕ) → tag ≡ field 1 p (i * 4) → number ≡ field 2 p (i * 4 + 1) → HeadCode p froms tos trees arities signatures own i r
+
 -- every term has a sort, and nests 64 deep at most
 unfoldable pub Goods : (Head → Sort) → Terms → Type 0
 Goods hs []ᵗ = Unit

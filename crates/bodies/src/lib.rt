@@ -1,17 +1,18 @@
 // The bodies of rules: whether one is a single term of sort o within 64 levels, and where each of its subterms ends.
 use entries::narrow;
 use entries::place_at;
-use records::byte_at;
-use records::word_at;
 use sort_steps::apply;
 use sort_steps::parameter;
+use sort_steps::parameter_sorts;
 ghost use mathlib.Core.Path.{_≡_};
 ghost use mathlib.Core.Bool.{_&&_, false};
-ghost use Prim.Native.Nat.{_<_, _≤_, _/_, max};
+ghost use Prim.Native.Nat.{_+_, _<_, _≤_, _/_, max};
 ghost use lib.Dec.{eqb};
 ghost use lib.ListN.{length, getD};
+ghost use Rattle.records.specs.Fields.{IsField};
+ghost use Rattle.sort_codes.specs.Sorted.{ParameterSorts};
 ghost use Rattle.bodies.specs.Tables.{Stored};
-ghost use Rattle.bodies.specs.Bodies.{ArgumentsFit, HeadCode, NodeRead, Scanned, BodyDecided};
+ghost use Rattle.bodies.specs.Bodies.{ArgumentsFit, HeadOf, NodeRead, Scanned, BodyDecided};
 
 // What the arguments of a node come to: whether they fit, the node behind them, the code of the sort that is left, their depth.
 pub struct Arguments {
@@ -89,27 +90,47 @@ fn arguments_fit(
     }
 }
 
-// The code of the sort of the head of node i of a body.
+// The one-byte field at a place of a body that has it.
+fn byte_in(p: &[u8], at: usize) -> usize
+    requires { ⌜ at < length (now p) ⌝ }
+    ensures { λ r. ⌜ IsField 1 (now (p .entry)) at r ⌝ }
+{
+    p[at] as usize
+}
+
+// The two-byte field at a place of a body that has it.
+fn word_in(p: &[u8], at: usize) -> usize
+    requires { ⌜ at + 1 < length (now p) ⌝ }
+    ensures { λ r. ⌜ IsField 2 (now (p .entry)) at r ⌝ }
+{
+    let low = byte_in(p, at);
+    let high = byte_in(p, at + 1);
+    low + 256 * high
+}
+
+// The code of the sort of a head with a tag and a number; `params` has the sorts of the first 8 parameters.
 fn head_code(
-    p: &[u8],
     froms: &[u16],
     tos: &[u16],
     trees: &[u16],
     arities: &[u16],
     signatures: &[u16],
     own: usize,
-    i: usize,
+    params: &[u16],
+    tag: usize,
+    number: usize,
 ) -> usize
-    requires { ⌜ i < 256 ⌝ }
-    ensures { λ r. ⌜ HeadCode (now (p .entry)) (now (froms .entry)) (now (tos .entry)) (now (trees .entry)) (now (arities .entry)) (now (signatures .entry)) own i r ⌝ }
+    requires { ⌜ ParameterSorts (now froms) (now tos) own (now params) ⌝ }
+    ensures { λ r. ⌜ HeadOf (now (froms .entry)) (now (tos .entry)) (now (trees .entry)) (now (arities .entry)) (now (signatures .entry)) own tag number r ⌝ }
 {
-    let tag = byte_at(p, i * 4);
-    let number = word_at(p, i * 4 + 1);
     if tag == 0 {
         return place_at(trees, place_at(arities, number));
     }
     if tag == 1 {
         return place_at(signatures, number);
+    }
+    if number < 8 {
+        return place_at(params, number);
     }
     parameter(froms, tos, own, number)
 }
@@ -123,17 +144,31 @@ fn read_node(
     arities: &[u16],
     signatures: &[u16],
     own: usize,
+    params: &[u16],
     ends: &mut [u16],
     codes: &mut [u16],
     depths: &mut [u16],
     i: usize,
 ) -> bool
-    requires { ⌜ i < 256 ⌝ }
+    requires { ⌜ (i < length (now p) / 4) × (length (now p) / 4 ≤ 256) × ParameterSorts (now froms) (now tos) own (now params) ⌝ }
     ensures { λ r. ⌜ NodeRead (now (p .entry)) (now (froms .entry)) (now (tos .entry)) (now (trees .entry)) (now (arities .entry)) (now (signatures .entry)) own i (now (ends .entry)) (now (codes .entry)) (now (depths .entry)) (now (ends .exit)) (now (codes .exit)) (now (depths .exit)) r ⌝ }
 {
     let n = p.len() / 4;
-    let head = head_code(p, froms, tos, trees, arities, signatures, own, i);
-    let k = byte_at(p, i * 4 + 3);
+    let at = i * 4;
+    let tag = byte_in(p, at);
+    let number = word_in(p, at + 1);
+    let k = byte_in(p, at + 3);
+    let head = head_code(
+        froms,
+        tos,
+        trees,
+        arities,
+        signatures,
+        own,
+        params,
+        tag,
+        number,
+    );
     let a = arguments_fit(froms, tos, trees, ends, codes, depths, n, i + 1, k, head);
     if !a.fit {
         return false;
@@ -156,11 +191,12 @@ fn scan(
     arities: &[u16],
     signatures: &[u16],
     own: usize,
+    params: &[u16],
     ends: &mut [u16],
     codes: &mut [u16],
     depths: &mut [u16],
 ) -> bool
-    requires { ⌜ (length (now p) / 4 ≤ 256) × (length (now codes) ≡ 256) × (length (now depths) ≡ 256) ⌝ }
+    requires { ⌜ (length (now p) / 4 ≤ 256) × (length (now codes) ≡ 256) × (length (now depths) ≡ 256) × ParameterSorts (now froms) (now tos) own (now params) ⌝ }
     ensures { λ r. ⌜ Scanned (now (p .entry)) (now (froms .entry)) (now (tos .entry)) (now (trees .entry)) (now (arities .entry)) (now (signatures .entry)) own (now (ends .entry)) (now (ends .exit)) (now (codes .exit)) (now (depths .exit)) r ⌝ }
 {
     let mut i = p.len() / 4;
@@ -174,6 +210,7 @@ fn scan(
             arities,
             signatures,
             own,
+            params,
             ends,
             codes,
             depths,
@@ -216,6 +253,7 @@ pub fn body_fits(
     if n == 0 {
         return false;
     }
+    let params = parameter_sorts(froms, tos, own);
     let mut codes = [0u16; 256];
     let mut depths = [0u16; 256];
     if !scan(
@@ -226,6 +264,7 @@ pub fn body_fits(
         arities,
         signatures,
         own,
+        &params,
         ends,
         &mut codes,
         &mut depths,

@@ -5,17 +5,26 @@ use borrow.Author.Needs.{needs}
 use Rattle.bodies.proofs.read_node.Statement.{statement}
 use Rattle.bodies.proofs.read_node.Tie as tie
 
+mul-at : tie.Need-mul-at
+mul-at c = search needs
+
+byte-in-requires : tie.Need-byte-in-requires
+byte-in-requires c κs = search needs
+
+add-word-in : tie.Need-add-word-in
+add-word-in c = search needs
+
+word-in-requires : tie.Need-word-in-requires
+word-in-requires c κs = search needs
+
+add-byte-in : tie.Need-add-byte-in
+add-byte-in c = search needs
+
+byte-in-requires-2 : tie.Need-byte-in-requires-2
+byte-in-requires-2 c κs = search needs
+
 head-code-requires : tie.Need-head-code-requires
 head-code-requires c κs = search needs
-
-mul-byte-at : tie.Need-mul-byte-at
-mul-byte-at c = search needs
-
-add-byte-at : tie.Need-add-byte-at
-add-byte-at c = search needs
-
-byte-at-requires : tie.Need-byte-at-requires
-byte-at-requires c κs = search needs
 
 add-arguments-fit : tie.Need-add-arguments-fit
 add-arguments-fit c = search needs
@@ -33,7 +42,7 @@ same-length-3 : tie.Need-same-length-3
 same-length-3 c = search needs
 
 returns : tie.Need-returns
-returns c = read-misfit (c .before .before .before .before .before .before .before .head-code .ensures) (c .before .before .before .before .before .before .byte-at .ensures .value) (c .before .before .arguments-fit .ensures) (not-true _ (c .if1 .taken))
+returns c = read-misfit (c .before .before .before .before .before .before .head-code .ensures _ _ (c .before .before .before .before .before .before .before .before .before .byte-in .ensures .value) (c .before .before .before .before .before .before .before .before .word-in .ensures .value)) (c .before .before .before .before .before .before .before .byte-in2 .ensures .value) (c .before .before .arguments-fit .ensures) (not-true _ (c .if1 .taken))
 
 same-length-4 : tie.Need-same-length-4
 same-length-4 c = search needs
@@ -45,7 +54,7 @@ same-length-6 : tie.Need-same-length-6
 same-length-6 c = search needs
 
 returns-2 : tie.Need-returns-2
-returns-2 c = read-deep (c .before .before .before .before .before .before .before .before .before .head-code .ensures) (c .before .before .before .before .before .before .before .before .byte-at .ensures .value) (c .before .before .before .before .arguments-fit .ensures) (not-false _ (c .before .before .if1 .left)) (c .if2 .taken)
+returns-2 c = read-deep (c .before .before .before .before .before .before .before .before .head-code .ensures _ _ (c .before .before .before .before .before .before .before .before .before .before .before .byte-in .ensures .value) (c .before .before .before .before .before .before .before .before .before .before .word-in .ensures .value)) (c .before .before .before .before .before .before .before .before .before .byte-in2 .ensures .value) (c .before .before .before .before .arguments-fit .ensures) (not-false _ (c .before .before .if1 .left)) (c .if2 .taken)
 
 put-requires : tie.Need-put-requires
 put-requires c κs = search needs
@@ -69,16 +78,19 @@ same-length-9 : tie.Need-same-length-9
 same-length-9 c = search needs
 
 returns-3 : tie.Need-returns-3
-returns-3 c = read-held (c .before .before .before .before .before .before .before .before .before .before .before .before .before .before .before .before .before .before .before .before .before .before .head-code .ensures) (c .before .before .before .before .before .before .before .before .before .before .before .before .before .before .before .before .before .before .before .before .before .byte-at .ensures .value) (c .before .before .before .before .before .before .before .before .before .before .before .before .before .before .before .before .before .arguments-fit .ensures) (not-false _ (c .before .before .before .before .before .before .before .before .before .before .before .before .before .before .before .if1 .left)) (c .before .before .before .before .before .before .before .before .before .before .before .before .before .if2 .left) (c .before .before .before .before .before .before .before .before .before .before .before .put .ensures) (c .before .before .before .before .before .before .before .put2 .ensures) (c .before .before .put3 .ensures)
+returns-3 c = read-held (c .before .before .before .before .before .before .before .before .before .before .before .before .before .before .before .before .before .before .before .before .before .head-code .ensures _ _ (c .before .before .before .before .before .before .before .before .before .before .before .before .before .before .before .before .before .before .before .before .before .before .before .before .byte-in .ensures .value) (c .before .before .before .before .before .before .before .before .before .before .before .before .before .before .before .before .before .before .before .before .before .before .before .word-in .ensures .value)) (c .before .before .before .before .before .before .before .before .before .before .before .before .before .before .before .before .before .before .before .before .before .before .byte-in2 .ensures .value) (c .before .before .before .before .before .before .before .before .before .before .before .before .before .before .before .before .before .arguments-fit .ensures) (not-false _ (c .before .before .before .before .before .before .before .before .before .before .before .before .before .before .before .if1 .left)) (c .before .before .before .before .before .before .before .before .before .before .before .before .before .if2 .left) (c .before .before .before .before .before .before .before .before .before .before .before .put .ensures) (c .before .before .before .before .before .before .before .put2 .ensures) (c .before .before .put3 .ensures)
 
 pub read-node-spec : {M : Type 1} → statement M
 read-node-spec =
     tie.close
     (tie.spec
+    mul-at
+    byte-in-requires
+    add-word-in
+    word-in-requires
+    add-byte-in
+    byte-in-requires-2
     head-code-requires
-    mul-byte-at
-    add-byte-at
-    byte-at-requires
     add-arguments-fit
     arguments-fit-requires
     same-length
