@@ -108,6 +108,14 @@ module _ {p froms tos trees arities signatures : List ℕ} {own : ℕ} where
     ends-are = λ sorts counts numbers w l. absurd (omega arith);
   }
 
+  pub decide-short : {ends : List ℕ} → length ends < length p / 4 → BodyDecided p froms tos trees arities signatures own ends ends false
+  decide-short h = record {
+    long = refl;
+    rest = refl;
+    decided = λ sorts counts numbers w l m. absurd (omega arith);
+    ends-are = λ sorts counts numbers w l m. absurd (omega arith);
+  }
+
   pub decide-empty : {ends : List ℕ} → length p / 4 ≡ 0 → BodyDecided p froms tos trees arities signatures own ends ends false
   unfolding terms countᵗ
   decide-empty h = record {

@@ -5,16 +5,17 @@ use sort_steps::apply;
 use sort_steps::parameter;
 use sort_steps::parameter_sorts;
 ghost use mathlib.Core.Path.{_≡_};
-ghost use mathlib.Core.Bool.{_&&_, false};
+ghost use mathlib.Core.Bool.{_&&_, true, false};
 ghost use Prim.Native.Nat.{_+_, _<_, _≤_, _/_, max};
 ghost use lib.Dec.{eqb};
 ghost use lib.ListN.{length, getD};
 ghost use Rattle.records.specs.Fields.{IsField};
 ghost use Rattle.sort_codes.specs.Sorted.{ParameterSorts};
 ghost use Rattle.bodies.specs.Tables.{Stored};
-ghost use Rattle.bodies.specs.Bodies.{ArgumentsFit, HeadOf, NodeRead, Scanned, BodyDecided};
+ghost use Rattle.bodies.specs.Bodies.{ArgumentsFit, HeldAs, HeadOf, Room, NodeTaken, Scanned, BodyDecided};
 
 // What the arguments of a node come to: whether they fit, the node behind them, the code of the sort that is left, their depth.
+// It stands for a node that is read too: the node behind its subterm, the code of its sort, its depth.
 pub struct Arguments {
     pub fit: bool,
     pub end: usize,
@@ -22,14 +23,16 @@ pub struct Arguments {
     pub deep: usize,
 }
 
-// Stores a number at a place of a table that has the place.
-fn put(a: &mut [u16], i: usize, v: usize)
-    ensures { λ _. ⌜ Stored (now (a .entry)) (now (a .exit)) i v ⌝ }
+// Stores a number at a place of a table that has the place, and gives it as it is stored.
+fn put(a: &mut [u16], i: usize, v: usize) -> usize
+    ensures { λ r. ⌜ Stored (now (a .entry)) (now (a .exit)) i v r ⌝ }
 {
     let w = narrow(v);
     if i < a.len() {
         a[i] = w;
+        return w as usize;
     }
+    w as usize
 }
 
 // The larger of two numbers.
@@ -51,7 +54,20 @@ fn misfit() -> Arguments
     }
 }
 
-// What k arguments from node `at` on come to, of a head whose sort has the code `head`; the tables hold n nodes.
+// Arguments that fit.
+fn fitting(end: usize, sort: usize, deep: usize) -> Arguments
+    ensures { λ r. ⌜ r ≡ record { fit = true; end = end; sort = sort; deep = deep } ⌝ }
+{
+    Arguments {
+        fit: true,
+        end,
+        sort,
+        deep,
+    }
+}
+
+// What k arguments from node `at` on come to, of a head whose sort has the code `head`; the tables hold n nodes, and `next`
+// is what they hold of node `at`.
 fn arguments_fit(
     froms: &[u16],
     tos: &[u16],
@@ -63,13 +79,24 @@ fn arguments_fit(
     at: usize,
     k: usize,
     head: usize,
+    next: Arguments,
 ) -> Arguments
+    requires { ⌜ HeldAs (now ends) (now codes) (now depths) n at next ⌝ }
     ensures { λ r. ⌜ ArgumentsFit (now (froms .entry)) (now (tos .entry)) (now (trees .entry)) (now (ends .entry)) (now (codes .entry)) (now (depths .entry)) n at k head r ⌝ }
 {
-    let mut end = at;
-    let mut left = k;
-    let mut sort = head;
-    let mut deep: usize = 0;
+    if k == 0 {
+        return fitting(at, head, 0);
+    }
+    if n <= at {
+        return misfit();
+    }
+    let mut sort = apply(froms, tos, trees, head, next.sort);
+    if sort == 2000 {
+        return misfit();
+    }
+    let mut end = next.end;
+    let mut left = k - 1;
+    let mut deep = next.deep;
     while 0 < left {
         if n <= end {
             return misfit();
@@ -82,12 +109,7 @@ fn arguments_fit(
         end = place_at(ends, end);
         left -= 1;
     }
-    Arguments {
-        fit: true,
-        end,
-        sort,
-        deep,
-    }
+    fitting(end, sort, deep)
 }
 
 // The one-byte field at a place of a body that has it.
@@ -135,7 +157,8 @@ fn head_code(
     parameter(froms, tos, own, number)
 }
 
-// Reads node i of a body, where the tables hold the nodes behind it, and fills the tables; false where it lacks an argument or one does not fit, or it nests over 64 deep.
+// Reads node i of a body, where the tables hold the nodes behind it, `next` the first of them, and fills the tables; it does
+// not fit where it lacks an argument or one does not fit, or it nests over 64 deep.
 fn read_node(
     p: &[u8],
     froms: &[u16],
@@ -149,9 +172,10 @@ fn read_node(
     codes: &mut [u16],
     depths: &mut [u16],
     i: usize,
-) -> bool
-    requires { ⌜ (i < length (now p) / 4) × (length (now p) / 4 ≤ 256) × ParameterSorts (now froms) (now tos) own (now params) ⌝ }
-    ensures { λ r. ⌜ NodeRead (now (p .entry)) (now (froms .entry)) (now (tos .entry)) (now (trees .entry)) (now (arities .entry)) (now (signatures .entry)) own i (now (ends .entry)) (now (codes .entry)) (now (depths .entry)) (now (ends .exit)) (now (codes .exit)) (now (depths .exit)) r ⌝ }
+    next: Arguments,
+) -> Arguments
+    requires { ⌜ (i < length (now p) / 4) × Room (now p) (now ends) (now codes) (now depths) × ParameterSorts (now froms) (now tos) own (now params) × HeldAs (now ends) (now codes) (now depths) (length (now p) / 4) (i + 1) next ⌝ }
+    ensures { λ r. ⌜ NodeTaken (now (p .entry)) (now (froms .entry)) (now (tos .entry)) (now (trees .entry)) (now (arities .entry)) (now (signatures .entry)) own i (now (ends .entry)) (now (codes .entry)) (now (depths .entry)) (now (ends .exit)) (now (codes .exit)) (now (depths .exit)) r ⌝ }
 {
     let n = p.len() / 4;
     let at = i * 4;
@@ -169,17 +193,29 @@ fn read_node(
         tag,
         number,
     );
-    let a = arguments_fit(froms, tos, trees, ends, codes, depths, n, i + 1, k, head);
+    let a = arguments_fit(
+        froms,
+        tos,
+        trees,
+        ends,
+        codes,
+        depths,
+        n,
+        i + 1,
+        k,
+        head,
+        next,
+    );
     if !a.fit {
-        return false;
+        return misfit();
     }
     if 64 <= a.deep {
-        return false;
+        return misfit();
     }
-    put(ends, i, a.end);
-    put(codes, i, a.sort);
-    put(depths, i, a.deep + 1);
-    true
+    let end = put(ends, i, a.end);
+    let sort = put(codes, i, a.sort);
+    let deep = put(depths, i, a.deep + 1);
+    fitting(end, sort, deep)
 }
 
 // Reads the nodes of a body, the last one first, and fills the tables; false where one of them does not fit.
@@ -196,13 +232,14 @@ fn scan(
     codes: &mut [u16],
     depths: &mut [u16],
 ) -> bool
-    requires { ⌜ (length (now p) / 4 ≤ 256) × (length (now codes) ≡ 256) × (length (now depths) ≡ 256) × ParameterSorts (now froms) (now tos) own (now params) ⌝ }
+    requires { ⌜ Room (now p) (now ends) (now codes) (now depths) × ParameterSorts (now froms) (now tos) own (now params) ⌝ }
     ensures { λ r. ⌜ Scanned (now (p .entry)) (now (froms .entry)) (now (tos .entry)) (now (trees .entry)) (now (arities .entry)) (now (signatures .entry)) own (now (ends .entry)) (now (ends .exit)) (now (codes .exit)) (now (depths .exit)) r ⌝ }
 {
     let mut i = p.len() / 4;
+    let mut next = misfit();
     while 0 < i {
         i -= 1;
-        if !read_node(
+        next = read_node(
             p,
             froms,
             tos,
@@ -215,7 +252,9 @@ fn scan(
             codes,
             depths,
             i,
-        ) {
+            next,
+        );
+        if !next.fit {
             return false;
         }
     }
@@ -251,6 +290,9 @@ pub fn body_fits(
         return false;
     }
     if n == 0 {
+        return false;
+    }
+    if ends.len() < n {
         return false;
     }
     let params = parameter_sorts(froms, tos, own);

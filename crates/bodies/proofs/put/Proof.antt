@@ -14,14 +14,20 @@ mul-a c = search needs
 slice-write-a : tie.Need-slice-write-a
 slice-write-a c = search needs
 
+cast-result : tie.Need-cast-result
+cast-result c = search needs
+
 same-length : tie.Need-same-length
 same-length c = search needs
 
 returns : tie.Need-returns
-returns c = record { word = c .before .narrow .result; after-is = refl; word-is = c .before .narrow .ensures }
+returns c = record { after-is = refl; word-is = c .before .narrow .ensures }
+
+cast-result-2 : tie.Need-cast-result-2
+cast-result-2 c = search needs
 
 returns-2 : tie.Need-returns-2
-returns-2 c = record { word = c .before .narrow .result; after-is = sym (set-out _ _ _ (c .if1 .left)); word-is = c .before .narrow .ensures }
+returns-2 c = record { after-is = sym (set-out _ _ _ (c .if1 .left)); word-is = c .before .narrow .ensures }
 
 pub put-spec : {M : Type 1} → statement M
-put-spec = tie.close (tie.spec narrow-requires mul-a slice-write-a same-length returns returns-2)
+put-spec = tie.close (tie.spec narrow-requires mul-a slice-write-a cast-result same-length returns cast-result-2 returns-2)

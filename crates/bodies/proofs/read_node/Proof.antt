@@ -1,6 +1,6 @@
 -- `read_node` meets its contract.
 use borrow.Author.Tests.{not-true, not-false}
-use Rattle.bodies.proofs.Backward.{read-misfit, read-deep, read-held}
+use Rattle.bodies.proofs.Backward.{read-misfit, read-deep, read-held, taken-misfit, taken-held}
 use borrow.Author.Needs.{needs}
 use Rattle.bodies.proofs.read_node.Statement.{statement}
 use Rattle.bodies.proofs.read_node.Tie as tie
@@ -32,6 +32,9 @@ add-arguments-fit c = search needs
 arguments-fit-requires : tie.Need-arguments-fit-requires
 arguments-fit-requires c κs = search needs
 
+misfit-requires : tie.Need-misfit-requires
+misfit-requires c κs = search needs
+
 same-length : tie.Need-same-length
 same-length c = search needs
 
@@ -42,7 +45,10 @@ same-length-3 : tie.Need-same-length-3
 same-length-3 c = search needs
 
 returns : tie.Need-returns
-returns c = read-misfit (c .before .before .before .before .before .before .head-code .ensures _ _ (c .before .before .before .before .before .before .before .before .before .byte-in .ensures .value) (c .before .before .before .before .before .before .before .before .word-in .ensures .value)) (c .before .before .before .before .before .before .before .byte-in2 .ensures .value) (c .before .before .arguments-fit .ensures) (not-true _ (c .if1 .taken))
+returns c = taken-misfit (c .misfit .ensures) (read-misfit (c .before .before .before .before .before .before .before .head-code .ensures _ _ (c .before .before .before .before .before .before .before .before .before .before .byte-in .ensures .value) (c .before .before .before .before .before .before .before .before .before .word-in .ensures .value)) (c .before .before .before .before .before .before .before .before .byte-in2 .ensures .value) (c .before .before .before .arguments-fit .ensures) (not-true _ (c .before .if1 .taken)))
+
+misfit-requires-2 : tie.Need-misfit-requires-2
+misfit-requires-2 c κs = search needs
 
 same-length-4 : tie.Need-same-length-4
 same-length-4 c = search needs
@@ -54,7 +60,7 @@ same-length-6 : tie.Need-same-length-6
 same-length-6 c = search needs
 
 returns-2 : tie.Need-returns-2
-returns-2 c = read-deep (c .before .before .before .before .before .before .before .before .head-code .ensures _ _ (c .before .before .before .before .before .before .before .before .before .before .before .byte-in .ensures .value) (c .before .before .before .before .before .before .before .before .before .before .word-in .ensures .value)) (c .before .before .before .before .before .before .before .before .before .byte-in2 .ensures .value) (c .before .before .before .before .arguments-fit .ensures) (not-false _ (c .before .before .if1 .left)) (c .if2 .taken)
+returns-2 c = taken-misfit (c .misfit2 .ensures) (read-deep (c .before .before .before .before .before .before .before .before .before .head-code .ensures _ _ (c .before .before .before .before .before .before .before .before .before .before .before .before .byte-in .ensures .value) (c .before .before .before .before .before .before .before .before .before .before .before .word-in .ensures .value)) (c .before .before .before .before .before .before .before .before .before .before .byte-in2 .ensures .value) (c .before .before .before .before .before .arguments-fit .ensures) (not-false _ (c .before .before .before .if1 .left)) (c .before .if2 .taken))
 
 put-requires : tie.Need-put-requires
 put-requires c κs = search needs
@@ -68,6 +74,9 @@ add-put c = search needs
 put-requires-3 : tie.Need-put-requires-3
 put-requires-3 c κs = search needs
 
+fitting-requires : tie.Need-fitting-requires
+fitting-requires c κs = search needs
+
 same-length-7 : tie.Need-same-length-7
 same-length-7 c = search needs
 
@@ -78,7 +87,7 @@ same-length-9 : tie.Need-same-length-9
 same-length-9 c = search needs
 
 returns-3 : tie.Need-returns-3
-returns-3 c = read-held (c .before .before .before .before .before .before .before .before .before .before .before .before .before .before .before .before .before .before .before .before .before .head-code .ensures _ _ (c .before .before .before .before .before .before .before .before .before .before .before .before .before .before .before .before .before .before .before .before .before .before .before .before .byte-in .ensures .value) (c .before .before .before .before .before .before .before .before .before .before .before .before .before .before .before .before .before .before .before .before .before .before .before .word-in .ensures .value)) (c .before .before .before .before .before .before .before .before .before .before .before .before .before .before .before .before .before .before .before .before .before .before .byte-in2 .ensures .value) (c .before .before .before .before .before .before .before .before .before .before .before .before .before .before .before .before .before .arguments-fit .ensures) (not-false _ (c .before .before .before .before .before .before .before .before .before .before .before .before .before .before .before .if1 .left)) (c .before .before .before .before .before .before .before .before .before .before .before .before .before .if2 .left) (c .before .before .before .before .before .before .before .before .before .before .before .put .ensures) (c .before .before .before .before .before .before .before .put2 .ensures) (c .before .before .put3 .ensures)
+returns-3 c = taken-held (c .before .before .before .before .before .before .before .before .before .before .before .before .before .before .before .before .before .before .before .before .before .before .before .before .before .before .before .before .before .before .before .before .before .before .before .before .pre .0) (c .before .before .before .before .before .before .before .before .before .before .before .before .before .before .before .before .before .before .before .before .before .before .before .before .before .before .before .before .before .before .before .before .before .before .before .before .pre .1) (c .before .before .before .before .before .before .before .before .before .before .before .before .put .ensures) (c .before .before .before .before .before .before .before .before .put2 .ensures) (c .before .before .before .put3 .ensures) (c .fitting .ensures) (read-held (c .before .before .before .before .before .before .before .before .before .before .before .before .before .before .before .before .before .before .before .before .before .before .head-code .ensures _ _ (c .before .before .before .before .before .before .before .before .before .before .before .before .before .before .before .before .before .before .before .before .before .before .before .before .before .byte-in .ensures .value) (c .before .before .before .before .before .before .before .before .before .before .before .before .before .before .before .before .before .before .before .before .before .before .before .before .word-in .ensures .value)) (c .before .before .before .before .before .before .before .before .before .before .before .before .before .before .before .before .before .before .before .before .before .before .before .byte-in2 .ensures .value) (c .before .before .before .before .before .before .before .before .before .before .before .before .before .before .before .before .before .before .arguments-fit .ensures) (not-false _ (c .before .before .before .before .before .before .before .before .before .before .before .before .before .before .before .before .if1 .left)) (c .before .before .before .before .before .before .before .before .before .before .before .before .before .before .if2 .left) (c .before .before .before .before .before .before .before .before .before .before .before .before .put .ensures) (c .before .before .before .before .before .before .before .before .put2 .ensures) (c .before .before .before .put3 .ensures))
 
 pub read-node-spec : {M : Type 1} → statement M
 read-node-spec =
@@ -93,10 +102,12 @@ read-node-spec =
     head-code-requires
     add-arguments-fit
     arguments-fit-requires
+    misfit-requires
     same-length
     same-length-2
     same-length-3
     returns
+    misfit-requires-2
     same-length-4
     same-length-5
     same-length-6
@@ -105,6 +116,7 @@ read-node-spec =
     put-requires-2
     add-put
     put-requires-3
+    fitting-requires
     same-length-7
     same-length-8
     same-length-9
