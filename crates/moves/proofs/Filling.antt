@@ -3,7 +3,7 @@ use Prim.Native.Nat.{ℕ, zero, suc, _+_, _-_, _<_, _≤_}
 use native.Mathlib.Nat.{add-zero}
 use native.Mathlib.Omega.{arith}
 use native.Mathlib.Decide.{ℕ-discrete}
-use mathlib.Core.Path.{_≡_, refl, sym, ap, _∙_, subst}
+use mathlib.Core.Path.{_≡_, refl, sym, ap, _∙_}
 use mathlib.Core.Bool.{Bool, true, false, _&&_, not}
 use mathlib.Core.List.{List, [], _∷_}
 use borrow.Author.Tests.{eq-eqb, ne-eqb, eqb-true, not-false}
@@ -72,12 +72,9 @@ module _ (file index : List ℕ) (n : ℕ) where
         let first : byte file at ≡ byte (getD (payloads Kind.transition rs) i []) 0 = ap (byte file) (sym (add-zero at)) ∙ there 0 (omega arith) in
         rw (drop-cons (payloads Kind.transition rs) i [] (omega (arith, many)), first, there 1 (omega arith), there 2 (omega arith), there 3 (omega arith), there 4 (omega arith), there 5 (omega arith))
 
-  sofar-none : n ≤ 512 → Sofar file index n blank n
+  pub sofar-none : n ≤ 512 → Sofar file index n blank n
   unfolding rowFor
   sofar-none h = record { count = omega arith; few = h; shaped = blank-shaped; rows = λ rs ok ix q c hq hc. blank-row q c hq hc ∙ sym (ap (λ l. rowFor l q c) (ap (λ m. drop m (payloads Kind.transition rs)) (sym (sym (count-payloads Kind.transition rs) ∙ ix .counted)) ∙ drop-length (payloads Kind.transition rs))) }
-
-  pub sofar-start : (k : ℕ) → n ≤ 512 → k ≡ n → Sofar file index n blank k
-  sofar-start k h e = subst (λ m. Sofar file index n blank m) (sym e) (sofar-none h)
 
   module _ (t : List (List (List ℕ))) (k : ℕ) (so : Sofar file index n t k) (h : 0 < k) (at : ℕ) (e : at ≡ getD index (608 + (k - 1)) 0) (q c : ℕ) (hq : q ≡ byte file at) (hc : c ≡ byte file (at + 1)) where
     back : suc (k - 1) ≡ k

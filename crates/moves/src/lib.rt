@@ -2,7 +2,6 @@
 use entries::place_at;
 use records::byte_at;
 ghost use mathlib.Core.Path.{_≡_};
-ghost use Prim.Native.Nat.{_≤_};
 ghost use Rattle.records.specs.Fields.{byte};
 ghost use Rattle.moves.specs.Moves.{Holds};
 
@@ -13,19 +12,15 @@ fn target_at(file: &[u8], at: usize) -> u8
     byte_at(file, at) as u8
 }
 
-// A number of transitions; 0 for one past their limit.
-fn within_limit(n: usize) -> usize
-    ensures { λ r. ⌜ (r ≤ 512) × (n ≤ 512 → r ≡ n) ⌝ }
-{
-    if n <= 512 { n } else { 0 }
-}
-
 // The table of the n transitions of a file; 255 stands where there is none.
 pub fn moves(file: &[u8], index: &[u16], n: usize) -> [[[u8; 4]; 32]; 16]
     ensures { λ r. ⌜ Holds (now (file .entry)) (now (index .entry)) n r ⌝ }
 {
     let mut t = [[[255u8; 4]; 32]; 16];
-    let mut k = within_limit(n);
+    if 512 < n {
+        return t;
+    }
+    let mut k = n;
     while 0 < k {
         k = k - 1;
         let at = place_at(index, 608 + k);

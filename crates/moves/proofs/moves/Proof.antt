@@ -1,24 +1,32 @@
--- `moves` meets its contract.
 use Rattle.moves.proofs.Meaning.{all-rows}
-use Prim.Native.Nat.{_≤_}
+use Prim.Native.Nat.{ℕ, _+_, _-_, _<_, _≤_}
+use mathlib.Core.Path.{_≡_, refl, sym, ap, subst, _∙_}
+use mathlib.Core.Logic.{⊎-elim}
+use mathlib.Core.List.{List}
 use native.Mathlib.Omega.{arith}
 use borrow.Author.Needs.{needs}
+use lib.ListN.{length, drop}
 use Rattle.moves.specs.Moves.{Sofar}
-use Rattle.moves.proofs.Filling.{sofar-start, sofar-put, sofar-state, sofar-constructor}
+use Rattle.moves.proofs.Filling.{sofar-none, sofar-put, sofar-state, sofar-constructor}
 use Rattle.moves.proofs.moves.Statement.{statement}
 use Rattle.moves.proofs.moves.Tie as tie
+use Rattle.moves.proofs.moves.Reads as reads
+use Rattle.moves.proofs.moves.Lts as lts
+use Rattle.entries.proofs.place_at.Reads as place-at-reads
+use Rattle.moves.proofs.target_at.Reads as target-at-reads
+use Rattle.records.proofs.byte_at.Reads as byte-at-reads
 
 abbrev Inv-loop : tie.InvT-loop
-Inv-loop file index n t₀ k₀ t k = (k ≤ 512) × (n ≤ 512 → Sofar file index n t k)
+Inv-loop file index n t₀ k₀ t k = Sofar file index n t k
 
 abbrev μ-loop : tie.MeasureT-loop
 μ-loop file index n t₀ k₀ t k = k
 
-within-limit-requires : tie.Need-within-limit-requires Inv-loop μ-loop
-within-limit-requires c κs = search needs
+returns : tie.Need-returns Inv-loop μ-loop
+returns c = λ rs ok ix few. absurd (omega (arith, c .if1 .taken))
 
 loop-holds : tie.Need-loop-holds Inv-loop μ-loop
-loop-holds c = (c .within-limit .ensures .0, λ few. sofar-start _ _ _ _ few (c .within-limit .ensures .1 few))
+loop-holds c = sofar-none _ _ _ (c .if1 .left)
 
 sub-k : tie.Need-sub-k Inv-loop μ-loop
 sub-k c = search needs
@@ -62,11 +70,11 @@ add-target-at-4 c = search needs
 target-at-requires-4 : tie.Need-target-at-requires-4 Inv-loop μ-loop
 target-at-requires-4 c κs = search needs
 
-mul-t19 : tie.Need-mul-t19 Inv-loop μ-loop
-mul-t19 c = search needs
+mul-t20 : tie.Need-mul-t20 Inv-loop μ-loop
+mul-t20 c = search needs
 
-mul-t22 : tie.Need-mul-t22 Inv-loop μ-loop
-mul-t22 c = search needs
+mul-t23 : tie.Need-mul-t23 Inv-loop μ-loop
+mul-t23 c = search needs
 
 index-1-t : tie.Need-index-1-t Inv-loop μ-loop
 index-1-t c = search needs
@@ -78,22 +86,22 @@ loop-less : tie.Need-loop-less Inv-loop μ-loop
 loop-less c = search needs
 
 loop-again : tie.Need-loop-again Inv-loop μ-loop
-loop-again c = (omega arith, λ few. sofar-put _ _ _ _ _ (c .before .before .before .before .before .before .before .before .before .before .loop .inv .1 few) (c .before .before .before .before .before .before .before .before .before .loop-test .taken) _ (c .before .before .before .before .before .before .before .before .place-at .ensures .value) _ _ (c .before .before .before .before .before .before .before .byte-at .ensures .value) (c .before .before .before .before .before .before .byte-at2 .ensures .value) (c .before .if1 .taken) (c .if2 .taken) _ _ _ _ (c .before .before .before .before .before .target-at .ensures) (c .before .before .before .before .target-at2 .ensures) (c .before .before .before .target-at3 .ensures) (c .before .before .target-at4 .ensures))
+loop-again c = sofar-put _ _ _ _ _ (c .before .before .before .before .before .before .before .before .before .before .loop .inv) (c .before .before .before .before .before .before .before .before .before .loop-test .taken) _ (c .before .before .before .before .before .before .before .before .place-at .ensures .value) _ _ (c .before .before .before .before .before .before .before .byte-at .ensures .value) (c .before .before .before .before .before .before .byte-at2 .ensures .value) (c .before .if2 .taken) (c .if3 .taken) _ _ _ _ (c .before .before .before .before .before .target-at .ensures) (c .before .before .before .before .target-at2 .ensures) (c .before .before .before .target-at3 .ensures) (c .before .before .target-at4 .ensures)
 
 loop-less-2 : tie.Need-loop-less-2 Inv-loop μ-loop
 loop-less-2 c = search needs
 
 loop-again-2 : tie.Need-loop-again-2 Inv-loop μ-loop
-loop-again-2 c = (omega arith, λ few. sofar-constructor _ _ _ _ _ (c .before .before .before .before .before .before .before .before .before .before .loop .inv .1 few) (c .before .before .before .before .before .before .before .before .before .loop-test .taken) _ (c .before .before .before .before .before .before .before .before .place-at .ensures .value) _ _ (c .before .before .before .before .before .before .before .byte-at .ensures .value) (c .before .before .before .before .before .before .byte-at2 .ensures .value) (c .if2 .left))
+loop-again-2 c = sofar-constructor _ _ _ _ _ (c .before .before .before .before .before .before .before .before .before .before .loop .inv) (c .before .before .before .before .before .before .before .before .before .loop-test .taken) _ (c .before .before .before .before .before .before .before .before .place-at .ensures .value) _ _ (c .before .before .before .before .before .before .before .byte-at .ensures .value) (c .before .before .before .before .before .before .byte-at2 .ensures .value) (c .if3 .left)
 
 loop-less-3 : tie.Need-loop-less-3 Inv-loop μ-loop
 loop-less-3 c = search needs
 
 loop-again-3 : tie.Need-loop-again-3 Inv-loop μ-loop
-loop-again-3 c = (omega arith, λ few. sofar-state _ _ _ _ _ (c .before .before .before .before .before .before .before .before .before .loop .inv .1 few) (c .before .before .before .before .before .before .before .before .loop-test .taken) _ (c .before .before .before .before .before .before .before .place-at .ensures .value) _ _ (c .before .before .before .before .before .before .byte-at .ensures .value) (c .before .before .before .before .before .byte-at2 .ensures .value) (c .if1 .left))
+loop-again-3 c = sofar-state _ _ _ _ _ (c .before .before .before .before .before .before .before .before .before .loop .inv) (c .before .before .before .before .before .before .before .before .loop-test .taken) _ (c .before .before .before .before .before .before .before .place-at .ensures .value) _ _ (c .before .before .before .before .before .before .byte-at .ensures .value) (c .before .before .before .before .before .byte-at2 .ensures .value) (c .if2 .left)
 
-returns : tie.Need-returns Inv-loop μ-loop
-returns c = λ rs ok ix few. all-rows _ _ _ _ _ (c .before .loop .inv .1 few) (c .loop-test .left) rs ok ix few
+returns-2 : tie.Need-returns-2 Inv-loop μ-loop
+returns-2 c = all-rows _ _ _ _ _ (c .before .loop .inv) (c .loop-test .left)
 
 pub moves-spec : {M : Type 1} → statement M
 moves-spec =
@@ -101,7 +109,7 @@ moves-spec =
     (tie.spec
     Inv-loop
     μ-loop
-    within-limit-requires
+    returns
     loop-holds
     sub-k
     add-place-at
@@ -117,8 +125,8 @@ moves-spec =
     target-at-requires-3
     add-target-at-4
     target-at-requires-4
-    mul-t19
-    mul-t22
+    mul-t20
+    mul-t23
     index-1-t
     index-2-t
     loop-less
@@ -127,4 +135,4 @@ moves-spec =
     loop-again-2
     loop-less-3
     loop-again-3
-    returns)
+    returns-2)
