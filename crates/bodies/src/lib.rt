@@ -25,13 +25,11 @@ pub struct Arguments {
 
 // Stores a number at a place of a table that has the place, and gives it as it is stored.
 fn put(a: &mut [u16], i: usize, v: usize) -> usize
+    requires { ⌜ i < length (now a) ⌝ }
     ensures { λ r. ⌜ Stored (now (a .entry)) (now (a .exit)) i v r ⌝ }
 {
     let w = narrow(v);
-    if i < a.len() {
-        a[i] = w;
-        return w as usize;
-    }
+    a[i] = w;
     w as usize
 }
 

@@ -1,4 +1,5 @@
 -- `read_node` meets its contract.
+use native.Mathlib.Omega.{arith}
 use borrow.Author.Tests.{not-true, not-false}
 use Rattle.bodies.proofs.Backward.{read-misfit, read-deep, read-held, taken-misfit, taken-held}
 use borrow.Author.Needs.{needs}
@@ -63,16 +64,16 @@ returns-2 : tie.Need-returns-2
 returns-2 c = taken-misfit (c .misfit2 .ensures) (read-deep (c .before .before .before .before .before .before .before .before .before .head-code .ensures _ _ (c .before .before .before .before .before .before .before .before .before .before .before .before .byte-in .ensures .value) (c .before .before .before .before .before .before .before .before .before .before .before .word-in .ensures .value)) (c .before .before .before .before .before .before .before .before .before .before .byte-in2 .ensures .value) (c .before .before .before .before .before .arguments-fit .ensures) (not-false _ (c .before .before .before .if1 .left)) (c .before .if2 .taken))
 
 put-requires : tie.Need-put-requires
-put-requires c κs = search needs
+put-requires c κs = (let q = c .before .before .before .before .before .before .before .before .before .before .before .before .before .before .before .before .before .before .before .before .before .before .before .pre .1 in omega (arith, c .before .before .before .before .before .before .before .before .before .before .before .before .before .before .before .before .before .before .before .before .before .before .before .pre .0, q .few, q .ends-long))
 
 put-requires-2 : tie.Need-put-requires-2
-put-requires-2 c κs = search needs
+put-requires-2 c κs = (let q = c .before .before .before .before .before .before .before .before .before .before .before .before .before .before .before .before .before .before .before .before .before .before .before .before .before .before .before .pre .1 in omega (arith, c .before .before .before .before .before .before .before .before .before .before .before .before .before .before .before .before .before .before .before .before .before .before .before .before .before .before .before .pre .0, q .few, q .codes-long))
 
 add-put : tie.Need-add-put
 add-put c = search needs
 
 put-requires-3 : tie.Need-put-requires-3
-put-requires-3 c κs = search needs
+put-requires-3 c κs = (let q = c .before .before .before .before .before .before .before .before .before .before .before .before .before .before .before .before .before .before .before .before .before .before .before .before .before .before .before .before .before .before .before .before .pre .1 in omega (arith, c .before .before .before .before .before .before .before .before .before .before .before .before .before .before .before .before .before .before .before .before .before .before .before .before .before .before .before .before .before .before .before .before .pre .0, q .few, q .depths-long))
 
 fitting-requires : tie.Need-fitting-requires
 fitting-requires c κs = search needs
