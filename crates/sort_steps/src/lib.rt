@@ -1,4 +1,4 @@
-// Sorts by code, one step on: the sort of a parameter, and a sort with an argument off.
+// Sorts by code: the sorts of parameters, and a sort with an argument off.
 use entries::place_at;
 ghost use Rattle.sort_codes.specs.Sorted.{Applied, ParameterSort, ParameterSorts};
 
