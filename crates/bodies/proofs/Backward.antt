@@ -20,24 +20,27 @@ use Rattle.records.specs.Fields.{field}
 use Rattle.casefile.specs.Tables.{headOf, nodesOf, firstTerm}
 use Rattle.bodies.specs.Tables.{Stored}
 use Rattle.sort_codes.specs.Sorted.{Code}
-use Rattle.bodies.specs.Bodies.{Held, Fits, ArgumentsFit, Goods, Held-from, headsBy, Setting, HeadCode, NodeRead}
+use Rattle.bodies.specs.Bodies.{Held, Fits, ArgumentsFit, Goods, Held-from, headsBy, Setting, HeadCode, HeldAs, Room, NodeRead, NodeTaken}
 use Rattle.bodies.specs.declared.Arguments.{Arguments}
 use Rattle.sort_codes.proofs.Codes.{code-small}
 use Rattle.casefile.proofs.Cells.{cellAt, nodeAt, nodes-length, nodes-drop}
 
 -- a table after a store
-module _ {before after : List ℕ} {i v : ℕ} (s : Stored before after i v) where
+module _ {before after : List ℕ} {i v r : ℕ} (s : Stored before after i v r) where
   pub stored-length : length after ≡ length before
-  stored-length = ap length (s .after-is) ∙ length-set before i (s .word)
+  stored-length = ap length (s .after-is) ∙ length-set before i r
 
   pub stored-here : i < length before → v < 65536 → getD after i 0 ≡ v
-  stored-here h k = ap (λ l. getD l i 0) (s .after-is) ∙ getD-set-same before i (s .word) 0 h ∙ s .word-is k
+  stored-here h k = ap (λ l. getD l i 0) (s .after-is) ∙ getD-set-same before i r 0 h ∙ s .word-is k
+
+  pub stored-as : i < length before → getD after i 0 ≡ r
+  stored-as h = ap (λ l. getD l i 0) (s .after-is) ∙ getD-set-same before i r 0 h
 
   pub stored-other : (j : ℕ) → (j ≡ i → ⊥) → getD after j 0 ≡ getD before j 0
-  stored-other j h = ap (λ l. getD l j 0) (s .after-is) ∙ getD-set-other before i j (s .word) 0 h
+  stored-other j h = ap (λ l. getD l j 0) (s .after-is) ∙ getD-set-other before i j r 0 h
 
   pub stored-rest : (m : ℕ) → i < m → drop m after ≡ drop m before
-  stored-rest m h = ap (drop m) (s .after-is) ∙ drop-set-lt m before i (s .word) h
+  stored-rest m h = ap (drop m) (s .after-is) ∙ drop-set-lt m before i r h
 
 module _ (hs : Head → Sort) (sorts : List Sort) (n : ℕ) where
   module _ (ends codes depths : List ℕ) where
@@ -134,7 +137,7 @@ module _ (hs : Head → Sort) (sorts : List Sort) (ns : List Node) (i : ℕ) (nd
         omega arith
 
     module _ (f : Fits hs sorts (terms (drop (suc i) ns)) (hs (nd .head)) (suc i) (nd .count) r) (shallow : r .deep < 64) (few : length ns ≤ 256) (small : r .sort < 2000) where
-      module _ {ends′ codes′ depths′ : List ℕ} (se : Stored ends ends′ i (r .end)) (sc : Stored codes codes′ i (r .sort)) (sd : Stored depths depths′ i (r .deep + 1))
+      module _ {ends′ codes′ depths′ : List ℕ} {e₁ c₁ d₁ : ℕ} (se : Stored ends ends′ i (r .end) e₁) (sc : Stored codes codes′ i (r .sort) c₁) (sd : Stored depths depths′ i (r .deep + 1) d₁)
           (he : i < length ends) (hc : i < length codes) (hd : i < length depths) where
         behind : Held hs sorts ends codes depths (length ns) (dropᵗ (nd .count) (terms (drop (suc i) ns))) (suc i + nodesAll (takeᵗ (nd .count) (terms (drop (suc i) ns))))
         behind = held-drop hs sorts (length ns) ends codes depths (nd .count) (terms (drop (suc i) ns)) (suc i) (f .enough) (h .held)
@@ -191,17 +194,6 @@ module _ (hs : Head → Sort) (sorts : List Sort) (ns : List Node) (i : ℕ) (nd
           ends-are = λ j l m. ends-from j l m (leb j i) refl;
         }
 
--- a node that is not all there
-pub read-outside : {p froms tos trees arities signatures : List ℕ} {own i : ℕ} {ends codes depths : List ℕ} → length p ≤ i * 4 + 3 → NodeRead p froms tos trees arities signatures own i ends codes depths ends codes depths false
-read-outside {p} {i = i} l = record {
-  long = refl;
-  long-codes = refl;
-  long-depths = refl;
-  rest = λ m h. refl;
-  holds = λ sorts counts numbers w few inside he hc hd h e. absurd (omega arith);
-  fails = λ sorts counts numbers w inside h e c g. omega arith;
-}
-
 module _ {p froms tos trees arities signatures : List ℕ} {own i : ℕ} {ends codes depths : List ℕ} {head k : ℕ} {r : Arguments} (hc : HeadCode p froms tos trees arities signatures own i head)
     (ek : k ≡ field 1 p (i * 4 + 3)) (af : ArgumentsFit froms tos trees ends codes depths (length p / 4) (i + 1) k head r) where
   module _ {sorts : List Sort} {counts numbers : List ℕ} (w : Setting sorts counts numbers p froms tos trees arities signatures own) (inside : i < length p / 4)
@@ -253,7 +245,7 @@ module _ {p froms tos trees arities signatures : List ℕ} {own i : ℕ} {ends c
     fails = λ sorts counts numbers w inside h e. deep-fails w inside h y m;
   }
 
-  pub read-held : {ends′ codes′ depths′ : List ℕ} → r .fit ≡ true → r .deep < 64 → Stored ends ends′ i (r .end) → Stored codes codes′ i (r .sort) → Stored depths depths′ i (r .deep + 1)
+  pub read-held : {ends′ codes′ depths′ : List ℕ} {e₁ c₁ d₁ : ℕ} → r .fit ≡ true → r .deep < 64 → Stored ends ends′ i (r .end) e₁ → Stored codes codes′ i (r .sort) c₁ → Stored depths depths′ i (r .deep + 1) d₁
       → NodeRead p froms tos trees arities signatures own i ends codes depths ends′ codes′ depths′ true
   read-held y m se sc sd = record {
     long = stored-length se;
@@ -267,3 +259,31 @@ module _ {p froms tos trees arities signatures : List ℕ} {own i : ℕ} {ends c
         (code-small (w .coded .table) (f .code)) se sc sd he hc′ hd;
     fails = λ sorts counts numbers w inside h e. absurd (let z : _≡_ {A = ℕ} 0 1 = cc in omega arith);
   }
+
+module _ {p froms tos trees arities signatures : List ℕ} {own i : ℕ} {ends codes depths : List ℕ} where
+  -- a node that does not fit
+  pub taken-misfit : {x : Arguments} → x .fit ≡ false → NodeRead p froms tos trees arities signatures own i ends codes depths ends codes depths false
+      → NodeTaken p froms tos trees arities signatures own i ends codes depths ends codes depths x
+  taken-misfit x-not n = record {
+    read = subst (λ b. NodeRead p froms tos trees arities signatures own i ends codes depths ends codes depths b) (sym x-not) n;
+    held-as = λ e. absurd (let z : _≡_ {A = ℕ} 0 1 = cc in omega arith);
+  }
+
+  -- a node that fits is what the tables hold of it
+  pub taken-held : {ends′ codes′ depths′ : List ℕ} {e c d e₁ c₁ d₁ : ℕ} {x : Arguments} → i < length p / 4 → Room p ends codes depths → Stored ends ends′ i e e₁ → Stored codes codes′ i c c₁ → Stored depths depths′ i d d₁
+      → x ≡ record { fit = true; end = e₁; sort = c₁; deep = d₁ } → NodeRead p froms tos trees arities signatures own i ends codes depths ends′ codes′ depths′ true
+      → NodeTaken p froms tos trees arities signatures own i ends codes depths ends′ codes′ depths′ x
+  taken-held {ends′} {codes′} {depths′} {e} {c} {d} {e₁} {c₁} {d₁} h room se sc sd ex n =
+      let a = room .few in
+      let b = room .ends-long in
+      let f = room .codes-long in
+      let g = room .depths-long in
+      subst (λ y. NodeTaken p froms tos trees arities signatures own i ends codes depths ends′ codes′ depths′ y) (sym ex)
+      (record {
+        read = n;
+        held-as = λ y. record {
+          end-is = λ k. sym (stored-as se (omega arith));
+          sort-is = λ k. sym (stored-as sc (omega arith));
+          deep-is = λ k. sym (stored-as sd (omega arith));
+        };
+      })

@@ -1,6 +1,6 @@
 -- The arguments of a node, one after another: what is left of them leads to what all of them come to.
 use Prim.Native.Nat.{ℕ, zero, suc, _+_, _-_, _<_, _≤_, max}
-use mathlib.Core.Path.{_≡_, refl, sym, ap, _∙_}
+use mathlib.Core.Path.{_≡_, refl, sym, ap, subst, _∙_}
 use mathlib.Core.Bool.{true, false}
 use mathlib.Core.List.{List}
 use mathlib.Core.Option.{some}
@@ -92,6 +92,10 @@ module _ (hs : Head → Sort) where
                 },
               )
 
+-- the depth of the first argument is that of all so far
+pub first-deep : {x d : ℕ} → x ≡ d → x ≡ max 0 d
+first-deep e = omega arith
+
 -- whatever terms the tables hold behind node `at`, what is left leads to what k of them come to
 abbrev pub Leads : List ℕ → List ℕ → List ℕ → List ℕ → List ℕ → List ℕ → ℕ → ℕ → ℕ → ℕ → ℕ → ℕ → ℕ → ℕ → Type 0
 Leads froms tos trees ends codes depths n at k head end left sort deep =
@@ -103,11 +107,14 @@ module _ {froms tos trees ends codes depths : List ℕ} {n at k head : ℕ} wher
   leads-start hs sorts ts s w h c = (ts, s, going-start hs sorts froms tos trees ends codes depths n ts s at k head h c)
 
   module _ {end left sort deep : ℕ} (l : Leads froms tos trees ends codes depths n at k head end left sort deep) where
-    pub leads-end : left ≡ 0 → ArgumentsFit froms tos trees ends codes depths n at k head (record { fit = true; end = end; sort = sort; deep = deep })
-    leads-end z = record {
+    leads-fit : left ≡ 0 → ArgumentsFit froms tos trees ends codes depths n at k head (record { fit = true; end = end; sort = sort; deep = deep })
+    leads-fit z = record {
       fits = λ hs sorts ts s w h c f. let (us, s′, g) = l hs sorts ts s w h c in going-end hs sorts froms tos trees ends codes depths n us s′ left (record { fit = true; end = end; sort = sort; deep = deep }) g z;
       misfit = λ hs sorts ts s w h c f. absurd (let q : _≡_ {A = ℕ} 0 1 = cc in omega arith);
     }
+
+    pub leads-end : left ≡ 0 → {r : Arguments} → r ≡ record { fit = true; end = end; sort = sort; deep = deep } → ArgumentsFit froms tos trees ends codes depths n at k head r
+    leads-end z e = subst (λ r. ArgumentsFit froms tos trees ends codes depths n at k head r) (sym e) (leads-fit z)
 
     module _ (r : Arguments) (no : r .fit ≡ false) (p : 0 < left) where
       pub leads-short : n ≤ end → ArgumentsFit froms tos trees ends codes depths n at k head r

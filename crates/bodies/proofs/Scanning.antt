@@ -1,5 +1,5 @@
 -- The pass over a body's nodes, the last one first.
-use Prim.Native.Nat.{ℕ, suc, _-_, _/_, _<_, _≤_}
+use Prim.Native.Nat.{ℕ, suc, _+_, _-_, _/_, _<_, _≤_}
 use mathlib.Core.Path.{_≡_, refl, sym, subst, _∙_}
 use mathlib.Core.Bool.{Bool, true, false}
 use mathlib.Core.List.{List, []}
@@ -10,7 +10,8 @@ use Rattle.scheme.specs.Sorts.{Sort}
 use Rattle.scheme.specs.Terms.{Head}
 use Rattle.scheme.specs.Prefix.{Node, terms, complete}
 use Rattle.casefile.specs.Tables.{nodesOf}
-use Rattle.bodies.specs.Bodies.{Held, Held-from, headsBy, Setting, NodeRead, Scanned}
+use Rattle.bodies.specs.Bodies.{Held, Held-from, HeldAs, headsBy, Setting, Room, NodeRead, Scanned}
+use Rattle.bodies.specs.declared.Arguments.{Arguments}
 use Rattle.casefile.proofs.Cells.{nodes-length}
 
 -- behind the last node there is nothing to hold
@@ -24,6 +25,14 @@ held-none hs sorts ns ends codes depths i e =
       held = subst (λ l. Held hs sorts ends codes depths (length ns) (terms l) i) (sym d) e;
       ends-are = λ j l m. absurd (omega arith);
     }
+
+-- behind the last node the tables hold no node
+pub held-past : {ends codes depths : List ℕ} {n i : ℕ} {r : Arguments} → n ≤ i → HeldAs ends codes depths n i r
+held-past h = record { end-is = λ k. absurd (omega arith); sort-is = λ k. absurd (omega arith); deep-is = λ k. absurd (omega arith) }
+
+-- the same node by another number
+pub held-again : {ends codes depths : List ℕ} {n i : ℕ} {r : Arguments} → 0 < i → HeldAs ends codes depths n i r → HeldAs ends codes depths n (i - 1 + 1) r
+held-again {ends} {codes} {depths} {n} {i} {r} h x = let e : i ≡ i - 1 + 1 = omega arith in subst (λ j. HeldAs ends codes depths n j r) e x
 
 -- the tables hold the nodes from i on
 pub record Scanning (p froms tos trees arities signatures : List ℕ) (own : ℕ) (before ends codes depths : List ℕ) (i : ℕ) : Type 0 where
@@ -50,6 +59,12 @@ module _ {p froms tos trees arities signatures : List ℕ} {own : ℕ} where
   }
 
   module _ {before ends codes depths : List ℕ} {i : ℕ} (s : Scanning p froms tos trees arities signatures own before ends codes depths i) where
+    pub scan-room : {codes₀ depths₀ : List ℕ} → Room p before codes₀ depths₀ → Room p ends codes depths
+    scan-room room =
+        let a = s .long in
+        let b = room .ends-long in
+        record { few = room .few; ends-long = omega arith; codes-long = s .long-codes; depths-long = s .long-depths }
+
     pub scan-next : {ends′ codes′ depths′ : List ℕ} {r : Bool} → 0 < i → NodeRead p froms tos trees arities signatures own (i - 1) ends codes depths ends′ codes′ depths′ r → r ≡ true
         → Scanning p froms tos trees arities signatures own before ends′ codes′ depths′ (i - 1)
     scan-next h n y =

@@ -41,6 +41,12 @@ pub record ArgumentsFit (froms tos trees ends codes depths : List ℕ) (n at k h
   pub misfit : (hs : Head → Sort) (sorts : List Sort) (ts : Terms) (s : Sort) → Coded sorts froms tos trees → Held hs sorts ends codes depths n ts at
       → Code sorts head s → r .fit ≡ false → k ≤ countᵗ ts → (x : Sort) → sortAfter hs (takeᵗ k ts) s ≡ some x → ⊥
 
+-- r is what the tables of n nodes hold of a node
+pub record HeldAs (ends codes depths : List ℕ) (n at : ℕ) (r : Arguments) : Type 0 where
+  pub end-is : at < n → r .end ≡ getD ends at 0
+  pub sort-is : at < n → r .sort ≡ getD codes at 0
+  pub deep-is : at < n → r .deep ≡ getD depths at 0
+
 -- the sorts of heads: constructors by their argument counts, nonterminals by the numbers of their sorts, parameters by the number of their nonterminal's sort
 abbrev pub headsBy : List Sort → List ℕ → List ℕ → ℕ → Head → Sort
 headsBy sorts counts numbers own = headSort counts (map (λ (f : ℕ). getD sorts f o) numbers) (arguments (getD sorts own o))
@@ -60,6 +66,11 @@ abbrev pub HeadCode : List ℕ → List ℕ → List ℕ → List ℕ → List �
 HeadCode p froms tos trees arities signatures own i r =
     (sorts : List Sort) (counts numbers : List ℕ) → Setting sorts counts numbers p froms tos trees arities signatures own → i < length p / 4
     → Code sorts r (headsBy sorts counts numbers own (headOf (cellAt p i)))
+
+-- r is the code of the sort of the head of each node with a tag and a number
+abbrev pub HeadOf : List ℕ → List ℕ → List ℕ → List ℕ → List ℕ → ℕ → ℕ → ℕ → ℕ → Type 0
+HeadOf froms tos trees arities signatures own tag number r =
+    (p : List ℕ) (i : ℕ) → tag ≡ field 1 p (i * 4) → number ≡ field 2 p (i * 4 + 1) → HeadCode p froms tos trees arities signatures own i r
 
 -- every term has a sort, and nests 64 deep at most
 unfoldable pub Goods : (Head → Sort) → Terms → Type 0
@@ -84,6 +95,18 @@ pub record NodeRead (p froms tos trees arities signatures : List ℕ) (own i : �
   pub fails : (sorts : List Sort) (counts numbers : List ℕ) → Setting sorts counts numbers p froms tos trees arities signatures own → i < length p / 4
       → Held-from (headsBy sorts counts numbers own) sorts (nodesOf p) ends codes depths (suc i)
       → r ≡ false → T (complete (nodesOf p)) → Goods (headsBy sorts counts numbers own) (terms (nodesOf p)) → ⊥
+
+-- the tables have room for the nodes of a body
+pub record Room (p ends codes depths : List ℕ) : Type 0 where
+  pub few : length p / 4 ≤ 256
+  pub ends-long : length p / 4 ≤ length ends
+  pub codes-long : length codes ≡ 256
+  pub depths-long : length depths ≡ 256
+
+-- node i was read, and where it fits, r is what the tables hold of it
+pub record NodeTaken (p froms tos trees arities signatures : List ℕ) (own i : ℕ) (ends codes depths ends′ codes′ depths′ : List ℕ) (r : Arguments) : Type 0 where
+  pub read : NodeRead p froms tos trees arities signatures own i ends codes depths ends′ codes′ depths′ (r .fit)
+  pub held-as : r .fit ≡ true → HeldAs ends′ codes′ depths′ (length p / 4) i r
 
 -- r says whether the nodes of a body are complete, and sorted terms of 64 levels at most; then the tables hold them
 pub record Scanned (p froms tos trees arities signatures : List ℕ) (own : ℕ) (before ends codes depths : List ℕ) (r : Bool) : Type 0 where

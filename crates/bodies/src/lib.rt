@@ -1,19 +1,21 @@
 // The bodies of rules: whether one is a single term of sort o within 64 levels, and where each of its subterms ends.
 use entries::narrow;
 use entries::place_at;
-use records::byte_at;
-use records::word_at;
 use sort_steps::apply;
 use sort_steps::parameter;
+use sort_steps::parameter_sorts;
 ghost use mathlib.Core.Path.{_≡_};
-ghost use mathlib.Core.Bool.{_&&_, false};
-ghost use Prim.Native.Nat.{_<_, _≤_, _/_, max};
+ghost use mathlib.Core.Bool.{_&&_, true, false};
+ghost use Prim.Native.Nat.{_+_, _<_, _≤_, _/_, max};
 ghost use lib.Dec.{eqb};
 ghost use lib.ListN.{length, getD};
+ghost use Rattle.records.specs.Fields.{IsField};
+ghost use Rattle.sort_codes.specs.Sorted.{ParameterSorts};
 ghost use Rattle.bodies.specs.Tables.{Stored};
-ghost use Rattle.bodies.specs.Bodies.{ArgumentsFit, HeadCode, NodeRead, Scanned, BodyDecided};
+ghost use Rattle.bodies.specs.Bodies.{ArgumentsFit, HeldAs, HeadOf, Room, NodeTaken, Scanned, BodyDecided};
 
 // What the arguments of a node come to: whether they fit, the node behind them, the code of the sort that is left, their depth.
+// It stands for a node that is read too: the node behind its subterm, the code of its sort, its depth.
 pub struct Arguments {
     pub fit: bool,
     pub end: usize,
@@ -21,14 +23,14 @@ pub struct Arguments {
     pub deep: usize,
 }
 
-// Stores a number at a place of a table that has the place.
-fn put(a: &mut [u16], i: usize, v: usize)
-    ensures { λ _. ⌜ Stored (now (a .entry)) (now (a .exit)) i v ⌝ }
+// Stores a number at a place of a table that has the place, and gives it as it is stored.
+fn put(a: &mut [u16], i: usize, v: usize) -> usize
+    requires { ⌜ i < length (now a) ⌝ }
+    ensures { λ r. ⌜ Stored (now (a .entry)) (now (a .exit)) i v r ⌝ }
 {
     let w = narrow(v);
-    if i < a.len() {
-        a[i] = w;
-    }
+    a[i] = w;
+    w as usize
 }
 
 // The larger of two numbers.
@@ -50,7 +52,20 @@ fn misfit() -> Arguments
     }
 }
 
-// What k arguments from node `at` on come to, of a head whose sort has the code `head`; the tables hold n nodes.
+// Arguments that fit.
+fn fitting(end: usize, sort: usize, deep: usize) -> Arguments
+    ensures { λ r. ⌜ r ≡ record { fit = true; end = end; sort = sort; deep = deep } ⌝ }
+{
+    Arguments {
+        fit: true,
+        end,
+        sort,
+        deep,
+    }
+}
+
+// What k arguments from node `at` on come to, of a head whose sort has the code `head`; the tables hold n nodes, and `next`
+// is what they hold of node `at`.
 fn arguments_fit(
     froms: &[u16],
     tos: &[u16],
@@ -62,13 +77,24 @@ fn arguments_fit(
     at: usize,
     k: usize,
     head: usize,
+    next: Arguments,
 ) -> Arguments
+    requires { ⌜ HeldAs (now ends) (now codes) (now depths) n at next ⌝ }
     ensures { λ r. ⌜ ArgumentsFit (now (froms .entry)) (now (tos .entry)) (now (trees .entry)) (now (ends .entry)) (now (codes .entry)) (now (depths .entry)) n at k head r ⌝ }
 {
-    let mut end = at;
-    let mut left = k;
-    let mut sort = head;
-    let mut deep: usize = 0;
+    if k == 0 {
+        return fitting(at, head, 0);
+    }
+    if n <= at {
+        return misfit();
+    }
+    let mut sort = apply(froms, tos, trees, head, next.sort);
+    if sort == 2000 {
+        return misfit();
+    }
+    let mut end = next.end;
+    let mut left = k - 1;
+    let mut deep = next.deep;
     while 0 < left {
         if n <= end {
             return misfit();
@@ -81,40 +107,56 @@ fn arguments_fit(
         end = place_at(ends, end);
         left -= 1;
     }
-    Arguments {
-        fit: true,
-        end,
-        sort,
-        deep,
-    }
+    fitting(end, sort, deep)
 }
 
-// The code of the sort of the head of node i of a body.
+// The one-byte field at a place of a body that has it.
+fn byte_in(p: &[u8], at: usize) -> usize
+    requires { ⌜ at < length (now p) ⌝ }
+    ensures { λ r. ⌜ IsField 1 (now (p .entry)) at r ⌝ }
+{
+    p[at] as usize
+}
+
+// The two-byte field at a place of a body that has it.
+fn word_in(p: &[u8], at: usize) -> usize
+    requires { ⌜ at + 1 < length (now p) ⌝ }
+    ensures { λ r. ⌜ IsField 2 (now (p .entry)) at r ⌝ }
+{
+    let low = byte_in(p, at);
+    let high = byte_in(p, at + 1);
+    low + 256 * high
+}
+
+// The code of the sort of a head with a tag and a number; `params` has the sorts of the first 8 parameters.
 fn head_code(
-    p: &[u8],
     froms: &[u16],
     tos: &[u16],
     trees: &[u16],
     arities: &[u16],
     signatures: &[u16],
     own: usize,
-    i: usize,
+    params: &[u16],
+    tag: usize,
+    number: usize,
 ) -> usize
-    requires { ⌜ i < 256 ⌝ }
-    ensures { λ r. ⌜ HeadCode (now (p .entry)) (now (froms .entry)) (now (tos .entry)) (now (trees .entry)) (now (arities .entry)) (now (signatures .entry)) own i r ⌝ }
+    requires { ⌜ ParameterSorts (now froms) (now tos) own (now params) ⌝ }
+    ensures { λ r. ⌜ HeadOf (now (froms .entry)) (now (tos .entry)) (now (trees .entry)) (now (arities .entry)) (now (signatures .entry)) own tag number r ⌝ }
 {
-    let tag = byte_at(p, i * 4);
-    let number = word_at(p, i * 4 + 1);
     if tag == 0 {
         return place_at(trees, place_at(arities, number));
     }
     if tag == 1 {
         return place_at(signatures, number);
     }
+    if number < 8 {
+        return place_at(params, number);
+    }
     parameter(froms, tos, own, number)
 }
 
-// Reads node i of a body, where the tables hold the nodes behind it, and fills the tables; false where it lacks an argument or one does not fit, or it nests over 64 deep.
+// Reads node i of a body, where the tables hold the nodes behind it, `next` the first of them, and fills the tables; it does
+// not fit where it lacks an argument or one does not fit, or it nests over 64 deep.
 fn read_node(
     p: &[u8],
     froms: &[u16],
@@ -123,32 +165,55 @@ fn read_node(
     arities: &[u16],
     signatures: &[u16],
     own: usize,
+    params: &[u16],
     ends: &mut [u16],
     codes: &mut [u16],
     depths: &mut [u16],
     i: usize,
-) -> bool
-    requires { ⌜ i < 256 ⌝ }
-    ensures { λ r. ⌜ NodeRead (now (p .entry)) (now (froms .entry)) (now (tos .entry)) (now (trees .entry)) (now (arities .entry)) (now (signatures .entry)) own i (now (ends .entry)) (now (codes .entry)) (now (depths .entry)) (now (ends .exit)) (now (codes .exit)) (now (depths .exit)) r ⌝ }
+    next: Arguments,
+) -> Arguments
+    requires { ⌜ (i < length (now p) / 4) × Room (now p) (now ends) (now codes) (now depths) × ParameterSorts (now froms) (now tos) own (now params) × HeldAs (now ends) (now codes) (now depths) (length (now p) / 4) (i + 1) next ⌝ }
+    ensures { λ r. ⌜ NodeTaken (now (p .entry)) (now (froms .entry)) (now (tos .entry)) (now (trees .entry)) (now (arities .entry)) (now (signatures .entry)) own i (now (ends .entry)) (now (codes .entry)) (now (depths .entry)) (now (ends .exit)) (now (codes .exit)) (now (depths .exit)) r ⌝ }
 {
-    // Asked once, so that it is not asked again at each byte of the node.
-    if p.len() <= i * 4 + 3 {
-        return false;
-    }
     let n = p.len() / 4;
-    let head = head_code(p, froms, tos, trees, arities, signatures, own, i);
-    let k = byte_at(p, i * 4 + 3);
-    let a = arguments_fit(froms, tos, trees, ends, codes, depths, n, i + 1, k, head);
+    let at = i * 4;
+    let tag = byte_in(p, at);
+    let number = word_in(p, at + 1);
+    let k = byte_in(p, at + 3);
+    let head = head_code(
+        froms,
+        tos,
+        trees,
+        arities,
+        signatures,
+        own,
+        params,
+        tag,
+        number,
+    );
+    let a = arguments_fit(
+        froms,
+        tos,
+        trees,
+        ends,
+        codes,
+        depths,
+        n,
+        i + 1,
+        k,
+        head,
+        next,
+    );
     if !a.fit {
-        return false;
+        return misfit();
     }
     if 64 <= a.deep {
-        return false;
+        return misfit();
     }
-    put(ends, i, a.end);
-    put(codes, i, a.sort);
-    put(depths, i, a.deep + 1);
-    true
+    let end = put(ends, i, a.end);
+    let sort = put(codes, i, a.sort);
+    let deep = put(depths, i, a.deep + 1);
+    fitting(end, sort, deep)
 }
 
 // Reads the nodes of a body, the last one first, and fills the tables; false where one of them does not fit.
@@ -160,17 +225,19 @@ fn scan(
     arities: &[u16],
     signatures: &[u16],
     own: usize,
+    params: &[u16],
     ends: &mut [u16],
     codes: &mut [u16],
     depths: &mut [u16],
 ) -> bool
-    requires { ⌜ (length (now p) / 4 ≤ 256) × (length (now codes) ≡ 256) × (length (now depths) ≡ 256) ⌝ }
+    requires { ⌜ Room (now p) (now ends) (now codes) (now depths) × ParameterSorts (now froms) (now tos) own (now params) ⌝ }
     ensures { λ r. ⌜ Scanned (now (p .entry)) (now (froms .entry)) (now (tos .entry)) (now (trees .entry)) (now (arities .entry)) (now (signatures .entry)) own (now (ends .entry)) (now (ends .exit)) (now (codes .exit)) (now (depths .exit)) r ⌝ }
 {
     let mut i = p.len() / 4;
+    let mut next = misfit();
     while 0 < i {
         i -= 1;
-        if !read_node(
+        next = read_node(
             p,
             froms,
             tos,
@@ -178,11 +245,14 @@ fn scan(
             arities,
             signatures,
             own,
+            params,
             ends,
             codes,
             depths,
             i,
-        ) {
+            next,
+        );
+        if !next.fit {
             return false;
         }
     }
@@ -220,10 +290,10 @@ pub fn body_fits(
     if n == 0 {
         return false;
     }
-    // Asked once, and not at each node.
     if ends.len() < n {
         return false;
     }
+    let params = parameter_sorts(froms, tos, own);
     let mut codes = [0u16; 256];
     let mut depths = [0u16; 256];
     if !scan(
@@ -234,6 +304,7 @@ pub fn body_fits(
         arities,
         signatures,
         own,
+        &params,
         ends,
         &mut codes,
         &mut depths,

@@ -1,9 +1,10 @@
 -- The table of fits, row by row.
-use Prim.Native.Nat.{ℕ, _+_, _<_, _≤_}
+use Prim.Native.Nat.{ℕ, _+_, _-_, _<_, _≤_}
 use mathlib.Core.Path.{_≡_}
 use mathlib.Core.List.{List, []}
 use lib.ListN.{getD}
 use Rattle.scheme.specs.Flags.{bit}
+use Rattle.records.specs.Fields.{word}
 use Rattle.records.specs.Records.{Record}
 use Rattle.records.proofs.Fields.{Bytes}
 use Rattle.casefile.specs.Kinds.{sort, type, payloads}
@@ -20,6 +21,13 @@ pub record Listed (file index : List ℕ) (types sorts : ℕ) (rs : List Record)
   pub sorts-there : Indexed file index sort sorts rs
   pub few-types : types ≤ 1024
   pub few-sorts : sorts ≤ 64
+
+-- the payload of type t is the len bytes at place, as the index and the file say
+pub record TypeThere (file index : List ℕ) (t place len : ℕ) : Type 0 where
+  pub place-is : place ≡ getD index (1120 + t) 0
+  pub place-fits : place < 65536
+  pub len-is : len ≡ word file (place - 4)
+  pub len-fits : len < 65536
 
 module _ (file index : List ℕ) where
   -- the answer for type t and sort s, by a table that has the types before t

@@ -5,7 +5,7 @@ use records::word_at;
 ghost use mathlib.Core.Path.{_≡_};
 ghost use lib.Dec.{eqb};
 ghost use Rattle.scheme.specs.Flags.{bit};
-ghost use Rattle.fits.specs.Filled.{TypeFits, FillsRow, Fills};
+ghost use Rattle.fits.specs.Filled.{TypeThere, TypeFits, FillsRow, Fills};
 
 // 1 where a state fits sort s, else 0.
 fn state_fits(s: usize) -> u8
@@ -14,21 +14,19 @@ fn state_fits(s: usize) -> u8
     if s == 0 { 1 } else { 0 }
 }
 
-// 1 where type t fits sort s, else 0; the table has the rows of the types before t.
-fn type_fits(file: &[u8], index: &[u16], fit: &[u8], t: usize, s: usize) -> u8
+// 1 where type t, whose payload is the len bytes at place, fits sort s, else 0; the table has the rows of the types before t.
+fn type_fits(
+    file: &[u8],
+    index: &[u16],
+    fit: &[u8],
+    t: usize,
+    place: usize,
+    len: usize,
+    s: usize,
+) -> u8
+    requires { ⌜ TypeThere (now file) (now index) t place len ⌝ }
     ensures { λ r. ⌜ TypeFits (now (file .entry)) (now (index .entry)) (now (fit .entry)) t s r ⌝ }
 {
-    if 1024 <= t {
-        return 0;
-    }
-    if 64 < s {
-        return 0;
-    }
-    let place = place_at(index, 1120 + t);
-    if place < 4 {
-        return 0;
-    }
-    let len = word_at(file, place - 4);
     if len == 1 {
         return state_fits(s);
     }
@@ -51,9 +49,14 @@ fn fill_row(file: &[u8], index: &[u16], sorts: usize, t: usize, fit: &mut [u8; 6
     if 64 < sorts {
         return;
     }
+    let place = place_at(index, 1120 + t);
+    if place < 4 {
+        return;
+    }
+    let len = word_at(file, place - 4);
     let mut s: usize = 0;
     while s <= sorts {
-        let fits = type_fits(file, index, fit, t, s);
+        let fits = type_fits(file, index, fit, t, place, len, s);
         fit[t * 65 + s] = fits;
         s = s + 1;
     }

@@ -18,7 +18,7 @@ use Rattle.casefile.proofs.Passed.{Passed, entry}
 use Rattle.casefile.proofs.TypeTable.{count-payloads}
 use Rattle.entries.specs.Index.{Indexed}
 use Rattle.entries.proofs.Earlier.{inOrder, follows-last}
-use Rattle.groups.specs.Groups.{nonterminalIn, nonterminalOf, Sought, Grouped, Fills, Sofar}
+use Rattle.groups.specs.Groups.{nonterminalIn, nonterminalOf, Sought, Rest, Grouped, Fills, Sofar}
 
 -- while a group is sought: the numbers before i were passed
 pub record Seeking (g : ℕ → ℕ) (n from f i : ℕ) : Type 0 where
@@ -77,6 +77,62 @@ module _ (g : ℕ → ℕ) (n : ℕ) where
           lower = λ e i k. each (λ e x. (i : ℕ) → i < x → g i < e) (λ e k i. so .lower e i k) before-here e k i;
           reached = each (λ e x. x < n → e ≤ g x) (so .reached) (s .reached);
         }
+
+    -- where no binding is left, the entries from f on get n
+    pub group-rest : n ≤ r → (after : List ℕ) → Rest groups after f n → Sofar g n n (length after) after
+    group-rest l after x =
+        record {
+          few = so .few;
+          upTo = omega arith;
+          there = omega arith;
+          earlier = λ i k. let z = before-here i (omega arith) in let y = x .long in omega arith;
+          entries = λ e k. go-entries e k (decLt e f);
+          lower = λ e i k. go-lower e k (decLt e f) i;
+          reached = λ e k. go-reached e k (decLt e f);
+        }
+      where
+        new : (e : ℕ) → e < length after → (e < f → ⊥) → getD after e 0 ≡ n
+        new e k z = x .filled e (omega arith) (let y = x .long in omega arith)
+
+        go-entries : (e : ℕ) → e < length after → Dec (e < f) → getD after e 0 ≤ n
+        go-entries e k (yes z) = let y = x .kept e z in let w = so .entries e z in omega arith
+        go-entries e k (no z) = let y = new e k z in omega arith
+
+        go-lower : (e : ℕ) → e < length after → Dec (e < f) → (i : ℕ) → i < getD after e 0 → g i < e
+        go-lower e k (yes z) i m = let y = x .kept e z in so .lower e i z (omega arith)
+        go-lower e k (no z) i m = let y = new e k z in let w = before-here i (omega arith) in omega arith
+
+        go-reached : (e : ℕ) → e < length after → Dec (e < f) → getD after e 0 < n → e ≤ g (getD after e 0)
+        go-reached e k (yes z) m = let y = x .kept e z in subst (λ v. e ≤ g v) (sym y) (so .reached e z (omega arith))
+        go-reached e k (no z) m = let y = new e k z in absurd (omega arith)
+
+-- while the entries from one on are set: those from `from` up to i are set, the others are as before
+pub record Setting (before after : List ℕ) (from v i : ℕ) : Type 0 where
+  pub long : length after ≡ length before
+  pub behind : from ≤ i
+  pub kept : (e : ℕ) → e < from → getD after e 0 ≡ getD before e 0
+  pub filled : (e : ℕ) → from ≤ e → e < i → getD after e 0 ≡ v
+
+module _ (before : List ℕ) (from v : ℕ) where
+  pub set-none : Setting before before from v from
+  set-none = record { long = refl; behind = omega arith; kept = λ e k. refl; filled = λ e k l. absurd (omega arith) }
+
+  module _ (after : List ℕ) (i : ℕ) (s : Setting before after from v i) where
+    pub set-more : i < length after → Setting before (set after i v) from v (i + 1)
+    set-more h =
+        record {
+          long = length-set after i v ∙ s .long;
+          behind = omega (arith, s .behind);
+          kept = λ e k. getD-set-other after i e v 0 (λ z. omega (arith, s .behind)) ∙ s .kept e k;
+          filled = λ e k l. go e k l (ℕ-discrete e i);
+        }
+      where
+        go : (e : ℕ) → from ≤ e → e < i + 1 → Dec (e ≡ i) → getD (set after i v) e 0 ≡ v
+        go e k l (yes z) = subst (λ x. getD (set after i v) x 0 ≡ v) (sym z) (getD-set-same after i v 0 h)
+        go e k l (no z) = getD-set-other after i e v 0 z ∙ s .filled e k (omega arith)
+
+    pub set-all : length after ≤ i → Rest before after from v
+    set-all h = record { long = s .long; kept = s .kept; filled = λ e k l. s .filled e k (let y = s .long in omega arith) }
 
 before-le : (a b c d : ℕ) → before a b c d ≡ true → a ≤ c
 unfolding before

@@ -27,6 +27,12 @@ pub record Sought (g : ℕ → ℕ) (n from f r : ℕ) : Type 0 where
 abbrev pub Seeks : List ℕ → List ℕ → ℕ → ℕ → ℕ → ℕ → Type 0
 Seeks file index n from f r = n ≤ 1024 → from ≤ n → Sought (nonterminalIn file index) n from f r
 
+-- a table after the entries from one on were set to v
+pub record Rest (before after : List ℕ) (from v : ℕ) : Type 0 where
+  pub long : length after ≡ length before
+  pub kept : (e : ℕ) → e < from → getD after e 0 ≡ getD before e 0
+  pub filled : (e : ℕ) → from ≤ e → e < length before → getD after e 0 ≡ v
+
 -- the groups: the bindings below entry f have earlier nonterminals than f, those from it on have f or a later one
 pub record Grouped (rs : List Record) (n : ℕ) (groups : List ℕ) : Type 0 where
   pub within : (f : ℕ) → f < length groups → getD groups f 0 ≤ n

@@ -54,3 +54,7 @@ abbrev pub ParameterSort : List ℕ → List ℕ → ℕ → ℕ → ℕ → Typ
 ParameterSort froms tos own j r =
     (sorts : List Sort) → SortArrays sorts (length sorts) froms tos → own < length sorts → j < length (arguments (getD sorts own o))
     → (r < length sorts) × (getD sorts r o ≡ getD (arguments (getD sorts own o)) j o)
+
+-- r has the numbers of the sorts of the first 8 parameters
+abbrev pub ParameterSorts : List ℕ → List ℕ → ℕ → List ℕ → Type 0
+ParameterSorts froms tos own r = (j : ℕ) → j < 8 → ParameterSort froms tos own j (getD r j 0)

@@ -1,6 +1,6 @@
-// Sorts by code, one step on: the sort of a parameter, and a sort with an argument off.
+// Sorts by code: the sorts of parameters, and a sort with an argument off.
 use entries::place_at;
-ghost use Rattle.sort_codes.specs.Sorted.{Applied, ParameterSort};
+ghost use Rattle.sort_codes.specs.Sorted.{Applied, ParameterSort, ParameterSorts};
 
 // The number of the sort of parameter j of a nonterminal whose sort has the number `own`.
 pub fn parameter(froms: &[u16], tos: &[u16], own: usize, j: usize) -> usize
@@ -13,6 +13,21 @@ pub fn parameter(froms: &[u16], tos: &[u16], own: usize, j: usize) -> usize
         steps -= 1;
     }
     place_at(froms, s)
+}
+
+// The numbers of the sorts of the first 8 parameters of a nonterminal whose sort has the number `own`.
+pub fn parameter_sorts(froms: &[u16], tos: &[u16], own: usize) -> [u16; 8]
+    ensures { λ r. ⌜ ParameterSorts (now (froms .entry)) (now (tos .entry)) own r ⌝ }
+{
+    let mut sorts = [0u16; 8];
+    let mut s = own;
+    let mut j: usize = 0;
+    while j < 8 {
+        sorts[j] = place_at(froms, s) as u16;
+        s = place_at(tos, s);
+        j += 1;
+    }
+    sorts
 }
 
 // The code of a head's sort with one argument off; 2000 where the argument does not fit.

@@ -1,27 +1,27 @@
 -- `arguments_fit` meets its contract: what is left of the arguments leads to what all of them come to.
 use native.Mathlib.Omega.{arith}
-use Rattle.bodies.proofs.Loop.{Leads, leads-start, leads-end, leads-short, leads-misfit, leads-next}
+use Rattle.bodies.proofs.Loop.{Leads, leads-start, leads-end, leads-short, leads-misfit, leads-next, first-deep}
 use borrow.Author.Needs.{needs}
 use Rattle.bodies.proofs.arguments_fit.Statement.{statement}
 use Rattle.bodies.proofs.arguments_fit.Tie as tie
 
 abbrev Inv-loop : tie.InvT-loop
-Inv-loop froms tos trees ends codes depths n at k head end₀ left₀ sort₀ deep₀ end left sort deep = Leads froms tos trees ends codes depths n at k head end left sort deep
+Inv-loop froms tos trees ends codes depths n at k head sort₀ end₀ left₀ deep₀ sort end left deep = Leads froms tos trees ends codes depths n at k head end left sort deep
 
 abbrev μ-loop : tie.MeasureT-loop
-μ-loop froms tos trees ends codes depths n at k head end₀ left₀ sort₀ deep₀ end left sort deep = left
+μ-loop froms tos trees ends codes depths n at k head sort₀ end₀ left₀ deep₀ sort end left deep = left
 
-loop-holds : tie.Need-loop-holds Inv-loop μ-loop
-loop-holds c = leads-start
+fitting-requires : tie.Need-fitting-requires Inv-loop μ-loop
+fitting-requires c κs = search needs
+
+returns : tie.Need-returns Inv-loop μ-loop
+returns c = leads-end leads-start (c .before .if1 .taken) (c .fitting .ensures)
 
 misfit-requires : tie.Need-misfit-requires Inv-loop μ-loop
 misfit-requires c κs = search needs
 
-returns : tie.Need-returns Inv-loop μ-loop
-returns c = leads-short (c .before .before .before .loop .inv) _ (c .misfit .ensures) (c .before .before .loop-test .taken) (c .before .if1 .taken)
-
-place-at-requires : tie.Need-place-at-requires Inv-loop μ-loop
-place-at-requires c κs = search needs
+returns-2 : tie.Need-returns-2 Inv-loop μ-loop
+returns-2 c = leads-short leads-start _ (c .misfit .ensures) (omega (arith, c .before .before .if1 .left)) (c .before .if2 .taken)
 
 apply-requires : tie.Need-apply-requires Inv-loop μ-loop
 apply-requires c κs = search needs
@@ -29,8 +29,32 @@ apply-requires c κs = search needs
 misfit-requires-2 : tie.Need-misfit-requires-2 Inv-loop μ-loop
 misfit-requires-2 c κs = search needs
 
-returns-2 : tie.Need-returns-2 Inv-loop μ-loop
-returns-2 c = leads-misfit (c .before .before .before .before .before .before .loop .inv) _ (c .misfit2 .ensures) (c .before .before .before .before .before .loop-test .taken) _ _ (c .before .before .apply .ensures) (c .before .before .before .place-at .ensures .value) (c .before .if2 .taken)
+returns-3 : tie.Need-returns-3 Inv-loop μ-loop
+returns-3 c = leads-misfit leads-start _ (c .misfit2 .ensures) (omega (arith, c .before .before .before .before .if1 .left)) _ _ (c .before .before .apply .ensures) (c .before .before .before .before .before .before .before .before .before .before .before .pre .sort-is (c .before .before .before .if2 .left)) (c .before .if3 .taken)
+
+sub-left : tie.Need-sub-left Inv-loop μ-loop
+sub-left c = search needs
+
+loop-holds : tie.Need-loop-holds Inv-loop μ-loop
+loop-holds c = leads-next leads-start _ _ _ _ (omega (arith, c .before .before .before .if1 .left)) (c .before .before .if2 .left) (c .before .apply .ensures) (c .before .before .before .before .before .before .before .before .before .before .pre .sort-is (c .before .before .if2 .left)) (c .if3 .left) (c .before .before .before .before .before .before .before .before .before .before .pre .end-is (c .before .before .if2 .left)) (first-deep (c .before .before .before .before .before .before .before .before .before .before .pre .deep-is (c .before .before .if2 .left)))
+
+misfit-requires-3 : tie.Need-misfit-requires-3 Inv-loop μ-loop
+misfit-requires-3 c κs = search needs
+
+returns-4 : tie.Need-returns-4 Inv-loop μ-loop
+returns-4 c = leads-short (c .before .before .before .loop .inv) _ (c .misfit3 .ensures) (c .before .before .loop-test .taken) (c .before .if4 .taken)
+
+place-at-requires : tie.Need-place-at-requires Inv-loop μ-loop
+place-at-requires c κs = search needs
+
+apply-requires-2 : tie.Need-apply-requires-2 Inv-loop μ-loop
+apply-requires-2 c κs = search needs
+
+misfit-requires-4 : tie.Need-misfit-requires-4 Inv-loop μ-loop
+misfit-requires-4 c κs = search needs
+
+returns-5 : tie.Need-returns-5 Inv-loop μ-loop
+returns-5 c = leads-misfit (c .before .before .before .before .before .before .loop .inv) _ (c .misfit4 .ensures) (c .before .before .before .before .before .loop-test .taken) _ _ (c .before .before .apply2 .ensures) (c .before .before .before .place-at .ensures .value) (c .before .if5 .taken)
 
 place-at-requires-2 : tie.Need-place-at-requires-2 Inv-loop μ-loop
 place-at-requires-2 c κs = search needs
@@ -41,17 +65,20 @@ larger-requires c κs = search needs
 place-at-requires-3 : tie.Need-place-at-requires-3 Inv-loop μ-loop
 place-at-requires-3 c κs = search needs
 
-sub-left : tie.Need-sub-left Inv-loop μ-loop
-sub-left c = search needs
+sub-left-2 : tie.Need-sub-left-2 Inv-loop μ-loop
+sub-left-2 c = search needs
 
 loop-less : tie.Need-loop-less Inv-loop μ-loop
 loop-less c = search needs
 
 loop-again : tie.Need-loop-again Inv-loop μ-loop
-loop-again c = leads-next (c .before .before .before .before .before .before .before .before .loop .inv) _ _ _ _ (c .before .before .before .before .before .before .before .loop-test .taken) (c .before .before .before .before .before .before .if1 .left) (c .before .before .before .before .apply .ensures) (c .before .before .before .before .before .place-at .ensures .value) (c .before .before .before .if2 .left) (c .place-at3 .ensures .value) (let e = c .before .before .place-at2 .ensures .value in rw (← e) (c .before .larger .ensures))
+loop-again c = leads-next (c .before .before .before .before .before .before .before .before .loop .inv) _ _ _ _ (c .before .before .before .before .before .before .before .loop-test .taken) (c .before .before .before .before .before .before .if4 .left) (c .before .before .before .before .apply2 .ensures) (c .before .before .before .before .before .place-at .ensures .value) (c .before .before .before .if5 .left) (c .place-at3 .ensures .value) (let e = c .before .before .place-at2 .ensures .value in rw (← e) (c .before .larger .ensures))
 
-returns-3 : tie.Need-returns-3 Inv-loop μ-loop
-returns-3 c = leads-end (c .before .loop .inv) (omega arith)
+fitting-requires-2 : tie.Need-fitting-requires-2 Inv-loop μ-loop
+fitting-requires-2 c κs = search needs
+
+returns-6 : tie.Need-returns-6 Inv-loop μ-loop
+returns-6 c = leads-end (c .before .before .loop .inv) (omega arith) (c .fitting2 .ensures)
 
 pub arguments-fit-spec : {M : Type 1} → statement M
 arguments-fit-spec =
@@ -59,17 +86,26 @@ arguments-fit-spec =
     (tie.spec
     Inv-loop
     μ-loop
-    loop-holds
-    misfit-requires
+    fitting-requires
     returns
-    place-at-requires
+    misfit-requires
+    returns-2
     apply-requires
     misfit-requires-2
-    returns-2
+    returns-3
+    sub-left
+    loop-holds
+    misfit-requires-3
+    returns-4
+    place-at-requires
+    apply-requires-2
+    misfit-requires-4
+    returns-5
     place-at-requires-2
     larger-requires
     place-at-requires-3
-    sub-left
+    sub-left-2
     loop-less
     loop-again
-    returns-3)
+    fitting-requires-2
+    returns-6)

@@ -14,11 +14,17 @@ returns-2 c = decide-empty (c .if2 .taken)
 returns-3 : tie.Need-returns-3
 returns-3 c = decide-short (c .if3 .taken)
 
+parameter-sorts-requires : tie.Need-parameter-sorts-requires
+parameter-sorts-requires c κs = search needs
+
 slice-aggregate-scan : tie.Need-slice-aggregate-scan
 slice-aggregate-scan c = search needs
 
 slice-aggregate-scan-2 : tie.Need-slice-aggregate-scan-2
 slice-aggregate-scan-2 c = search needs
+
+slice-aggregate-scan-3 : tie.Need-slice-aggregate-scan-3
+slice-aggregate-scan-3 c = search needs
 
 scan-requires : tie.Need-scan-requires
 scan-requires c κs = search needs
@@ -39,7 +45,7 @@ same-length-2 : tie.Need-same-length-2
 same-length-2 c = search needs
 
 returns-5 : tie.Need-returns-5
-returns-5 c = decide-tree (c .before .before .before .before .before .before .before .before .scan .ensures) (not-false _ (c .before .before .before .if4 .left)) (c .before .before .before .before .before .before .before .before .before .before .before .before .before .if2 .left) _ (c .one-tree .ensures)
+returns-5 c = decide-tree (c .before .before .before .before .before .before .before .before .scan .ensures) (not-false _ (c .before .before .before .if4 .left)) (c .before .before .before .before .before .before .before .before .before .before .before .before .before .before .before .if2 .left) _ (c .one-tree .ensures)
 
 pub body-fits-spec : {M : Type 1} → statement M
 body-fits-spec =
@@ -48,8 +54,10 @@ body-fits-spec =
     returns
     returns-2
     returns-3
+    parameter-sorts-requires
     slice-aggregate-scan
     slice-aggregate-scan-2
+    slice-aggregate-scan-3
     scan-requires
     same-length
     returns-4

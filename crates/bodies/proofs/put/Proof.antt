@@ -1,6 +1,5 @@
 -- `put` meets its contract.
-use mathlib.Core.Path.{refl, sym}
-use lib.Seq.{set-out}
+use mathlib.Core.Path.{refl}
 use borrow.Author.Needs.{needs}
 use Rattle.bodies.proofs.put.Statement.{statement}
 use Rattle.bodies.proofs.put.Tie as tie
@@ -14,14 +13,14 @@ mul-a c = search needs
 slice-write-a : tie.Need-slice-write-a
 slice-write-a c = search needs
 
+cast-result : tie.Need-cast-result
+cast-result c = search needs
+
 same-length : tie.Need-same-length
 same-length c = search needs
 
 returns : tie.Need-returns
-returns c = record { word = c .before .narrow .result; after-is = refl; word-is = c .before .narrow .ensures }
-
-returns-2 : tie.Need-returns-2
-returns-2 c = record { word = c .before .narrow .result; after-is = sym (set-out _ _ _ (c .if1 .left)); word-is = c .before .narrow .ensures }
+returns c = record { after-is = refl; word-is = c .narrow .ensures }
 
 pub put-spec : {M : Type 1} → statement M
-put-spec = tie.close (tie.spec narrow-requires mul-a slice-write-a same-length returns returns-2)
+put-spec = tie.close (tie.spec narrow-requires mul-a slice-write-a cast-result same-length returns)

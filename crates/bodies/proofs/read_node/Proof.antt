@@ -1,36 +1,40 @@
 -- `read_node` meets its contract.
+use native.Mathlib.Omega.{arith}
 use borrow.Author.Tests.{not-true, not-false}
-use Rattle.bodies.proofs.Backward.{read-outside, read-misfit, read-deep, read-held}
+use Rattle.bodies.proofs.Backward.{read-misfit, read-deep, read-held, taken-misfit, taken-held}
 use borrow.Author.Needs.{needs}
 use Rattle.bodies.proofs.read_node.Statement.{statement}
 use Rattle.bodies.proofs.read_node.Tie as tie
 
-mul-if1 : tie.Need-mul-if1
-mul-if1 c = search needs
+mul-at : tie.Need-mul-at
+mul-at c = search needs
 
-add-if1 : tie.Need-add-if1
-add-if1 c = search needs
+byte-in-requires : tie.Need-byte-in-requires
+byte-in-requires c κs = search needs
 
-returns : tie.Need-returns
-returns c = read-outside (c .if1 .taken)
+add-word-in : tie.Need-add-word-in
+add-word-in c = search needs
+
+word-in-requires : tie.Need-word-in-requires
+word-in-requires c κs = search needs
+
+add-byte-in : tie.Need-add-byte-in
+add-byte-in c = search needs
+
+byte-in-requires-2 : tie.Need-byte-in-requires-2
+byte-in-requires-2 c κs = search needs
 
 head-code-requires : tie.Need-head-code-requires
 head-code-requires c κs = search needs
-
-mul-byte-at : tie.Need-mul-byte-at
-mul-byte-at c = search needs
-
-add-byte-at : tie.Need-add-byte-at
-add-byte-at c = search needs
-
-byte-at-requires : tie.Need-byte-at-requires
-byte-at-requires c κs = search needs
 
 add-arguments-fit : tie.Need-add-arguments-fit
 add-arguments-fit c = search needs
 
 arguments-fit-requires : tie.Need-arguments-fit-requires
 arguments-fit-requires c κs = search needs
+
+misfit-requires : tie.Need-misfit-requires
+misfit-requires c κs = search needs
 
 same-length : tie.Need-same-length
 same-length c = search needs
@@ -41,8 +45,11 @@ same-length-2 c = search needs
 same-length-3 : tie.Need-same-length-3
 same-length-3 c = search needs
 
-returns-2 : tie.Need-returns-2
-returns-2 c = read-misfit (c .before .before .before .before .before .before .before .head-code .ensures) (c .before .before .before .before .before .before .byte-at .ensures .value) (c .before .before .arguments-fit .ensures) (not-true _ (c .if2 .taken))
+returns : tie.Need-returns
+returns c = taken-misfit (c .misfit .ensures) (read-misfit (c .before .before .before .before .before .before .before .head-code .ensures _ _ (c .before .before .before .before .before .before .before .before .before .before .byte-in .ensures .value) (c .before .before .before .before .before .before .before .before .before .word-in .ensures .value)) (c .before .before .before .before .before .before .before .before .byte-in2 .ensures .value) (c .before .before .before .arguments-fit .ensures) (not-true _ (c .before .if1 .taken)))
+
+misfit-requires-2 : tie.Need-misfit-requires-2
+misfit-requires-2 c κs = search needs
 
 same-length-4 : tie.Need-same-length-4
 same-length-4 c = search needs
@@ -53,20 +60,23 @@ same-length-5 c = search needs
 same-length-6 : tie.Need-same-length-6
 same-length-6 c = search needs
 
-returns-3 : tie.Need-returns-3
-returns-3 c = read-deep (c .before .before .before .before .before .before .before .before .before .head-code .ensures) (c .before .before .before .before .before .before .before .before .byte-at .ensures .value) (c .before .before .before .before .arguments-fit .ensures) (not-false _ (c .before .before .if2 .left)) (c .if3 .taken)
+returns-2 : tie.Need-returns-2
+returns-2 c = taken-misfit (c .misfit2 .ensures) (read-deep (c .before .before .before .before .before .before .before .before .before .head-code .ensures _ _ (c .before .before .before .before .before .before .before .before .before .before .before .before .byte-in .ensures .value) (c .before .before .before .before .before .before .before .before .before .before .before .word-in .ensures .value)) (c .before .before .before .before .before .before .before .before .before .before .byte-in2 .ensures .value) (c .before .before .before .before .before .arguments-fit .ensures) (not-false _ (c .before .before .before .if1 .left)) (c .before .if2 .taken))
 
 put-requires : tie.Need-put-requires
-put-requires c κs = search needs
+put-requires c κs = (let q = c .before .before .before .before .before .before .before .before .before .before .before .before .before .before .before .before .before .before .before .before .before .before .before .pre .1 in omega (arith, c .before .before .before .before .before .before .before .before .before .before .before .before .before .before .before .before .before .before .before .before .before .before .before .pre .0, q .few, q .ends-long))
 
 put-requires-2 : tie.Need-put-requires-2
-put-requires-2 c κs = search needs
+put-requires-2 c κs = (let q = c .before .before .before .before .before .before .before .before .before .before .before .before .before .before .before .before .before .before .before .before .before .before .before .before .before .before .before .pre .1 in omega (arith, c .before .before .before .before .before .before .before .before .before .before .before .before .before .before .before .before .before .before .before .before .before .before .before .before .before .before .before .pre .0, q .few, q .codes-long))
 
 add-put : tie.Need-add-put
 add-put c = search needs
 
 put-requires-3 : tie.Need-put-requires-3
-put-requires-3 c κs = search needs
+put-requires-3 c κs = (let q = c .before .before .before .before .before .before .before .before .before .before .before .before .before .before .before .before .before .before .before .before .before .before .before .before .before .before .before .before .before .before .before .before .pre .1 in omega (arith, c .before .before .before .before .before .before .before .before .before .before .before .before .before .before .before .before .before .before .before .before .before .before .before .before .before .before .before .before .before .before .before .before .pre .0, q .few, q .depths-long))
+
+fitting-requires : tie.Need-fitting-requires
+fitting-requires c κs = search needs
 
 same-length-7 : tie.Need-same-length-7
 same-length-7 c = search needs
@@ -77,35 +87,38 @@ same-length-8 c = search needs
 same-length-9 : tie.Need-same-length-9
 same-length-9 c = search needs
 
-returns-4 : tie.Need-returns-4
-returns-4 c = read-held (c .before .before .before .before .before .before .before .before .before .before .before .before .before .before .before .before .before .before .before .before .before .before .head-code .ensures) (c .before .before .before .before .before .before .before .before .before .before .before .before .before .before .before .before .before .before .before .before .before .byte-at .ensures .value) (c .before .before .before .before .before .before .before .before .before .before .before .before .before .before .before .before .before .arguments-fit .ensures) (not-false _ (c .before .before .before .before .before .before .before .before .before .before .before .before .before .before .before .if2 .left)) (c .before .before .before .before .before .before .before .before .before .before .before .before .before .if3 .left) (c .before .before .before .before .before .before .before .before .before .before .before .put .ensures) (c .before .before .before .before .before .before .before .put2 .ensures) (c .before .before .put3 .ensures)
+returns-3 : tie.Need-returns-3
+returns-3 c = taken-held (c .before .before .before .before .before .before .before .before .before .before .before .before .before .before .before .before .before .before .before .before .before .before .before .before .before .before .before .before .before .before .before .before .before .before .before .before .pre .0) (c .before .before .before .before .before .before .before .before .before .before .before .before .before .before .before .before .before .before .before .before .before .before .before .before .before .before .before .before .before .before .before .before .before .before .before .before .pre .1) (c .before .before .before .before .before .before .before .before .before .before .before .before .put .ensures) (c .before .before .before .before .before .before .before .before .put2 .ensures) (c .before .before .before .put3 .ensures) (c .fitting .ensures) (read-held (c .before .before .before .before .before .before .before .before .before .before .before .before .before .before .before .before .before .before .before .before .before .before .head-code .ensures _ _ (c .before .before .before .before .before .before .before .before .before .before .before .before .before .before .before .before .before .before .before .before .before .before .before .before .before .byte-in .ensures .value) (c .before .before .before .before .before .before .before .before .before .before .before .before .before .before .before .before .before .before .before .before .before .before .before .before .word-in .ensures .value)) (c .before .before .before .before .before .before .before .before .before .before .before .before .before .before .before .before .before .before .before .before .before .before .before .byte-in2 .ensures .value) (c .before .before .before .before .before .before .before .before .before .before .before .before .before .before .before .before .before .before .arguments-fit .ensures) (not-false _ (c .before .before .before .before .before .before .before .before .before .before .before .before .before .before .before .before .if1 .left)) (c .before .before .before .before .before .before .before .before .before .before .before .before .before .before .if2 .left) (c .before .before .before .before .before .before .before .before .before .before .before .before .put .ensures) (c .before .before .before .before .before .before .before .before .put2 .ensures) (c .before .before .before .put3 .ensures))
 
 pub read-node-spec : {M : Type 1} → statement M
 read-node-spec =
     tie.close
     (tie.spec
-    mul-if1
-    add-if1
-    returns
+    mul-at
+    byte-in-requires
+    add-word-in
+    word-in-requires
+    add-byte-in
+    byte-in-requires-2
     head-code-requires
-    mul-byte-at
-    add-byte-at
-    byte-at-requires
     add-arguments-fit
     arguments-fit-requires
+    misfit-requires
     same-length
     same-length-2
     same-length-3
-    returns-2
+    returns
+    misfit-requires-2
     same-length-4
     same-length-5
     same-length-6
-    returns-3
+    returns-2
     put-requires
     put-requires-2
     add-put
     put-requires-3
+    fitting-requires
     same-length-7
     same-length-8
     same-length-9
-    returns-4)
+    returns-3)
