@@ -1,37 +1,35 @@
 -- A letter on the term held: what the definition says, and how the next term is held.
-use Prim.Native.Nat.{ℕ, zero, suc, _+_, _-_, _*_, _/_, _%_, _<_, _≤_}
+use Prim.Native.Nat.{ℕ, suc, _+_, _-_, _/_, _%_, _<_, _≤_}
 use native.Mathlib.Omega.{arith}
-use mathlib.Core.Path.{_≡_, refl, sym, ap, ap₂, subst, _∙_}
+use mathlib.Core.Path.{_≡_, refl, sym, ap, subst, _∙_}
 use mathlib.Core.Bool.{false}
-use mathlib.Core.List.{List, [], _∷_}
-use mathlib.Core.Option.{Option, none, some}
+use mathlib.Core.List.{List}
+use mathlib.Core.Option.{none, some}
 use borrow.Author.Tests.{ne-eqb, le-ltb}
-use lib.Dec.{eqb, ltb}
-use lib.ListN.{length, getD}
-use Rattle.scheme.specs.Lists.{if_then_else_}
+use lib.ListN.{getD}
 use Rattle.scheme.specs.Sorts.{o}
 use Rattle.scheme.specs.Sorting.{sortOf}
-use Rattle.scheme.specs.Terms.{Head, con, nt, par, Term, node, Terms, []ᵗ, countᵗ, termAt, nodes, nodesAll, put, puts}
+use Rattle.scheme.specs.Terms.{Head, con, nt, par, Term, node, Terms, []ᵗ, countᵗ, termAt, nodes, nodesAll, put}
 use Rattle.scheme.specs.Prefix.{flat}
 use Rattle.scheme.specs.Reduction.{Plan, body}
 use Rattle.scheme.specs.Typing.{Automaton}
 use Rattle.scheme.specs.Replay
 use Rattle.scheme.specs.Replay.{exceeds}
 use Rattle.records.specs.Records.{Record}
-use Rattle.casefile.specs.Tables.{headOf, aritiesOf, transitionsOf, targetsAt, planOf, automatonOf}
+use Rattle.casefile.specs.Tables.{headOf, transitionsOf, targetsAt, planOf, automatonOf}
 use Rattle.casefile.proofs.Passed.{Passed}
 use Rattle.sort_bounds.specs.Sorted.{closedSorts}
 use Rattle.sort_bounds.proofs.Small.{few-arguments}
 use Rattle.sort_bounds.proofs.Replays.{follow-sorted}
 use Rattle.moves.specs.Moves.{targetsIn}
 use Rattle.closures.specs.Nodes.{headBy, NodesAt}
-use Rattle.closures.specs.Closures.{lone, Closure, Frame}
+use Rattle.closures.specs.Closures.{lone, Closure}
 use Rattle.closures.specs.Promises.{IsClosureAt, Measures}
 use Rattle.closures.specs.declared.Measured.{Measured}
 use Rattle.closures.proofs.Trees.{nodes-at}
 use Rattle.closures.proofs.Nodes.{nonterminal-tag, constructor-tag, parameter-tag}
 use Rattle.closures.proofs.Closures.{closure-parts, frame-none}
-use Rattle.fronts.specs.Fronts.{argumentsᵗ, Gatherable, IsFront, Gathers}
+use Rattle.fronts.specs.Fronts.{argumentsᵗ, IsFront, Gathers}
 use Rattle.fronts.specs.declared.Front.{Front}
 use Rattle.rows.specs.Rows.{IsRow, IsArity}
 use Rattle.rows.proofs.Rows.{constructor-count}

@@ -1,24 +1,22 @@
 -- The letters of a path one after another: what is left of the replay, and what it comes to.
-use Prim.Native.Nat.{ℕ, zero, suc, _+_, _*_, _/_, _%_, _<_, _≤_}
+use Prim.Native.Nat.{ℕ, suc, _+_, _*_, _<_, _≤_}
 use native.Mathlib.Omega.{arith}
-use mathlib.Core.Path.{_≡_, refl, sym, ap, ap₂, subst, _∙_}
-use mathlib.Core.Bool.{Bool, true, false}
+use mathlib.Core.Path.{_≡_, refl, sym, ap, subst, _∙_}
+use mathlib.Core.Bool.{true}
 use mathlib.Core.Logic.{⊎-elim}
 use mathlib.Core.List.{List, [], _∷_}
 use mathlib.Core.Option.{Option, none, some}
 use types.Run.{OneOf}
 use denote.Enum.Declared.{tagOf}
 use borrow.Author.Tests.{eq-eqb, ne-eqb, lt-ltb}
-use lib.Dec.{eqb}
-use lib.ListN.{length, getD, set, take, drop, length-set, drop-of-length-le}
-use lib.Seq.{drop-cons, take-suc-set}
+use lib.ListN.{length, getD, drop, drop-of-length-le}
+use lib.Seq.{drop-cons}
 use Rattle.scheme.specs.Lists.{if_then_else_}
 use Rattle.scheme.specs.Sorts.{o}
 use Rattle.scheme.specs.Sorting.{sortOf}
-use Rattle.scheme.specs.Terms.{Head, con, nt, par, Term, node, Terms, []ᵗ, countᵗ, nodes}
-use Rattle.scheme.specs.Prefix.{flat}
+use Rattle.scheme.specs.Terms.{Head, con, nt, par, Term, node, Terms, []ᵗ, nodes}
 use Rattle.scheme.specs.Reduction.{start}
-use Rattle.scheme.specs.Replay.{follow, unless, stuck, Ending, refutes, lost, outgrown, elsewhere, arrived, exceeds, followed, replay}
+use Rattle.scheme.specs.Replay.{follow, unless, stuck, Ending, outgrown, arrived, exceeds, followed, replay}
 use Rattle.scheme.specs.Replay
 use Rattle.records.specs.Fields.{field, byte}
 use Rattle.records.specs.Records.{Record}
@@ -37,7 +35,7 @@ use Rattle.letters.specs.declared.Step.{Step}
 use Rattle.letters.specs.declared.Step.the-variants.{Lost, TooLarge, At}
 use Rattle.letters.proofs.Step.{the-type}
 use Rattle.rows.proofs.Rows.{noRow, row-past-constructors, constructor-count}
-use Rattle.replay.specs.PathCases.{PathAnswer, refutedPath, refusedPath, nodeLimit, pathAnswer, replayed}
+use Rattle.replay.specs.PathCases.{refutedPath, pathAnswer, replayed}
 use Rattle.replay.specs.Replays.{pathAs, stoppedAt, Arrives, Runs}
 use Rattle.replay.specs.declared.Replayed.{Replayed}
 use Rattle.replay.specs.declared.Replayed.the-variants.{Refuted, Refused}
