@@ -1,10 +1,10 @@
 -- Closures and frames: what they keep.
-use Prim.Native.Nat.{ℕ, zero, suc, _+_, _-_, _*_, _/_, _%_, _<_, _≤_}
+use Prim.Native.Nat.{ℕ, _+_, _*_, _<_, _≤_}
 use native.Mathlib.Omega.{arith}
-use mathlib.Core.Path.{_≡_, refl, sym, ap, subst, _∙_}
-use mathlib.Core.List.{List, [], _∷_}
-use lib.ListN.{length, getD}
-use Rattle.scheme.specs.Terms.{Head, par, Term, node, Terms, []ᵗ, countᵗ, termAt, nodes, put}
+use mathlib.Core.Path.{_≡_, refl, sym, subst, _∙_}
+use mathlib.Core.List.{List}
+use lib.ListN.{getD}
+use Rattle.scheme.specs.Terms.{Term, Terms, []ᵗ, countᵗ, termAt, nodes, put}
 use Rattle.scheme.specs.Prefix.{flat}
 use Rattle.closures.specs.Nodes.{NodesAt}
 use Rattle.closures.specs.Closures.{blockIn, countIn, placeIn, sizeIn, slotOf, lone, Closure, closure, Frame}

@@ -1,18 +1,17 @@
 -- The nodes of a term in a file, with the terms of a frame put for its parameters: summed node by node. Its closure.
-use Prim.Native.Nat.{ℕ, zero, suc, _+_, _-_, _*_, _%_, _<_, _≤_}
+use Prim.Native.Nat.{ℕ, suc, _+_, _-_, _*_, _%_, _<_, _≤_}
 use native.Mathlib.Omega.{arith}
 use mathlib.Core.Path.{_≡_, refl, sym, ap, ap₂, subst, _∙_}
-use mathlib.Core.List.{List, [], _∷_, append-nil}
-use lib.ListN.{length, getD}
-use Rattle.scheme.specs.Terms.{Head, con, nt, par, Term, node, Terms, []ᵗ, _∷ᵗ_, _++ᵗ_, countᵗ, termAt, nodes, nodesAll, applied, put, puts}
-use Rattle.scheme.specs.Prefix.{Node, flat, flats}
+use mathlib.Core.List.{List, append-nil}
+use lib.ListN.{getD}
+use Rattle.scheme.specs.Terms.{Head, con, nt, par, Term, node, Terms, []ᵗ, _∷ᵗ_, _++ᵗ_, countᵗ, termAt, nodes, nodesAll, applied, put}
+use Rattle.scheme.specs.Prefix.{flat, flats}
 use Rattle.scheme.proofs.Prefix.{append-nilᵗ}
 use Rattle.records.specs.Fields.{byte, word}
-use Rattle.closures.specs.Nodes.{headBy, NodeAt, NodesAt}
-use Rattle.closures.specs.Closures.{blockIn, countIn, placeIn, sizeIn, slotOf, lone, Closure, closure, Frame}
+use Rattle.closures.specs.Nodes.{headBy, NodesAt}
+use Rattle.closures.specs.Closures.{slotOf, lone, Closure, Frame}
 use Rattle.closures.specs.Promises.{IsClosureAt, weight, weights, Weighs, Measures, Packs, Closes}
-use Rattle.closures.specs.declared.Measured.{Measured}
-use Rattle.closures.proofs.Trees.{count-append, nodes-append, flats-append, none-left, term-in, term-past, nodes-put, weights-flat}
+use Rattle.closures.proofs.Trees.{count-append, nodes-append, flats-append, none-left, term-in, term-past, weights-flat}
 use Rattle.closures.proofs.Nodes.{at-node, at-one, at-next, nonterminal-tag, constructor-tag, parameter-tag}
 use Rattle.closures.proofs.Closures.{closure-up, closure-size, closure-from}
 

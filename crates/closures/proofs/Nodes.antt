@@ -1,12 +1,12 @@
 -- Nodes in a file: those of a term, then those of the next. Heads by tag and number.
-use Prim.Native.Nat.{ℕ, zero, suc, _+_, _*_, _<_, _≤_}
+use Prim.Native.Nat.{ℕ, zero, suc, _+_, _*_, _≤_}
 use native.Mathlib.Omega.{arith}
-use mathlib.Core.Path.{_≡_, refl, sym, ap, subst, _∙_}
+use mathlib.Core.Path.{_≡_, refl, sym, subst}
 use mathlib.Core.List.{List, [], _∷_, _++_, append-nil}
 use lib.ListN.{length}
-use Rattle.scheme.specs.Terms.{Head, con, nt, par, Term, node, Terms, []ᵗ, _∷ᵗ_, _++ᵗ_, countᵗ, nodes, nodesAll}
+use Rattle.scheme.specs.Terms.{Head, con, nt, par, Term, node, Terms, []ᵗ, _∷ᵗ_, _++ᵗ_, countᵗ, nodes}
 use Rattle.scheme.specs.Prefix.{Node, flat, flats}
-use Rattle.scheme.proofs.Prefix.{length-flat, length-flats}
+use Rattle.scheme.proofs.Prefix.{length-flat}
 use Rattle.casefile.specs.Tables.{headOf}
 use Rattle.closures.specs.Nodes.{headBy, NodeAt, NodesAt}
 use Rattle.closures.proofs.Trees.{flats-append}

@@ -1,14 +1,14 @@
 -- The closures of terms that stand one after another, written one by one.
-use Prim.Native.Nat.{ℕ, zero, suc, _+_, _*_, _<_, _≤_}
+use Prim.Native.Nat.{ℕ, suc, _+_, _*_, _<_, _≤_}
 use native.Mathlib.Omega.{arith}
 use mathlib.Core.Path.{_≡_, refl, sym, ap, subst, _∙_}
 use mathlib.Core.Logic.{⊎-elim}
-use mathlib.Core.List.{List, [], _∷_}
+use mathlib.Core.List.{List}
 use native.Mathlib.Nat.{le-of-suc-le-suc, eq-or-lt-of-le}
 use lib.ListN.{length, getD, set, length-set}
 use lib.Seq.{getD-set-same, getD-set-other}
-use Rattle.scheme.specs.Terms.{Head, Term, node, Terms, []ᵗ, _∷ᵗ_, countᵗ, termAt, nodes, nodesAll, put, puts}
-use Rattle.scheme.specs.Prefix.{dropᵗ, flat, flats}
+use Rattle.scheme.specs.Terms.{Term, Terms, _∷ᵗ_, termAt, nodes, put, puts}
+use Rattle.scheme.specs.Prefix.{dropᵗ, flats}
 use Rattle.closures.specs.Nodes.{NodesAt}
 use Rattle.closures.specs.Closures.{lone, Closure, Frame}
 use Rattle.closures.specs.Promises.{Measures, Closes, Spreadable, Spreads}

@@ -3,8 +3,8 @@
 use Prim.Native.Nat.{ℕ, _+_, _-_, _*_, _/_, _%_, _<_, _≤_}
 use mathlib.Core.Path.{_≡_}
 use mathlib.Core.List.{List}
-use lib.ListN.{length, getD}
-use Rattle.scheme.specs.Terms.{Head, par, Term, node, Terms, []ᵗ, countᵗ, termAt, nodes, put}
+use lib.ListN.{getD}
+use Rattle.scheme.specs.Terms.{par, Term, node, Terms, []ᵗ, countᵗ, termAt, nodes, put}
 use Rattle.scheme.specs.Prefix.{flat}
 use Rattle.closures.specs.Nodes.{NodesAt}
 

@@ -5,7 +5,7 @@ use mathlib.Core.List.{List, [], _∷_}
 use Rattle.scheme.specs.Terms.{Head}
 use Rattle.scheme.specs.Prefix.{Node}
 use Rattle.records.specs.Fields.{byte, word}
-use Rattle.casefile.specs.Tables.{Cell, headOf}
+use Rattle.casefile.specs.Tables.{headOf}
 
 -- the head with a tag and a number
 abbrev pub headBy : ℕ → ℕ → Head

@@ -12,7 +12,7 @@ pub struct Measured {
 }
 
 // The number in a cell; 0 past the end.
-pub fn cell_at(cells: &[u64], slot: usize) -> usize
+fn cell_at(cells: &[u64], slot: usize) -> usize
     ensures { λ r. ⌜ r ≡ getD (now (cells .entry)) slot 0 ⌝ }
 {
     if slot < cells.len() {
@@ -81,7 +81,7 @@ fn pack(at: usize, block: usize, count: usize, size: usize) -> usize
 }
 
 // The closure of the term at a place of the file with a frame; for a parameter alone it is the parameter's own.
-pub fn closure_of(
+fn closure_of(
     file: &[u8],
     cells: &[u64],
     at: usize,

@@ -1,19 +1,19 @@
 -- The arguments of a term gathered from the back: a parameter's own stand behind those of the term that it stands for.
-use Prim.Native.Nat.{ℕ, zero, suc, _+_, _-_, _*_, _/_, _%_, _<_, _≤_}
+use Prim.Native.Nat.{ℕ, _+_, _-_, _*_, _/_, _%_, _<_, _≤_}
 use native.Mathlib.Omega.{arith}
 use mathlib.Core.Path.{_≡_, refl, sym, ap, ap₂, subst, _∙_}
 use mathlib.Core.Bool.{Bool, true, false}
 use mathlib.Core.Logic.{_⊎_, inl, inr, ⊎-elim}
-use mathlib.Core.List.{List, [], _∷_}
+use mathlib.Core.List.{List}
 use borrow.Author.Tests.{ltb-true, ltb-false}
 use lib.Dec.{ltb}
 use lib.ListN.{length, getD}
 use Rattle.scheme.specs.Terms.{Head, con, nt, par, Term, node, Terms, []ᵗ, _∷ᵗ_, _++ᵗ_, countᵗ, termAt, nodes, nodesAll, applied, put, puts}
-use Rattle.scheme.specs.Prefix.{Node, flat, flats}
+use Rattle.scheme.specs.Prefix.{flat, flats}
 use Rattle.records.specs.Fields.{byte, word}
 use Rattle.closures.specs.Nodes.{headBy, NodeAt, NodesAt}
-use Rattle.closures.specs.Closures.{blockIn, countIn, placeIn, slotOf, lone, Closure, Frame}
-use Rattle.closures.specs.Promises.{IsClosureAt, weight, Spreadable, Spreads}
+use Rattle.closures.specs.Closures.{blockIn, slotOf, lone, Closure, Frame}
+use Rattle.closures.specs.Promises.{IsClosureAt, Spreadable, Spreads}
 use Rattle.closures.proofs.Trees.{count-append, append-assocᵗ, nodes-applied, nodes-put, count-puts, term-left, term-right, term-past}
 use Rattle.closures.proofs.Nodes.{at-node, at-one, parameter-tag}
 use Rattle.closures.proofs.Closures.{closure-kept, closure-parts, frame-kept}

@@ -4,12 +4,12 @@ use native.Mathlib.Omega.{arith}
 use native.Mathlib.Nat.{le-of-suc-le-suc}
 use mathlib.Core.Path.{_≡_, refl, sym, ap, _∙_}
 use mathlib.Core.List.{List, [], _∷_}
-use mathlib.Core.Option.{Option, none, some}
+use mathlib.Core.Option.{none, some}
 use borrow.Author.Tests.{eq-eqb, ne-eqb}
 use lib.ListN.{length, getD, take}
 use lib.Seq.{getD-take}
-use Rattle.scheme.specs.Terms.{Term, node, Terms, []ᵗ, _∷ᵗ_, countᵗ, termAt}
-use Rattle.scheme.specs.Replay.{At, argument, descend}
+use Rattle.scheme.specs.Terms.{Term, Terms, []ᵗ, _∷ᵗ_, countᵗ, termAt}
+use Rattle.scheme.specs.Replay.{argument, descend}
 use Rattle.moves.specs.Moves.{targetsIn}
 use Rattle.letters.specs.Letters.{IsTarget}
 

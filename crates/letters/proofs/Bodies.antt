@@ -1,18 +1,18 @@
 -- The body of a rule where it stands in the file.
 use Prim.Native.Nat.{ℕ, zero, suc, _+_, _*_, _/_, _<_, _≤_}
 use native.Mathlib.Omega.{arith}
-use mathlib.Core.Path.{_≡_, refl, sym, ap, ap₂, subst, _∙_}
-use mathlib.Core.List.{List, [], _∷_, map}
+use mathlib.Core.Path.{_≡_, sym, ap, ap₂, subst, _∙_}
+use mathlib.Core.List.{List, [], map}
 use lib.ListN.{length, getD, drop, length-map, List·getD-eq-default, drop-of-length-le}
-use Rattle.scheme.specs.Terms.{Head, nt, Term, node, Terms, []ᵗ}
-use Rattle.scheme.specs.Prefix.{Node, flat}
+use Rattle.scheme.specs.Terms.{nt, Term, node, []ᵗ}
+use Rattle.scheme.specs.Prefix.{flat}
 use Rattle.scheme.specs.Reduction.{body}
 use Rattle.scheme.proofs.Lists.{getD-map-in}
 use Rattle.records.specs.Fields.{field, byte, word}
 use Rattle.records.specs.Records.{Record}
 use Rattle.casefile.specs.Kinds.{Kind, payloads}
-use Rattle.casefile.specs.Tables.{Cell, headOf, nodesOf, bodyOf, planOf}
-use Rattle.casefile.proofs.Cells.{cellAt, nodeAt, nodes-length, nodes-drop}
+use Rattle.casefile.specs.Tables.{headOf, nodesOf, bodyOf, planOf}
+use Rattle.casefile.proofs.Cells.{nodeAt, nodes-length, nodes-drop}
 use Rattle.casefile.proofs.TypeTable.{count-payloads}
 use Rattle.whole_bodies.specs.Wholes.{Whole, Bodies}
 use Rattle.closures.specs.Nodes.{headBy, NodeAt, NodesAt}

@@ -1,37 +1,35 @@
 -- A letter on the term held: what the definition says, and how the next term is held.
-use Prim.Native.Nat.{ℕ, zero, suc, _+_, _-_, _*_, _/_, _%_, _<_, _≤_}
+use Prim.Native.Nat.{ℕ, suc, _+_, _-_, _/_, _%_, _<_, _≤_}
 use native.Mathlib.Omega.{arith}
-use mathlib.Core.Path.{_≡_, refl, sym, ap, ap₂, subst, _∙_}
+use mathlib.Core.Path.{_≡_, refl, sym, ap, subst, _∙_}
 use mathlib.Core.Bool.{false}
-use mathlib.Core.List.{List, [], _∷_}
-use mathlib.Core.Option.{Option, none, some}
+use mathlib.Core.List.{List}
+use mathlib.Core.Option.{none, some}
 use borrow.Author.Tests.{ne-eqb, le-ltb}
-use lib.Dec.{eqb, ltb}
-use lib.ListN.{length, getD}
-use Rattle.scheme.specs.Lists.{if_then_else_}
+use lib.ListN.{getD}
 use Rattle.scheme.specs.Sorts.{o}
 use Rattle.scheme.specs.Sorting.{sortOf}
-use Rattle.scheme.specs.Terms.{Head, con, nt, par, Term, node, Terms, []ᵗ, countᵗ, termAt, nodes, nodesAll, put, puts}
+use Rattle.scheme.specs.Terms.{Head, con, nt, par, Term, node, Terms, []ᵗ, countᵗ, termAt, nodes, nodesAll, put}
 use Rattle.scheme.specs.Prefix.{flat}
 use Rattle.scheme.specs.Reduction.{Plan, body}
 use Rattle.scheme.specs.Typing.{Automaton}
 use Rattle.scheme.specs.Replay
 use Rattle.scheme.specs.Replay.{exceeds}
 use Rattle.records.specs.Records.{Record}
-use Rattle.casefile.specs.Tables.{headOf, aritiesOf, transitionsOf, targetsAt, planOf, automatonOf}
+use Rattle.casefile.specs.Tables.{headOf, transitionsOf, targetsAt, planOf, automatonOf}
 use Rattle.casefile.proofs.Passed.{Passed}
 use Rattle.sort_bounds.specs.Sorted.{closedSorts}
 use Rattle.sort_bounds.proofs.Small.{few-arguments}
 use Rattle.sort_bounds.proofs.Replays.{follow-sorted}
 use Rattle.moves.specs.Moves.{targetsIn}
 use Rattle.closures.specs.Nodes.{headBy, NodesAt}
-use Rattle.closures.specs.Closures.{lone, Closure, Frame}
+use Rattle.closures.specs.Closures.{lone, Closure}
 use Rattle.closures.specs.Promises.{IsClosureAt, Measures}
 use Rattle.closures.specs.declared.Measured.{Measured}
 use Rattle.closures.proofs.Trees.{nodes-at}
 use Rattle.closures.proofs.Nodes.{nonterminal-tag, constructor-tag, parameter-tag}
 use Rattle.closures.proofs.Closures.{closure-parts, frame-none}
-use Rattle.fronts.specs.Fronts.{argumentsᵗ, Gatherable, IsFront, Gathers}
+use Rattle.fronts.specs.Fronts.{argumentsᵗ, IsFront, Gathers}
 use Rattle.fronts.specs.declared.Front.{Front}
 use Rattle.rows.specs.Rows.{IsRow, IsArity}
 use Rattle.rows.proofs.Rows.{constructor-count}
@@ -188,23 +186,23 @@ module _ (file index : List ℕ) (rules : ℕ) (cells : List ℕ) (held : Held) 
           }
 
 -- a letter from 1 on
-module _ {file index : List ℕ} {constructors : ℕ} {table : List (List (List ℕ))} {cells : List ℕ} {held : Held} {i top : ℕ} where
-  pub descend-not : (held .tag ≡ 0 → ⊥) → Descends file index constructors table cells cells held i top Lost
+module _ {file index : List ℕ} {constructors : ℕ} {row cells : List ℕ} {held : Held} {i top : ℕ} where
+  pub descend-not : (held .tag ≡ 0 → ⊥) → Descends file index constructors row cells cells held i top Lost
   unfolding LeadsTo
   descend-not k =
       record {
         long = refl;
-        leads = λ rules rs s t q w.
+        leads = λ rules table rs s is-row t q w.
             let h = w .holding in
             ap (λ u. Replay.follow (automatonOf rs) (planOf rs) (suc i) u q) (h .is) ∙ not-descended (automatonOf rs) (planOf rs) (held .tag) (held .number) (h .arguments) q i (h .head) (h .head-is) k;
       }
 
-  module _ (k : held .tag ≡ 0) (row : List ℕ) (arity : ℕ) (is-row : IsRow table constructors (held .state) (held .number) row) (is-arity : IsArity file index constructors (held .number) arity) (r : ℕ) (is-target : IsTarget row arity (held .count) i r) where
+  module _ (k : held .tag ≡ 0) (arity : ℕ) (is-arity : IsArity file index constructors (held .number) arity) (r : ℕ) (is-target : IsTarget row arity (held .count) i r) where
     -- what the letter leads to, by the row
-    by-row : (rules : ℕ) (rs : List Record) → Replaying file index rules constructors table rs → (t : Term) (q : ℕ) (h : Holding file cells top held t q)
+    by-row : (rules : ℕ) (table : List (List (List ℕ))) (rs : List Record) → Replaying file index rules constructors table rs → IsRow table constructors (held .state) (held .number) row → (t : Term) (q : ℕ) (h : Holding file cells top held t q)
         → Replay.follow (automatonOf rs) (planOf rs) (suc i) t q ≡ Replay.descend i (h .arguments) (targetsIn arity row)
     unfolding automatonOf
-    by-row rules rs s t q h =
+    by-row rules table rs s is-row t q h =
         let x = is-row .targets rs (s .passed) (s .table-is) (constructor-count rs (s .constructors-there)) (s .few-constructors) in
         let a = is-arity rs (s .passed) (s .constructors-there) (s .few-constructors) in
         ap (λ u. Replay.follow (automatonOf rs) (planOf rs) (suc i) u q) (h .is)
@@ -212,25 +210,25 @@ module _ {file index : List ℕ} {constructors : ℕ} {table : List (List (List 
         ∙ ap (λ p. Replay.descend i (h .arguments) (targetsAt (transitionsOf rs) p (held .number))) (sym (h .state-is))
         ∙ ap (Replay.descend i (h .arguments)) (sym x ∙ ap (λ n. targetsIn n row) (sym a))
 
-    pub descend-lost : r ≡ 256 → Descends file index constructors table cells cells held i top Lost
+    pub descend-lost : r ≡ 256 → Descends file index constructors row cells cells held i top Lost
     unfolding LeadsTo
     descend-lost e =
         record {
           long = refl;
-          leads = λ rules rs s t q w.
+          leads = λ rules table rs s is-row t q w.
               let h = w .holding in
-              by-row rules rs s t q h ∙ is-target .stops e (h .arguments) (h .frame .counted) (is-row .four rs (s .table-is));
+              by-row rules table rs s is-row t q h ∙ is-target .stops e (h .arguments) (h .frame .counted) (is-row .four rs (s .table-is));
         }
 
     module _ (e : r ≡ 256 → ⊥) (v : ℕ) (cell : IsClosureAt cells (held .block) (held .count) i v) (front : Front) {cells′ : List ℕ}
         (gathers : Gathers file cells cells′ (v / 8192 % 131072) (v / 17179869184) (v / 1073741824 % 16) top front) where
-      next-at : (rules : ℕ) (rs : List Record) → Replaying file index rules constructors table rs → (t : Term) (q : ℕ) (h : Holding file cells top held t q)
+      next-at : (rules : ℕ) (table : List (List (List ℕ))) (rs : List Record) → Replaying file index rules constructors table rs → IsRow table constructors (held .state) (held .number) row → (t : Term) (q : ℕ) (h : Holding file cells top held t q)
           → Replay.follow (automatonOf rs) (planOf rs) (suc i) t q ≡ some (record { term = termAt (h .arguments) i lone; state = r })
-      next-at rules rs s t q h =
+      next-at rules table rs s is-row t q h =
           let (there, below, inside, few, is) = is-target .goes e in
           let c = h .frame .counted in
           let four = is-row .four rs (s .table-is) in
-          by-row rules rs s t q h ∙ descend-some i (h .arguments) row arity lone there (omega arith) inside (omega arith) ∙ ap (λ p. some (record { term = termAt (h .arguments) i lone; state = p })) is
+          by-row rules table rs s is-row t q h ∙ descend-some i (h .arguments) row arity lone there (omega arith) inside (omega arith) ∙ ap (λ p. some (record { term = termAt (h .arguments) i lone; state = p })) is
 
       closure-there : (t : Term) (q : ℕ) (h : Holding file cells top held t q) → top < 1048576 → Closure file cells (held .block) v (termAt (h .arguments) i lone)
       closure-there t q h few =
@@ -247,11 +245,11 @@ module _ {file index : List ℕ} {constructors : ℕ} {table : List (List (List 
           let a = ap nodes (h .is) ∙ nodes-node (h .head) (h .arguments) in
           omega (arith, h .size)
 
-      front-there : (rules : ℕ) (rs : List Record) → Replaying file index rules constructors table rs → (t : Term) (q : ℕ) (w : Ready file cells rs held top t q) → IsFront file cells′ top front (termAt (w .holding .arguments) i lone)
-      front-there rules rs s t q w =
+      front-there : (rules : ℕ) (table : List (List (List ℕ))) (rs : List Record) → Replaying file index rules constructors table rs → IsRow table constructors (held .state) (held .number) row → (t : Term) (q : ℕ) (w : Ready file cells rs held top t q) → IsFront file cells′ top front (termAt (w .holding .arguments) i lone)
+      front-there rules table rs s is-row t q w =
           let h = w .holding in
           let (b, xs, falls, here, frame, is) = closure-parts (closure-there t q h (w .few)) in
-          let sorted = follow-sorted rs (s .flags) (s .passed) (s .whole) (suc i) t q (record { term = termAt (h .arguments) i lone; state = r }) (w .sorted) (next-at rules rs s t q h) in
+          let sorted = follow-sorted rs (s .flags) (s .passed) (s .whole) (suc i) t q (record { term = termAt (h .arguments) i lone; state = r }) (w .sorted) (next-at rules table rs s is-row t q h) in
           let few = few-there rs (s .passed) (termAt (h .arguments) i lone) sorted in
           let size = small-there t q h in
           subst (IsFront file cells′ top front) (sym is)
@@ -266,34 +264,34 @@ module _ {file index : List ℕ} {constructors : ℕ} {table : List (List (List 
             fits = let n = ap nodes is in omega arith;
           }))
 
-      pub descend-does : Descends file index constructors table cells cells′ held i top (At (record { tag = front .tag; number = front .number; block = top; count = front .count; state = r }))
+      pub descend-does : Descends file index constructors row cells cells′ held i top (At (record { tag = front .tag; number = front .number; block = top; count = front .count; state = r }))
       unfolding LeadsTo
       descend-does =
           record {
             long = gathers .long;
-            leads = λ rules rs s t q w.
+            leads = λ rules table rs s is-row t q w.
                 let h = w .holding in (
                   record { term = termAt (h .arguments) i lone; state = r },
-                  next-at rules rs s t q h,
+                  next-at rules table rs s is-row t q h,
                   not-weighed i (termAt (h .arguments) i lone),
-                  held-front front (front-there rules rs s t q w) (small-there t q h),
+                  held-front front (front-there rules table rs s is-row t q w) (small-there t q h),
                 );
           }
 
 -- either kind of letter
-module _ {file index : List ℕ} {rules constructors : ℕ} {table : List (List (List ℕ))} {cells cells′ : List ℕ} {held : Held} {letter top : ℕ} {r : Step} where
-  pub follow-unfolds : letter ≡ 0 → Unfolds file index rules cells cells′ held top r → Follows file index rules constructors table cells cells′ held letter top r
+module _ {file index : List ℕ} {rules constructors : ℕ} {row cells cells′ : List ℕ} {held : Held} {letter top : ℕ} {r : Step} where
+  pub follow-unfolds : letter ≡ 0 → Unfolds file index rules cells cells′ held top r → Follows file index rules constructors row cells cells′ held letter top r
   follow-unfolds z w =
       record {
         long = w .long;
-        leads = λ rs s t q x. subst (λ l. LeadsTo file cells′ top l (Replay.follow (automatonOf rs) (planOf rs) l t q) r) (sym z) (w .leads constructors table rs s t q x);
+        leads = λ table rs s is-row t q x. subst (λ l. LeadsTo file cells′ top l (Replay.follow (automatonOf rs) (planOf rs) l t q) r) (sym z) (w .leads constructors table rs s t q x);
       }
 
-  pub follow-descends : (letter ≡ 0 → ⊥) → Descends file index constructors table cells cells′ held (letter - 1) top r → Follows file index rules constructors table cells cells′ held letter top r
+  pub follow-descends : (letter ≡ 0 → ⊥) → Descends file index constructors row cells cells′ held (letter - 1) top r → Follows file index rules constructors row cells cells′ held letter top r
   follow-descends z w =
       record {
         long = w .long;
-        leads = λ rs s t q x.
+        leads = λ table rs s is-row t q x.
             let e : suc (letter - 1) ≡ letter = omega arith in
-            subst (λ l. LeadsTo file cells′ top l (Replay.follow (automatonOf rs) (planOf rs) l t q) r) e (w .leads rules rs s t q x);
+            subst (λ l. LeadsTo file cells′ top l (Replay.follow (automatonOf rs) (planOf rs) l t q) r) e (w .leads rules table rs s is-row t q x);
       }

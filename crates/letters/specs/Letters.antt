@@ -21,6 +21,7 @@ use Rattle.whole_bodies.specs.Wholes.{Bodies}
 use Rattle.moves.specs.Moves.{targetsIn, TableFor}
 use Rattle.closures.specs.Nodes.{headBy}
 use Rattle.closures.specs.Closures.{Frame}
+use Rattle.rows.specs.Rows.{IsRow}
 use Rattle.letters.specs.declared.Held.{Held}
 use Rattle.letters.specs.declared.Step.{Step}
 use Rattle.letters.specs.declared.Step.the-variants.{Lost, TooLarge, At}
@@ -72,13 +73,13 @@ pub record IsTarget (row : List ℕ) (arity count i r : ℕ) : Type 0 where
   pub stops : r ≡ 256 → (ts : Terms) → countᵗ ts ≡ count → length row ≡ 4 → Replay.descend i ts (targetsIn arity row) ≡ none
 
 -- letter i + 1
-pub record Descends (file index : List ℕ) (constructors : ℕ) (table : List (List (List ℕ))) (cells cells′ : List ℕ) (held : Held) (i top : ℕ) (r : Step) : Type 0 where
+pub record Descends (file index : List ℕ) (constructors : ℕ) (row cells cells′ : List ℕ) (held : Held) (i top : ℕ) (r : Step) : Type 0 where
   pub long : length cells′ ≡ length cells
-  pub leads : (rules : ℕ) (rs : List Record) → Replaying file index rules constructors table rs → (t : Term) (q : ℕ) → Ready file cells rs held top t q
+  pub leads : (rules : ℕ) (table : List (List (List ℕ))) (rs : List Record) → Replaying file index rules constructors table rs → IsRow table constructors (held .state) (held .number) row → (t : Term) (q : ℕ) → Ready file cells rs held top t q
       → LeadsTo file cells′ top (suc i) (Replay.follow (automatonOf rs) (planOf rs) (suc i) t q) r
 
 -- either letter
-pub record Follows (file index : List ℕ) (rules constructors : ℕ) (table : List (List (List ℕ))) (cells cells′ : List ℕ) (held : Held) (letter top : ℕ) (r : Step) : Type 0 where
+pub record Follows (file index : List ℕ) (rules constructors : ℕ) (row cells cells′ : List ℕ) (held : Held) (letter top : ℕ) (r : Step) : Type 0 where
   pub long : length cells′ ≡ length cells
-  pub leads : (rs : List Record) → Replaying file index rules constructors table rs → (t : Term) (q : ℕ) → Ready file cells rs held top t q
+  pub leads : (table : List (List (List ℕ))) (rs : List Record) → Replaying file index rules constructors table rs → IsRow table constructors (held .state) (held .number) row → (t : Term) (q : ℕ) → Ready file cells rs held top t q
       → LeadsTo file cells′ top letter (Replay.follow (automatonOf rs) (planOf rs) letter t q) r

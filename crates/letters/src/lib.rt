@@ -4,7 +4,6 @@ use closures::measure;
 use entries::place_at;
 use fronts::gather;
 use rows::arity_of;
-use rows::row_of;
 ghost use mathlib.Core.Path.{_≡_};
 ghost use Prim.Native.Nat.{_<_};
 ghost use Rattle.letters.specs.Letters.{IsTarget, Unfolds, Descends, Follows};
@@ -93,24 +92,23 @@ fn target(row: [u8; 4], arity: usize, count: usize, i: usize) -> usize
     wide(row[i])
 }
 
-// Letter i + 1: argument i of the constructor in front, with target i; its arguments in block `top`.
+// Letter i + 1: argument i of the constructor in front, with target i of the row for it; its arguments in block `top`.
 fn descend_held(
     file: &[u8],
     index: &[u16],
     constructors: usize,
-    table: [[[u8; 4]; 32]; 16],
+    row: [u8; 4],
     cells: &mut [u64],
     held: Held,
     i: usize,
     top: usize,
 ) -> Step
-    ensures { λ r. ⌜ Descends (now (file .entry)) (now (index .entry)) constructors table (now (cells .entry)) (now (cells .exit)) held i top r ⌝ }
+    ensures { λ r. ⌜ Descends (now (file .entry)) (now (index .entry)) constructors row (now (cells .entry)) (now (cells .exit)) held i top r ⌝ }
 {
     let c = held.number;
     if held.tag != 0 {
         return Step::Lost;
     }
-    let row = row_of(table, constructors, held.state, c);
     let arity = arity_of(file, index, constructors, c);
     let state = target(row, arity, held.count, i);
     if state == 256 {
@@ -132,31 +130,22 @@ fn descend_held(
     }
 }
 
-// A letter on the term held, with block `top` for the arguments of the next.
+// A letter on the term held, with the row of the table for its state and number, and block `top` for the next arguments.
 pub fn follow(
     file: &[u8],
     index: &[u16],
     rules: usize,
     constructors: usize,
-    table: [[[u8; 4]; 32]; 16],
+    row: [u8; 4],
     cells: &mut [u64],
     held: Held,
     letter: usize,
     top: usize,
 ) -> Step
-    ensures { λ r. ⌜ Follows (now (file .entry)) (now (index .entry)) rules constructors table (now (cells .entry)) (now (cells .exit)) held letter top r ⌝ }
+    ensures { λ r. ⌜ Follows (now (file .entry)) (now (index .entry)) rules constructors row (now (cells .entry)) (now (cells .exit)) held letter top r ⌝ }
 {
     if letter == 0 {
         return unfold_held(file, index, rules, cells, held, top);
     }
-    descend_held(
-        file,
-        index,
-        constructors,
-        table,
-        cells,
-        held,
-        letter - 1,
-        top,
-    )
+    descend_held(file, index, constructors, row, cells, held, letter - 1, top)
 }

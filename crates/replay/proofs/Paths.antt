@@ -1,9 +1,8 @@
 -- The path of a file, by its tables.
 use Prim.Native.Nat.{ℕ, _+_, _*_, _<_, _≤_}
 use native.Mathlib.Omega.{arith}
-use mathlib.Core.Path.{_≡_, refl, sym, ap, subst, _∙_}
+use mathlib.Core.Path.{_≡_, sym, ap, subst, _∙_}
 use mathlib.Core.List.{List, []}
-use mathlib.Core.Option.{none}
 use borrow.Author.Tests.{ltb-false}
 use lib.Dec.{ltb}
 use lib.ListN.{length, getD}
@@ -20,7 +19,7 @@ use Rattle.lookup.proofs.Found.{entry-there}
 use Rattle.moves.specs.Moves
 use Rattle.whole_bodies.proofs.Wholes.{whole-bodies}
 use Rattle.replay.specs.PathCases.{replayed}
-use Rattle.replay.specs.Replays.{pathAs, Runs, ReplaysPath}
+use Rattle.replay.specs.Replays.{Runs, ReplaysPath}
 use Rattle.replay.specs.declared.Replayed.{Replayed}
 
 -- "at most" 4,096 letters

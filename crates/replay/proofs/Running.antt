@@ -1,24 +1,22 @@
 -- The letters of a path one after another: what is left of the replay, and what it comes to.
-use Prim.Native.Nat.{ℕ, zero, suc, _+_, _*_, _/_, _%_, _<_, _≤_}
+use Prim.Native.Nat.{ℕ, suc, _+_, _*_, _<_, _≤_}
 use native.Mathlib.Omega.{arith}
-use mathlib.Core.Path.{_≡_, refl, sym, ap, ap₂, subst, _∙_}
-use mathlib.Core.Bool.{Bool, true, false}
+use mathlib.Core.Path.{_≡_, refl, sym, ap, subst, _∙_}
+use mathlib.Core.Bool.{true}
 use mathlib.Core.Logic.{⊎-elim}
 use mathlib.Core.List.{List, [], _∷_}
 use mathlib.Core.Option.{Option, none, some}
 use types.Run.{OneOf}
 use denote.Enum.Declared.{tagOf}
 use borrow.Author.Tests.{eq-eqb, ne-eqb, lt-ltb}
-use lib.Dec.{eqb}
-use lib.ListN.{length, getD, set, take, drop, length-set, drop-of-length-le}
-use lib.Seq.{drop-cons, take-suc-set}
+use lib.ListN.{length, getD, drop, drop-of-length-le}
+use lib.Seq.{drop-cons}
 use Rattle.scheme.specs.Lists.{if_then_else_}
 use Rattle.scheme.specs.Sorts.{o}
 use Rattle.scheme.specs.Sorting.{sortOf}
-use Rattle.scheme.specs.Terms.{Head, con, nt, par, Term, node, Terms, []ᵗ, countᵗ, nodes}
-use Rattle.scheme.specs.Prefix.{flat}
+use Rattle.scheme.specs.Terms.{Head, con, nt, par, Term, node, Terms, []ᵗ, nodes}
 use Rattle.scheme.specs.Reduction.{start}
-use Rattle.scheme.specs.Replay.{follow, unless, stuck, Ending, refutes, lost, outgrown, elsewhere, arrived, exceeds, followed, replay}
+use Rattle.scheme.specs.Replay.{follow, unless, stuck, Ending, outgrown, arrived, exceeds, followed, replay}
 use Rattle.scheme.specs.Replay
 use Rattle.records.specs.Fields.{field, byte}
 use Rattle.records.specs.Records.{Record}
@@ -36,8 +34,8 @@ use Rattle.letters.specs.declared.Held.{Held}
 use Rattle.letters.specs.declared.Step.{Step}
 use Rattle.letters.specs.declared.Step.the-variants.{Lost, TooLarge, At}
 use Rattle.letters.proofs.Step.{the-type}
-use Rattle.rows.proofs.Rows.{constructor-count}
-use Rattle.replay.specs.PathCases.{PathAnswer, refutedPath, refusedPath, nodeLimit, pathAnswer, replayed}
+use Rattle.rows.proofs.Rows.{noRow, row-past-constructors, constructor-count}
+use Rattle.replay.specs.PathCases.{refutedPath, pathAnswer, replayed}
 use Rattle.replay.specs.Replays.{pathAs, stoppedAt, Arrives, Runs}
 use Rattle.replay.specs.declared.Replayed.{Replayed}
 use Rattle.replay.specs.declared.Replayed.the-variants.{Refuted, Refused}
@@ -55,6 +53,18 @@ module _ (s : Step) (i : ℕ) where
   pub stop-none : (h : Held) → s ≡ At h → Refused 13 i ≡ stoppedAt s i
   unfolding stoppedAt
   stop-none h e = sym (ap (λ x. stoppedAt x i) e)
+
+-- no row past the last constructor
+pub row-past-room : {table : List (List (List ℕ))} {constructors q c : ℕ} → 32 ≤ c → IsRow table constructors q c noRow
+row-past-room {table} {constructors} {q} {c} h =
+    record {
+      targets = λ rs ok t e few. let w : IsRow table constructors q c noRow = row-past-constructors (omega arith) in w .targets rs ok t e few;
+      four = λ rs t. refl;
+    }
+
+-- a row that was found to be another
+pub row-found : {table : List (List (List ℕ))} {constructors q c : ℕ} {r row : List ℕ} → IsRow table constructors q c r → row ≡ r → IsRow table constructors q c row
+row-found {table} {constructors} {q} {c} w e = subst (IsRow table constructors q c) (sym e) w
 
 -- behind the last letter
 module _ (table : List (List (List ℕ))) (constructors : ℕ) (held : Held) (n : ℕ) where
@@ -141,7 +151,7 @@ unfolding field
 byte-get s i = omega arith
 
 module _ {file index : List ℕ} {rules constructors : ℕ} {table : List (List (List ℕ))} {path cells₀ cells : List ℕ} {held : Held} {i : ℕ} (w : Running file index rules constructors table path cells₀ cells held i) where
-  module _ (h : i < length path) (letter : ℕ) (el : letter ≡ byte path i) (cells′ : List ℕ) (step : Step) (i′ : ℕ) (ei : i′ ≡ i + 1) (follows : Follows file index rules constructors table cells cells′ held letter i′ step) where
+  module _ (h : i < length path) (letter : ℕ) (el : letter ≡ byte path i) (cells′ : List ℕ) (step : Step) (i′ : ℕ) (ei : i′ ≡ i + 1) (row : List ℕ) (is-row : IsRow table constructors (held .state) (held .number) row) (follows : Follows file index rules constructors row cells cells′ held letter i′ step) where
     -- the letters from number i on are this one and the others
     one-more : (rs : List Record) (t : Term) (q : ℕ) → replay 4096 (automatonOf rs) (planOf rs) i (drop i path) t q
         ≡ followed 4096 i letter (λ a. replay 4096 (automatonOf rs) (planOf rs) (i + 1) (drop (suc i) path) (a .term) (a .state)) (follow (automatonOf rs) (planOf rs) letter t q)
@@ -151,7 +161,7 @@ module _ {file index : List ℕ} {rules constructors : ℕ} {table : List (List 
     reached : (rs : List Record) → Replaying file index rules constructors table rs → length path * 8 + 8 ≤ length cells₀ → length path ≤ 4096 → (x : Onward file path cells held i rs)
         → LeadsTo file cells′ i′ letter (follow (automatonOf rs) (planOf rs) letter (x .term) (x .state)) step
     reached rs s room short x =
-        follows .leads rs s (x .term) (x .state)
+        follows .leads table rs s is-row (x .term) (x .state)
         (record { few = omega arith; room = let l = w .long in omega arith; sorted = x .sorted; holding = subst (λ n. Holding file cells n held (x .term) (x .state)) (sym ei) (x .holding) })
 
     pub run-next : (next : Held) → step ≡ At next → Running file index rules constructors table path cells₀ cells′ next i′

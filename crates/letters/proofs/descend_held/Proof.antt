@@ -7,9 +7,6 @@ use Rattle.letters.proofs.descend_held.Tie as tie
 returns : tie.Need-returns
 returns c = descend-not (c .if1 .taken)
 
-row-of-requires : tie.Need-row-of-requires
-row-of-requires c κs = search needs
-
 arity-of-requires : tie.Need-arity-of-requires
 arity-of-requires c κs = search needs
 
@@ -17,7 +14,7 @@ target-requires : tie.Need-target-requires
 target-requires c κs = search needs
 
 returns-2 : tie.Need-returns-2
-returns-2 c = descend-lost (c .before .before .before .before .if1 .left) _ _ (c .before .before .before .row-of .ensures) (c .before .before .arity-of .ensures) _ (c .before .target .ensures) (c .if2 .taken)
+returns-2 c = descend-lost (c .before .before .before .if1 .left) _ (c .before .before .arity-of .ensures) _ (c .before .target .ensures) (c .if2 .taken)
 
 closure-at-requires : tie.Need-closure-at-requires
 closure-at-requires c κs = search needs
@@ -29,14 +26,13 @@ same-length : tie.Need-same-length
 same-length c = search needs
 
 returns-3 : tie.Need-returns-3
-returns-3 c = descend-does (c .before .before .before .before .before .before .before .before .before .before .if1 .left) _ _ (c .before .before .before .before .before .before .before .before .before .row-of .ensures) (c .before .before .before .before .before .before .before .before .arity-of .ensures) _ (c .before .before .before .before .before .before .before .target .ensures) (c .before .before .before .before .before .before .if2 .left) _ (c .before .before .before .before .closure-at .ensures) _ (c .before .before .gather .ensures)
+returns-3 c = descend-does (c .before .before .before .before .before .before .before .before .before .if1 .left) _ (c .before .before .before .before .before .before .before .before .arity-of .ensures) _ (c .before .before .before .before .before .before .before .target .ensures) (c .before .before .before .before .before .before .if2 .left) _ (c .before .before .before .before .closure-at .ensures) _ (c .before .before .gather .ensures)
 
 pub descend-held-spec : {M : Type 1} → statement M
 descend-held-spec =
     tie.close
     (tie.spec
     returns
-    row-of-requires
     arity-of-requires
     target-requires
     returns-2

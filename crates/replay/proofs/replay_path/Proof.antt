@@ -37,7 +37,16 @@ run-requires-2 : tie.Need-run-requires-2
 run-requires-2 c κs = search needs
 
 returns-2 : tie.Need-returns-2
-returns-2 c = replay-answer (c .before .before .before .before .before .before .before .before .place-at .ensures .value) (c .before .before .before .before .before .place-at2 .ensures .value) (c .before .before .before .before .place-at3 .ensures .value) (c .before .before .before .before .before .before .before .moves .ensures) _ (c .before .before .before .before .before .before .entry .ensures) 32776 refl (λ short. omega arith) (c .before .run2 .ensures)
+returns-2 c = replay-answer (c .before .before .before .before .before .before .before .before .before .place-at .ensures .value) (c .before .before .before .before .before .before .place-at2 .ensures .value) (c .before .before .before .before .before .place-at3 .ensures .value) (c .before .before .before .before .before .before .before .before .moves .ensures) _ (c .before .before .before .before .before .before .before .entry .ensures) 4104 refl (λ short. let few = c .before .before .before .if2 .taken in omega arith) (c .before .run2 .ensures)
+
+slice-aggregate-run-3 : tie.Need-slice-aggregate-run-3
+slice-aggregate-run-3 c = search needs
+
+run-requires-3 : tie.Need-run-requires-3
+run-requires-3 c κs = search needs
+
+returns-3 : tie.Need-returns-3
+returns-3 c = replay-answer (c .before .before .before .before .before .before .before .before .before .place-at .ensures .value) (c .before .before .before .before .before .before .place-at2 .ensures .value) (c .before .before .before .before .before .place-at3 .ensures .value) (c .before .before .before .before .before .before .before .before .moves .ensures) _ (c .before .before .before .before .before .before .before .entry .ensures) 32776 refl (λ short. omega arith) (c .before .run3 .ensures)
 
 pub replay-path-spec : {M : Type 1} → statement M
 replay-path-spec =
@@ -53,4 +62,7 @@ replay-path-spec =
     returns
     slice-aggregate-run-2
     run-requires-2
-    returns-2)
+    returns-2
+    slice-aggregate-run-3
+    run-requires-3
+    returns-3)
