@@ -74,7 +74,7 @@ fn wide(x: u8) -> usize
 
 // The target for argument i of a constructor, by the row of the table, its argument count and the arguments held; 256
 // where there is no such argument, no such target or no transition.
-fn target(row: [u8; 4], arity: usize, count: usize, i: usize) -> usize
+fn target_for(row: [u8; 4], arity: usize, count: usize, i: usize) -> usize
     ensures { λ r. ⌜ IsTarget row arity count i r ⌝ }
 {
     if row[0] == 255 {
@@ -110,7 +110,7 @@ fn descend_held(
         return Step::Lost;
     }
     let arity = arity_of(file, index, constructors, c);
-    let state = target(row, arity, held.count, i);
+    let state = target_for(row, arity, held.count, i);
     if state == 256 {
         return Step::Lost;
     }

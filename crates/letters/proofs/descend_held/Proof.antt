@@ -10,11 +10,11 @@ returns c = descend-not (c .if1 .taken)
 arity-of-requires : tie.Need-arity-of-requires
 arity-of-requires c κs = search needs
 
-target-requires : tie.Need-target-requires
-target-requires c κs = search needs
+target-for-requires : tie.Need-target-for-requires
+target-for-requires c κs = search needs
 
 returns-2 : tie.Need-returns-2
-returns-2 c = descend-lost (c .before .before .before .if1 .left) _ (c .before .before .arity-of .ensures) _ (c .before .target .ensures) (c .if2 .taken)
+returns-2 c = descend-lost (c .before .before .before .if1 .left) _ (c .before .before .arity-of .ensures) _ (c .before .target-for .ensures) (c .if2 .taken)
 
 closure-at-requires : tie.Need-closure-at-requires
 closure-at-requires c κs = search needs
@@ -26,7 +26,7 @@ same-length : tie.Need-same-length
 same-length c = search needs
 
 returns-3 : tie.Need-returns-3
-returns-3 c = descend-does (c .before .before .before .before .before .before .before .before .before .if1 .left) _ (c .before .before .before .before .before .before .before .before .arity-of .ensures) _ (c .before .before .before .before .before .before .before .target .ensures) (c .before .before .before .before .before .before .if2 .left) _ (c .before .before .before .before .closure-at .ensures) _ (c .before .before .gather .ensures)
+returns-3 c = descend-does (c .before .before .before .before .before .before .before .before .before .if1 .left) _ (c .before .before .before .before .before .before .before .before .arity-of .ensures) _ (c .before .before .before .before .before .before .before .target-for .ensures) (c .before .before .before .before .before .before .if2 .left) _ (c .before .before .before .before .closure-at .ensures) _ (c .before .before .gather .ensures)
 
 pub descend-held-spec : {M : Type 1} → statement M
 descend-held-spec =
@@ -34,7 +34,7 @@ descend-held-spec =
     (tie.spec
     returns
     arity-of-requires
-    target-requires
+    target-for-requires
     returns-2
     closure-at-requires
     gather-requires
