@@ -74,24 +74,7 @@ pub fn check_term(
     if old == 1 {
         return false;
     }
-    if tag == 0 {
-        let yes = check_targets(
-            file,
-            index,
-            groups,
-            kept,
-            ends,
-            body,
-            table,
-            test,
-            memo,
-            at,
-            goal,
-        );
-        learn(memo, types + 16, test.stamp, at, goal, yes);
-        return yes;
-    }
-    let yes = check_choices(
+    let yes = check_head(
         file,
         index,
         groups,
@@ -108,9 +91,8 @@ pub fn check_term(
     yes
 }
 
-// Whether the term at a node with a constructor in front has the goal: the targets of its transition at the state in which
-// the goal ends give the goal, and each argument has its target.
-fn check_targets(
+// Whether some type of the head at a node leads to the goal.
+fn check_head(
     file: &[u8],
     index: &[u16],
     groups: &[u16],
@@ -123,7 +105,64 @@ fn check_targets(
     at: usize,
     goal: usize,
 ) -> bool
-    ensures { λ r. ⌜ ChecksTargets (record { file = now (file .entry); index = now (index .entry); groups = now (groups .entry); kept = now (kept .entry); ends = now (ends .entry); body = now (body .entry); table = table; test = test }) (now (memo .entry)) at goal (now (memo .exit)) r ⌝ }
+    ensures { λ r. ⌜ ChecksTerm (record { file = now (file .entry); index = now (index .entry); groups = now (groups .entry); kept = now (kept .entry); ends = now (ends .entry); body = now (body .entry); table = table; test = test }) (now (memo .entry)) at goal (now (memo .exit)) r ⌝ }
+{
+    if body.len() / 4 <= at {
+        return false;
+    }
+    if byte_at(body, at * 4) != 0 {
+        return check_choices(
+            file,
+            index,
+            groups,
+            kept,
+            ends,
+            body,
+            table,
+            test,
+            memo,
+            at,
+            goal,
+        );
+    }
+    let types = test.types;
+    let constructors = test.constructors;
+    let c = word_at(body, at * 4 + 1);
+    let count = byte_at(body, at * 4 + 3);
+    let q = state_at(file, index, types, constructors, c, count, goal);
+    check_targets(
+        file,
+        index,
+        groups,
+        kept,
+        ends,
+        body,
+        table,
+        test,
+        memo,
+        at,
+        goal,
+        q,
+    )
+}
+
+// The same for a constructor with the goal for its type, which ends in state q: the targets of its transition at q give
+// the goal, and each argument has its target.
+fn check_targets(
+    file: &[u8],
+    index: &[u16],
+    groups: &[u16],
+    kept: &[u8],
+    ends: &[u16],
+    body: &[u8],
+    table: [[[u8; 4]; 32]; 16],
+    test: Test,
+    memo: &mut [u8],
+    at: usize,
+    goal: usize,
+    q: usize,
+) -> bool
+    ensures { λ r. ⌜ ChecksTargets (record { file = now (file .entry); index = now (index .entry); groups = now (groups .entry); kept = now (kept .entry); ends = now (ends .entry); body = now (body .entry); table = table; test = test }) (now (memo .entry)) at goal q (now (memo .exit)) r ⌝ }
 {
     if body.len() / 4 <= at {
         return false;
@@ -133,7 +172,6 @@ fn check_targets(
     let c = word_at(body, at * 4 + 1);
     let count = byte_at(body, at * 4 + 3);
     let mut next = at + 1;
-    let q = state_at(file, index, types, constructors, c, count, goal);
     if 16 <= q {
         return false;
     }
@@ -175,8 +213,7 @@ fn check_targets(
     true
 }
 
-// The same with a nonterminal or a parameter in front: one of its types leads to the goal, and the arguments have what it
-// asks for.
+// The same for a nonterminal or a parameter: one of its types leads to the goal, and the arguments have what it asks for.
 fn check_choices(
     file: &[u8],
     index: &[u16],

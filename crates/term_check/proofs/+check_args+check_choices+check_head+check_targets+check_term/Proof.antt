@@ -1,4 +1,4 @@
--- `check_term`, `check_targets`, `check_choices` and `check_args` meet their contracts.
+-- `check_term`, `check_head`, `check_targets`, `check_choices` and `check_args` meet their contracts.
 use Prim.Native.Nat.{_+_, _-_, _*_, _/_}
 use mathlib.Core.Path.{_≡_, refl, sym, _∙_}
 use mathlib.Core.Bool.{true, false}
@@ -11,7 +11,7 @@ use borrow.Author.Tests.{not-true, not-false}
 use lib.ListN.{length, getD}
 use Rattle.term_check.proofs.Arguments.{Args, member-few, args-start, args-end, args-stuck, args-next, args-lacks, args-has}
 use Rattle.term_check.proofs.Heads.{types-many, term-past, known-yes, known-no, term-learnt, other-head}
-use Rattle.term_check.proofs.Targets.{targets-no-state, targets-no-constructor, targets-not-served, targets-told, target-past, target-stuck, target-lacks, target-has}
+use Rattle.term_check.proofs.Targets.{targets-no-state, targets-no-constructor, targets-not-served, targets-told, head-told, target-past, target-stuck, target-lacks, target-has}
 use Rattle.term_check.proofs.Choices.{bare-checked, Tried, tried-start, tried-end, tried-miss, tried-fails, tried-leads}
 use Rattle.wants.proofs.Wanting.{follow-result}
 use Prim.Native.Nat.{ℕ, _<_}
@@ -19,16 +19,19 @@ use borrow.Fn.Kinds.{In}
 use borrow.Fn.PlainCycle.{Measures, is, falls, and}
 use Rattle.term_check.proofs.check_args.Reads as check-args
 use Rattle.term_check.proofs.check_args.Kinds as check-args-kinds
-use Rattle.term_check.proofs.+check_args+check_choices+check_targets+check_term.Lts-check_args as check-args-lts
+use Rattle.term_check.proofs.+check_args+check_choices+check_head+check_targets+check_term.Lts-check_args as check-args-lts
 use Rattle.term_check.proofs.check_choices.Reads as check-choices
 use Rattle.term_check.proofs.check_choices.Kinds as check-choices-kinds
-use Rattle.term_check.proofs.+check_args+check_choices+check_targets+check_term.Lts-check_choices as check-choices-lts
+use Rattle.term_check.proofs.+check_args+check_choices+check_head+check_targets+check_term.Lts-check_choices as check-choices-lts
+use Rattle.term_check.proofs.check_head.Reads as check-head
+use Rattle.term_check.proofs.check_head.Kinds as check-head-kinds
+use Rattle.term_check.proofs.+check_args+check_choices+check_head+check_targets+check_term.Lts-check_head as check-head-lts
 use Rattle.term_check.proofs.check_targets.Reads as check-targets
 use Rattle.term_check.proofs.check_targets.Kinds as check-targets-kinds
-use Rattle.term_check.proofs.+check_args+check_choices+check_targets+check_term.Lts-check_targets as check-targets-lts
+use Rattle.term_check.proofs.+check_args+check_choices+check_head+check_targets+check_term.Lts-check_targets as check-targets-lts
 use Rattle.term_check.proofs.check_term.Reads as check-term
 use Rattle.term_check.proofs.check_term.Kinds as check-term-kinds
-use Rattle.term_check.proofs.+check_args+check_choices+check_targets+check_term.Lts-check_term as check-term-lts
+use Rattle.term_check.proofs.+check_args+check_choices+check_head+check_targets+check_term.Lts-check_term as check-term-lts
 use Rattle.bare_heads.proofs.bare_has.Reads as bare-has-reads
 use Rattle.candidates.proofs.candidate.Reads as candidate-reads
 use Rattle.candidates.proofs.span_of.Reads as span-of-reads
@@ -42,14 +45,21 @@ use Rattle.serving.proofs.row_serves.Reads as row-serves-reads
 use Rattle.serving.proofs.state_at.Reads as state-at-reads
 use Rattle.wants.proofs.target_of.Reads as target-of-reads
 use Rattle.wants.proofs.wanted.Reads as wanted-reads
-use Rattle.term_check.proofs.+check_args+check_choices+check_targets+check_term.{statement}
-use Rattle.term_check.proofs.+check_args+check_choices+check_targets+check_term.Tie.{close}
+use Rattle.term_check.proofs.+check_args+check_choices+check_head+check_targets+check_term.{
+  statement,
+}
+use Rattle.term_check.proofs.+check_args+check_choices+check_head+check_targets+check_term.Tie.{
+  close,
+}
 
 abbrev μ-check-args : Measures 7 check-args-kinds.ps ℕ
 μ-check-args κs a = (length (a .1 .1 .1 .1 .1 .0 .now) / 4 - a .1 .1 .1 .1 .1 .1 .1 .1 .1 .0) * 4 + 4
 
 abbrev μ-check-choices : Measures 7 check-choices-kinds.ps ℕ
 μ-check-choices κs a = (length (a .1 .1 .1 .1 .1 .0 .now) / 4 - a .1 .1 .1 .1 .1 .1 .1 .1 .1 .0) * 4 + 1
+
+abbrev μ-check-head : Measures 7 check-head-kinds.ps ℕ
+μ-check-head κs a = (length (a .1 .1 .1 .1 .1 .0 .now) / 4 - a .1 .1 .1 .1 .1 .1 .1 .1 .1 .0) * 4 + 2
 
 abbrev μ-check-targets : Measures 7 check-targets-kinds.ps ℕ
 μ-check-targets κs a = (length (a .1 .1 .1 .1 .1 .0 .now) / 4 - a .1 .1 .1 .1 .1 .1 .1 .1 .1 .0) * 4 + 1
@@ -77,6 +87,14 @@ check-choices-below t =
     (falls 7 check-choices-kinds.ps _<_ μ-check-choices t)
     check-choices.Pre
 
+abbrev check-head-at : ℕ → In 7 check-head-kinds.ps
+check-head-at t =
+    and 7 check-head-kinds.ps (is 7 check-head-kinds.ps μ-check-head t) check-head.Pre
+
+abbrev check-head-below : ℕ → In 7 check-head-kinds.ps
+check-head-below t =
+    and 7 check-head-kinds.ps (falls 7 check-head-kinds.ps _<_ μ-check-head t) check-head.Pre
+
 abbrev check-targets-at : ℕ → In 7 check-targets-kinds.ps
 check-targets-at t =
     and 7 check-targets-kinds.ps (is 7 check-targets-kinds.ps μ-check-targets t) check-targets.Pre
@@ -103,7 +121,7 @@ check-args-Inv-loop file index groups kept ends body table test memo₀ first co
 abbrev check-args-μ-loop : check-args-lts.MeasureT-loop
 check-args-μ-loop file index groups kept ends body table test memo₀ first count head types at₀ i₀ j₀ asked₀ memo at i j asked = (count - i) * 17 + (16 - j)
 
--- src/lib.rt:243:5
+-- src/lib.rt:280:5
 check-args-loop-holds : (t : ℕ) → check-args-lts.Need-loop-holds (
   wanted-reads.Asked,
   wanted-reads.Learnt,
@@ -116,7 +134,7 @@ check-args-loop-holds : (t : ℕ) → check-args-lts.Need-loop-holds (
 ) (check-args-at t) check-args.Post check-args-Inv-loop check-args-μ-loop
 check-args-loop-holds t c = args-start _ _ _ _ _ _ _
 
--- src/lib.rt:244:13
+-- src/lib.rt:281:13
 check-args-wanted-requires : (t : ℕ) → check-args-lts.Need-wanted-requires (
   wanted-reads.Asked,
   wanted-reads.Learnt,
@@ -129,7 +147,7 @@ check-args-wanted-requires : (t : ℕ) → check-args-lts.Need-wanted-requires (
 ) (check-args-at t) check-args.Post check-args-Inv-loop check-args-μ-loop
 check-args-wanted-requires t c κs = search needs
 
--- src/lib.rt:246:17
+-- src/lib.rt:283:17
 check-args-place-at-requires : (t : ℕ) → check-args-lts.Need-place-at-requires (
   wanted-reads.Asked,
   wanted-reads.Learnt,
@@ -142,7 +160,7 @@ check-args-place-at-requires : (t : ℕ) → check-args-lts.Need-place-at-requir
 ) (check-args-at t) check-args.Post check-args-Inv-loop check-args-μ-loop
 check-args-place-at-requires t c κs = search needs
 
--- src/lib.rt:248:17
+-- src/lib.rt:285:17
 check-args-same-length : (t : ℕ) → check-args-lts.Need-same-length (
   wanted-reads.Asked,
   wanted-reads.Learnt,
@@ -155,7 +173,7 @@ check-args-same-length : (t : ℕ) → check-args-lts.Need-same-length (
 ) (check-args-at t) check-args.Post check-args-Inv-loop check-args-μ-loop
 check-args-same-length t c = c .before .before .before .before .before .loop .inv .keeps .long
 
--- src/lib.rt:248:17
+-- src/lib.rt:285:17
 check-args-returns : (t : ℕ) → check-args-lts.Need-returns (
   wanted-reads.Asked,
   wanted-reads.Learnt,
@@ -168,7 +186,7 @@ check-args-returns : (t : ℕ) → check-args-lts.Need-returns (
 ) (check-args-at t) check-args.Post check-args-Inv-loop check-args-μ-loop
 check-args-returns t c = args-stuck _ (c .before .before .before .before .before .loop .inv) (c .before .before .before .before .loop-test .taken) _ (c .before .before .before .wanted .ensures _ _) _ (c .before .place-at .ensures .value) (c .if2 .taken)
 
--- src/lib.rt:250:13
+-- src/lib.rt:287:13
 check-args-result-of-requires : (t : ℕ) → check-args-lts.Need-result-of-requires (
   wanted-reads.Asked,
   wanted-reads.Learnt,
@@ -181,7 +199,7 @@ check-args-result-of-requires : (t : ℕ) → check-args-lts.Need-result-of-requ
 ) (check-args-at t) check-args.Post check-args-Inv-loop check-args-μ-loop
 check-args-result-of-requires t c κs = search needs
 
--- src/lib.rt:252:17
+-- src/lib.rt:289:17
 check-args-add-i : (t : ℕ) → check-args-lts.Need-add-i (
   wanted-reads.Asked,
   wanted-reads.Learnt,
@@ -194,7 +212,7 @@ check-args-add-i : (t : ℕ) → check-args-lts.Need-add-i (
 ) (check-args-at t) check-args.Post check-args-Inv-loop check-args-μ-loop
 check-args-add-i t c = let h = c .before .before .before .before .before .loop-test .taken in omega arith
 
--- src/lib.rt:243:5
+-- src/lib.rt:280:5
 check-args-loop-less : (t : ℕ) → check-args-lts.Need-loop-less (
   wanted-reads.Asked,
   wanted-reads.Learnt,
@@ -207,7 +225,7 @@ check-args-loop-less : (t : ℕ) → check-args-lts.Need-loop-less (
 ) (check-args-at t) check-args.Post check-args-Inv-loop check-args-μ-loop
 check-args-loop-less t c = let h = c .before .before .before .before .before .loop-test .taken in let f = c .before .before .before .before .before .before .loop .inv .few in omega arith
 
--- src/lib.rt:243:5
+-- src/lib.rt:280:5
 check-args-loop-again : (t : ℕ) → check-args-lts.Need-loop-again (
   wanted-reads.Asked,
   wanted-reads.Learnt,
@@ -220,7 +238,7 @@ check-args-loop-again : (t : ℕ) → check-args-lts.Need-loop-again (
 ) (check-args-at t) check-args.Post check-args-Inv-loop check-args-μ-loop
 check-args-loop-again t c = args-next _ (c .before .before .before .before .before .before .loop .inv) (c .before .before .before .before .before .loop-test .taken) _ (c .before .before .before .before .wanted .ensures _ _) (c .before .before .before .if1 .taken) _ _ _ (c .before .before .place-at .ensures .value) (let h = c .before .if2 .left in omega arith) (follow-result _ (c .result-of .ensures)) (omega arith)
 
--- src/lib.rt:255:17
+-- src/lib.rt:292:17
 check-args-add-j : (t : ℕ) → check-args-lts.Need-add-j (
   wanted-reads.Asked,
   wanted-reads.Learnt,
@@ -233,7 +251,7 @@ check-args-add-j : (t : ℕ) → check-args-lts.Need-add-j (
 ) (check-args-at t) check-args.Post check-args-Inv-loop check-args-μ-loop
 check-args-add-j t c = let f = c .before .before .before .loop .inv .few in omega arith
 
--- src/lib.rt:256:17
+-- src/lib.rt:293:17
 check-args-check-term-requires : (t : ℕ) → check-args-lts.Need-check-term-requires (
   wanted-reads.Asked,
   wanted-reads.Learnt,
@@ -246,7 +264,7 @@ check-args-check-term-requires : (t : ℕ) → check-args-lts.Need-check-term-re
 ) (check-args-at t) check-args.Post check-args-Inv-loop check-args-μ-loop
 check-args-check-term-requires t c κs = let p = c .before .before .before .before .before .before .before .before .before .before .before .before .pre .0 in let f = c .before .before .before .before .loop .inv .forward in (omega arith, Prim.tt)
 
--- src/lib.rt:269:17
+-- src/lib.rt:306:17
 check-args-same-length-2 : (t : ℕ) → check-args-lts.Need-same-length-2 (
   wanted-reads.Asked,
   wanted-reads.Learnt,
@@ -259,7 +277,7 @@ check-args-same-length-2 : (t : ℕ) → check-args-lts.Need-same-length-2 (
 ) (check-args-at t) check-args.Post check-args-Inv-loop check-args-μ-loop
 check-args-same-length-2 t c = (args-lacks _ (c .before .before .before .before .before .before .before .before .loop .inv) (c .before .before .before .before .before .before .before .loop-test .taken) _ (c .before .before .before .before .before .before .wanted .ensures _ _) (c .before .before .before .before .before .if1 .left) _ _ (c .before .before .before .check-term .ensures) (not-true _ (c .if3 .taken))) .keeps .long
 
--- src/lib.rt:269:17
+-- src/lib.rt:306:17
 check-args-returns-2 : (t : ℕ) → check-args-lts.Need-returns-2 (
   wanted-reads.Asked,
   wanted-reads.Learnt,
@@ -272,7 +290,7 @@ check-args-returns-2 : (t : ℕ) → check-args-lts.Need-returns-2 (
 ) (check-args-at t) check-args.Post check-args-Inv-loop check-args-μ-loop
 check-args-returns-2 t c = args-lacks _ (c .before .before .before .before .before .before .before .before .loop .inv) (c .before .before .before .before .before .before .before .loop-test .taken) _ (c .before .before .before .before .before .before .wanted .ensures _ _) (c .before .before .before .before .before .if1 .left) _ _ (c .before .before .before .check-term .ensures) (not-true _ (c .if3 .taken))
 
--- src/lib.rt:243:5
+-- src/lib.rt:280:5
 check-args-loop-less-2 : (t : ℕ) → check-args-lts.Need-loop-less-2 (
   wanted-reads.Asked,
   wanted-reads.Learnt,
@@ -285,7 +303,7 @@ check-args-loop-less-2 : (t : ℕ) → check-args-lts.Need-loop-less-2 (
 ) (check-args-at t) check-args.Post check-args-Inv-loop check-args-μ-loop
 check-args-loop-less-2 t c = let h = c .before .before .before .before .before .before .before .loop-test .taken in let f = member-few _ _ (c .before .before .before .before .before .before .wanted .ensures [] 0 .few) (c .before .before .before .before .before .if1 .left) in omega arith
 
--- src/lib.rt:243:5
+-- src/lib.rt:280:5
 check-args-loop-again-2 : (t : ℕ) → check-args-lts.Need-loop-again-2 (
   wanted-reads.Asked,
   wanted-reads.Learnt,
@@ -298,7 +316,7 @@ check-args-loop-again-2 : (t : ℕ) → check-args-lts.Need-loop-again-2 (
 ) (check-args-at t) check-args.Post check-args-Inv-loop check-args-μ-loop
 check-args-loop-again-2 t c = args-has _ (c .before .before .before .before .before .before .before .before .loop .inv) (c .before .before .before .before .before .before .before .loop-test .taken) _ (c .before .before .before .before .before .before .wanted .ensures _ _) (c .before .before .before .before .before .if1 .left) _ _ (c .before .before .before .check-term .ensures) (not-false _ (c .if3 .left)) _ (omega arith)
 
--- src/lib.rt:222:1
+-- src/lib.rt:259:1
 check-args-same-length-3 : (t : ℕ) → check-args-lts.Need-same-length-3 (
   wanted-reads.Asked,
   wanted-reads.Learnt,
@@ -311,7 +329,7 @@ check-args-same-length-3 : (t : ℕ) → check-args-lts.Need-same-length-3 (
 ) (check-args-at t) check-args.Post check-args-Inv-loop check-args-μ-loop
 check-args-same-length-3 t c = c .before .loop .inv .keeps .long
 
--- src/lib.rt:222:1
+-- src/lib.rt:259:1
 check-args-returns-3 : (t : ℕ) → check-args-lts.Need-returns-3 (
   wanted-reads.Asked,
   wanted-reads.Learnt,
@@ -330,7 +348,7 @@ check-choices-Inv-loop file index groups kept ends body table test memo₀ at go
 abbrev check-choices-μ-loop : check-choices-lts.MeasureT-loop
 check-choices-μ-loop file index groups kept ends body table test memo₀ at goal first nonterminal number count types span given j₀ memo j = span .high - j
 
--- src/lib.rt:186:9
+-- src/lib.rt:223:9
 check-choices-returns : (t : ℕ) → check-choices-lts.Need-returns (
   byte-at-reads.Asked,
   byte-at-reads.Learnt,
@@ -345,7 +363,7 @@ check-choices-returns : (t : ℕ) → check-choices-lts.Need-returns (
 ) (check-choices-at t) check-choices.Post check-choices-Inv-loop check-choices-μ-loop
 check-choices-returns t c = λ other. term-past _ _ _ _ (c .if1 .taken)
 
--- src/lib.rt:188:17
+-- src/lib.rt:225:17
 check-choices-add-first : (t : ℕ) → check-choices-lts.Need-add-first (
   byte-at-reads.Asked,
   byte-at-reads.Learnt,
@@ -360,7 +378,7 @@ check-choices-add-first : (t : ℕ) → check-choices-lts.Need-add-first (
 ) (check-choices-at t) check-choices.Post check-choices-Inv-loop check-choices-μ-loop
 check-choices-add-first t c = search needs
 
--- src/lib.rt:189:37
+-- src/lib.rt:226:37
 check-choices-mul-byte-at : (t : ℕ) → check-choices-lts.Need-mul-byte-at (
   byte-at-reads.Asked,
   byte-at-reads.Learnt,
@@ -375,7 +393,7 @@ check-choices-mul-byte-at : (t : ℕ) → check-choices-lts.Need-mul-byte-at (
 ) (check-choices-at t) check-choices.Post check-choices-Inv-loop check-choices-μ-loop
 check-choices-mul-byte-at t c = search needs
 
--- src/lib.rt:189:23
+-- src/lib.rt:226:23
 check-choices-byte-at-requires : (t : ℕ) → check-choices-lts.Need-byte-at-requires (
   byte-at-reads.Asked,
   byte-at-reads.Learnt,
@@ -390,7 +408,7 @@ check-choices-byte-at-requires : (t : ℕ) → check-choices-lts.Need-byte-at-re
 ) (check-choices-at t) check-choices.Post check-choices-Inv-loop check-choices-μ-loop
 check-choices-byte-at-requires t c κs = search needs
 
--- src/lib.rt:190:32
+-- src/lib.rt:227:32
 check-choices-mul-word-at : (t : ℕ) → check-choices-lts.Need-mul-word-at (
   byte-at-reads.Asked,
   byte-at-reads.Learnt,
@@ -405,7 +423,7 @@ check-choices-mul-word-at : (t : ℕ) → check-choices-lts.Need-mul-word-at (
 ) (check-choices-at t) check-choices.Post check-choices-Inv-loop check-choices-μ-loop
 check-choices-mul-word-at t c = search needs
 
--- src/lib.rt:190:32
+-- src/lib.rt:227:32
 check-choices-add-word-at : (t : ℕ) → check-choices-lts.Need-add-word-at (
   byte-at-reads.Asked,
   byte-at-reads.Learnt,
@@ -420,7 +438,7 @@ check-choices-add-word-at : (t : ℕ) → check-choices-lts.Need-add-word-at (
 ) (check-choices-at t) check-choices.Post check-choices-Inv-loop check-choices-μ-loop
 check-choices-add-word-at t c = search needs
 
--- src/lib.rt:190:9
+-- src/lib.rt:227:9
 check-choices-word-at-requires : (t : ℕ) → check-choices-lts.Need-word-at-requires (
   byte-at-reads.Asked,
   byte-at-reads.Learnt,
@@ -435,7 +453,7 @@ check-choices-word-at-requires : (t : ℕ) → check-choices-lts.Need-word-at-re
 ) (check-choices-at t) check-choices.Post check-choices-Inv-loop check-choices-μ-loop
 check-choices-word-at-requires t c κs = search needs
 
--- src/lib.rt:191:31
+-- src/lib.rt:228:31
 check-choices-mul-byte-at-2 : (t : ℕ) → check-choices-lts.Need-mul-byte-at-2 (
   byte-at-reads.Asked,
   byte-at-reads.Learnt,
@@ -450,7 +468,7 @@ check-choices-mul-byte-at-2 : (t : ℕ) → check-choices-lts.Need-mul-byte-at-2
 ) (check-choices-at t) check-choices.Post check-choices-Inv-loop check-choices-μ-loop
 check-choices-mul-byte-at-2 t c = search needs
 
--- src/lib.rt:191:31
+-- src/lib.rt:228:31
 check-choices-add-byte-at : (t : ℕ) → check-choices-lts.Need-add-byte-at (
   byte-at-reads.Asked,
   byte-at-reads.Learnt,
@@ -465,7 +483,7 @@ check-choices-add-byte-at : (t : ℕ) → check-choices-lts.Need-add-byte-at (
 ) (check-choices-at t) check-choices.Post check-choices-Inv-loop check-choices-μ-loop
 check-choices-add-byte-at t c = search needs
 
--- src/lib.rt:191:9
+-- src/lib.rt:228:9
 check-choices-byte-at-requires-2 : (t : ℕ) → check-choices-lts.Need-byte-at-requires-2 (
   byte-at-reads.Asked,
   byte-at-reads.Learnt,
@@ -480,7 +498,7 @@ check-choices-byte-at-requires-2 : (t : ℕ) → check-choices-lts.Need-byte-at-
 ) (check-choices-at t) check-choices.Post check-choices-Inv-loop check-choices-μ-loop
 check-choices-byte-at-requires-2 t c κs = search needs
 
--- src/lib.rt:193:9
+-- src/lib.rt:230:9
 check-choices-span-of-requires : (t : ℕ) → check-choices-lts.Need-span-of-requires (
   byte-at-reads.Asked,
   byte-at-reads.Learnt,
@@ -495,7 +513,7 @@ check-choices-span-of-requires : (t : ℕ) → check-choices-lts.Need-span-of-re
 ) (check-choices-at t) check-choices.Post check-choices-Inv-loop check-choices-μ-loop
 check-choices-span-of-requires t c κs = search needs
 
--- src/lib.rt:196:5
+-- src/lib.rt:233:5
 check-choices-loop-holds : (t : ℕ) → check-choices-lts.Need-loop-holds (
   byte-at-reads.Asked,
   byte-at-reads.Learnt,
@@ -510,7 +528,7 @@ check-choices-loop-holds : (t : ℕ) → check-choices-lts.Need-loop-holds (
 ) (check-choices-at t) check-choices.Post check-choices-Inv-loop check-choices-μ-loop
 check-choices-loop-holds t c = tried-start _ _ _ _ _ _ _ (c .before .byte-at2 .ensures .value) (let h = c .before .before .before .before .if1 .left in omega arith) (c .span-of .ensures) _ _ refl
 
--- src/lib.rt:197:13
+-- src/lib.rt:234:13
 check-choices-candidate-requires : (t : ℕ) → check-choices-lts.Need-candidate-requires (
   byte-at-reads.Asked,
   byte-at-reads.Learnt,
@@ -525,7 +543,7 @@ check-choices-candidate-requires : (t : ℕ) → check-choices-lts.Need-candidat
 ) (check-choices-at t) check-choices.Post check-choices-Inv-loop check-choices-μ-loop
 check-choices-candidate-requires t c κs = search needs
 
--- src/lib.rt:198:13
+-- src/lib.rt:235:13
 check-choices-add-j : (t : ℕ) → check-choices-lts.Need-add-j (
   byte-at-reads.Asked,
   byte-at-reads.Learnt,
@@ -540,7 +558,7 @@ check-choices-add-j : (t : ℕ) → check-choices-lts.Need-add-j (
 ) (check-choices-at t) check-choices.Post check-choices-Inv-loop check-choices-μ-loop
 check-choices-add-j t c = search needs
 
--- src/lib.rt:200:16
+-- src/lib.rt:237:16
 check-choices-check-args-requires : (t : ℕ) → check-choices-lts.Need-check-args-requires (
   byte-at-reads.Asked,
   byte-at-reads.Learnt,
@@ -555,7 +573,7 @@ check-choices-check-args-requires : (t : ℕ) → check-choices-lts.Need-check-a
 ) (check-choices-at t) check-choices.Post check-choices-Inv-loop check-choices-μ-loop
 check-choices-check-args-requires t c κs = let p = c .before .before .before .before .before .before .before .before .before .before .before .before .before .before .before .before .before .before .pre .0 in let h = c .before .before .before .before .before .before .before .before .before .before .if1 .left in (omega arith, Prim.tt)
 
--- src/lib.rt:214:17
+-- src/lib.rt:251:17
 check-choices-same-length : (t : ℕ) → check-choices-lts.Need-same-length (
   byte-at-reads.Asked,
   byte-at-reads.Learnt,
@@ -570,7 +588,7 @@ check-choices-same-length : (t : ℕ) → check-choices-lts.Need-same-length (
 ) (check-choices-at t) check-choices.Post check-choices-Inv-loop check-choices-μ-loop
 check-choices-same-length t c = c .before .before .before .check-args .ensures .keeps .long ∙ c .before .before .before .before .before .before .before .before .before .loop .inv .keeps .long
 
--- src/lib.rt:214:17
+-- src/lib.rt:251:17
 check-choices-returns-2 : (t : ℕ) → check-choices-lts.Need-returns-2 (
   byte-at-reads.Asked,
   byte-at-reads.Learnt,
@@ -585,7 +603,7 @@ check-choices-returns-2 : (t : ℕ) → check-choices-lts.Need-returns-2 (
 ) (check-choices-at t) check-choices.Post check-choices-Inv-loop check-choices-μ-loop
 check-choices-returns-2 t c = λ other. tried-leads _ _ _ _ _ _ _ (c .before .before .before .before .before .before .before .before .before .before .before .byte-at2 .ensures .value) (let h = c .before .before .before .before .before .before .before .before .before .before .before .before .before .before .if1 .left in omega arith) (c .before .before .before .before .before .before .before .before .before .before .span-of .ensures) (c .before .before .before .before .before .before .before .before .before .loop .inv) (c .before .before .before .before .before .before .before .if2 .taken) _ (c .before .before .before .before .before .before .candidate .ensures) (c .before .before .before .before .before .if3 .taken) _ (omega arith) _ _ _ (c .before .before .before .check-args .ensures) (other-head _ _ _ _ (c .before .before .before .before .before .before .before .before .before .before .before .before .before .byte-at .ensures .value) (c .before .before .before .before .before .before .before .before .before .before .before .before .word-at .ensures .value) (λ z. other (sym (c .before .before .before .before .before .before .before .before .before .before .before .before .before .byte-at .ensures .value) ∙ z)) (let h = c .before .before .before .before .before .before .before .before .before .before .before .before .before .before .if1 .left in omega arith)) (c .if4 .taken)
 
--- src/lib.rt:196:5
+-- src/lib.rt:233:5
 check-choices-loop-less : (t : ℕ) → check-choices-lts.Need-loop-less (
   byte-at-reads.Asked,
   byte-at-reads.Learnt,
@@ -600,7 +618,7 @@ check-choices-loop-less : (t : ℕ) → check-choices-lts.Need-loop-less (
 ) (check-choices-at t) check-choices.Post check-choices-Inv-loop check-choices-μ-loop
 check-choices-loop-less t c = let h = c .before .before .before .before .before .before .before .if2 .taken in omega arith
 
--- src/lib.rt:196:5
+-- src/lib.rt:233:5
 check-choices-loop-again : (t : ℕ) → check-choices-lts.Need-loop-again (
   byte-at-reads.Asked,
   byte-at-reads.Learnt,
@@ -615,7 +633,7 @@ check-choices-loop-again : (t : ℕ) → check-choices-lts.Need-loop-again (
 ) (check-choices-at t) check-choices.Post check-choices-Inv-loop check-choices-μ-loop
 check-choices-loop-again t c = tried-fails _ _ _ _ _ _ _ (c .before .before .before .before .before .before .before .before .before .before .before .byte-at2 .ensures .value) (let h = c .before .before .before .before .before .before .before .before .before .before .before .before .before .before .if1 .left in omega arith) (c .before .before .before .before .before .before .before .before .before .before .span-of .ensures) (c .before .before .before .before .before .before .before .before .before .loop .inv) (c .before .before .before .before .before .before .before .if2 .taken) _ (c .before .before .before .before .before .before .candidate .ensures) (c .before .before .before .before .before .if3 .taken) _ (omega arith) _ _ _ (c .before .before .before .check-args .ensures) (c .if4 .left) _ (omega arith)
 
--- src/lib.rt:196:5
+-- src/lib.rt:233:5
 check-choices-loop-less-2 : (t : ℕ) → check-choices-lts.Need-loop-less-2 (
   byte-at-reads.Asked,
   byte-at-reads.Learnt,
@@ -630,7 +648,7 @@ check-choices-loop-less-2 : (t : ℕ) → check-choices-lts.Need-loop-less-2 (
 ) (check-choices-at t) check-choices.Post check-choices-Inv-loop check-choices-μ-loop
 check-choices-loop-less-2 t c = let h = c .before .before .if2 .taken in omega arith
 
--- src/lib.rt:196:5
+-- src/lib.rt:233:5
 check-choices-loop-again-2 : (t : ℕ) → check-choices-lts.Need-loop-again-2 (
   byte-at-reads.Asked,
   byte-at-reads.Learnt,
@@ -645,7 +663,7 @@ check-choices-loop-again-2 : (t : ℕ) → check-choices-lts.Need-loop-again-2 (
 ) (check-choices-at t) check-choices.Post check-choices-Inv-loop check-choices-μ-loop
 check-choices-loop-again-2 t c = tried-miss _ _ _ _ _ _ _ (c .before .before .before .before .before .before .byte-at2 .ensures .value) (let h = c .before .before .before .before .before .before .before .before .before .if1 .left in omega arith) (c .before .before .before .before .before .span-of .ensures) (c .before .before .before .before .loop .inv) (c .before .before .if2 .taken) _ (c .before .candidate .ensures) (c .if3 .left) _ (omega arith)
 
--- src/lib.rt:170:1
+-- src/lib.rt:207:1
 check-choices-same-length-2 : (t : ℕ) → check-choices-lts.Need-same-length-2 (
   byte-at-reads.Asked,
   byte-at-reads.Learnt,
@@ -660,7 +678,7 @@ check-choices-same-length-2 : (t : ℕ) → check-choices-lts.Need-same-length-2
 ) (check-choices-at t) check-choices.Post check-choices-Inv-loop check-choices-μ-loop
 check-choices-same-length-2 t c = c .before .before .loop .inv .keeps .long
 
--- src/lib.rt:170:1
+-- src/lib.rt:207:1
 check-choices-returns-3 : (t : ℕ) → check-choices-lts.Need-returns-3 (
   byte-at-reads.Asked,
   byte-at-reads.Learnt,
@@ -675,20 +693,258 @@ check-choices-returns-3 : (t : ℕ) → check-choices-lts.Need-returns-3 (
 ) (check-choices-at t) check-choices.Post check-choices-Inv-loop check-choices-μ-loop
 check-choices-returns-3 t c = λ other. tried-end _ _ _ _ _ _ _ (c .before .before .before .before .byte-at2 .ensures .value) (let h = c .before .before .before .before .before .before .before .if1 .left in omega arith) (c .before .before .before .span-of .ensures) (c .before .before .loop .inv) (other-head _ _ _ _ (c .before .before .before .before .before .before .byte-at .ensures .value) (c .before .before .before .before .before .word-at .ensures .value) (λ z. other (sym (c .before .before .before .before .before .before .byte-at .ensures .value) ∙ z)) (let h = c .before .before .before .before .before .before .before .if1 .left in omega arith)) (c .if2 .left)
 
+-- src/lib.rt:101:9
+check-head-returns : (t : ℕ) → check-head-lts.Need-returns (
+  byte-at-reads.Asked,
+  byte-at-reads.Learnt,
+  check-choices-below t,
+  check-choices.Post,
+  word-at-reads.Asked,
+  word-at-reads.Learnt,
+  state-at-reads.Asked,
+  state-at-reads.Learnt,
+  check-targets-below t,
+  check-targets.Post,
+) (check-head-at t) check-head.Post
+check-head-returns t c = term-past _ _ _ _ (c .if1 .taken)
+
+-- src/lib.rt:103:22
+check-head-mul-byte-at : (t : ℕ) → check-head-lts.Need-mul-byte-at (
+  byte-at-reads.Asked,
+  byte-at-reads.Learnt,
+  check-choices-below t,
+  check-choices.Post,
+  word-at-reads.Asked,
+  word-at-reads.Learnt,
+  state-at-reads.Asked,
+  state-at-reads.Learnt,
+  check-targets-below t,
+  check-targets.Post,
+) (check-head-at t) check-head.Post
+check-head-mul-byte-at t c = search needs
+
+-- src/lib.rt:103:8
+check-head-byte-at-requires : (t : ℕ) → check-head-lts.Need-byte-at-requires (
+  byte-at-reads.Asked,
+  byte-at-reads.Learnt,
+  check-choices-below t,
+  check-choices.Post,
+  word-at-reads.Asked,
+  word-at-reads.Learnt,
+  state-at-reads.Asked,
+  state-at-reads.Learnt,
+  check-targets-below t,
+  check-targets.Post,
+) (check-head-at t) check-head.Post
+check-head-byte-at-requires t c κs = search needs
+
+-- src/lib.rt:104:9
+check-head-check-choices-requires : (t : ℕ) → check-head-lts.Need-check-choices-requires (
+  byte-at-reads.Asked,
+  byte-at-reads.Learnt,
+  check-choices-below t,
+  check-choices.Post,
+  word-at-reads.Asked,
+  word-at-reads.Learnt,
+  state-at-reads.Asked,
+  state-at-reads.Learnt,
+  check-targets-below t,
+  check-targets.Post,
+) (check-head-at t) check-head.Post
+check-head-check-choices-requires t c κs = let p = c .before .before .before .before .before .before .before .before .before .before .before .pre .0 in (omega arith, Prim.tt)
+
+-- src/lib.rt:104:9
+check-head-same-length : (t : ℕ) → check-head-lts.Need-same-length (
+  byte-at-reads.Asked,
+  byte-at-reads.Learnt,
+  check-choices-below t,
+  check-choices.Post,
+  word-at-reads.Asked,
+  word-at-reads.Learnt,
+  state-at-reads.Asked,
+  state-at-reads.Learnt,
+  check-targets-below t,
+  check-targets.Post,
+) (check-head-at t) check-head.Post
+check-head-same-length t c = (c .before .before .check-choices .ensures (λ z. c .before .before .before .before .if2 .taken (c .before .before .before .before .before .byte-at .ensures .value ∙ z))) .keeps .long
+
+-- src/lib.rt:104:9
+check-head-returns-2 : (t : ℕ) → check-head-lts.Need-returns-2 (
+  byte-at-reads.Asked,
+  byte-at-reads.Learnt,
+  check-choices-below t,
+  check-choices.Post,
+  word-at-reads.Asked,
+  word-at-reads.Learnt,
+  state-at-reads.Asked,
+  state-at-reads.Learnt,
+  check-targets-below t,
+  check-targets.Post,
+) (check-head-at t) check-head.Post
+check-head-returns-2 t c = c .before .before .check-choices .ensures (λ z. c .before .before .before .before .if2 .taken (c .before .before .before .before .before .byte-at .ensures .value ∙ z))
+
+-- src/lib.rt:120:27
+check-head-mul-word-at : (t : ℕ) → check-head-lts.Need-mul-word-at (
+  byte-at-reads.Asked,
+  byte-at-reads.Learnt,
+  check-choices-below t,
+  check-choices.Post,
+  word-at-reads.Asked,
+  word-at-reads.Learnt,
+  state-at-reads.Asked,
+  state-at-reads.Learnt,
+  check-targets-below t,
+  check-targets.Post,
+) (check-head-at t) check-head.Post
+check-head-mul-word-at t c = search needs
+
+-- src/lib.rt:120:27
+check-head-add-word-at : (t : ℕ) → check-head-lts.Need-add-word-at (
+  byte-at-reads.Asked,
+  byte-at-reads.Learnt,
+  check-choices-below t,
+  check-choices.Post,
+  word-at-reads.Asked,
+  word-at-reads.Learnt,
+  state-at-reads.Asked,
+  state-at-reads.Learnt,
+  check-targets-below t,
+  check-targets.Post,
+) (check-head-at t) check-head.Post
+check-head-add-word-at t c = search needs
+
+-- src/lib.rt:120:9
+check-head-word-at-requires : (t : ℕ) → check-head-lts.Need-word-at-requires (
+  byte-at-reads.Asked,
+  byte-at-reads.Learnt,
+  check-choices-below t,
+  check-choices.Post,
+  word-at-reads.Asked,
+  word-at-reads.Learnt,
+  state-at-reads.Asked,
+  state-at-reads.Learnt,
+  check-targets-below t,
+  check-targets.Post,
+) (check-head-at t) check-head.Post
+check-head-word-at-requires t c κs = search needs
+
+-- src/lib.rt:121:31
+check-head-mul-byte-at-2 : (t : ℕ) → check-head-lts.Need-mul-byte-at-2 (
+  byte-at-reads.Asked,
+  byte-at-reads.Learnt,
+  check-choices-below t,
+  check-choices.Post,
+  word-at-reads.Asked,
+  word-at-reads.Learnt,
+  state-at-reads.Asked,
+  state-at-reads.Learnt,
+  check-targets-below t,
+  check-targets.Post,
+) (check-head-at t) check-head.Post
+check-head-mul-byte-at-2 t c = search needs
+
+-- src/lib.rt:121:31
+check-head-add-byte-at : (t : ℕ) → check-head-lts.Need-add-byte-at (
+  byte-at-reads.Asked,
+  byte-at-reads.Learnt,
+  check-choices-below t,
+  check-choices.Post,
+  word-at-reads.Asked,
+  word-at-reads.Learnt,
+  state-at-reads.Asked,
+  state-at-reads.Learnt,
+  check-targets-below t,
+  check-targets.Post,
+) (check-head-at t) check-head.Post
+check-head-add-byte-at t c = search needs
+
+-- src/lib.rt:121:9
+check-head-byte-at-requires-2 : (t : ℕ) → check-head-lts.Need-byte-at-requires-2 (
+  byte-at-reads.Asked,
+  byte-at-reads.Learnt,
+  check-choices-below t,
+  check-choices.Post,
+  word-at-reads.Asked,
+  word-at-reads.Learnt,
+  state-at-reads.Asked,
+  state-at-reads.Learnt,
+  check-targets-below t,
+  check-targets.Post,
+) (check-head-at t) check-head.Post
+check-head-byte-at-requires-2 t c κs = search needs
+
+-- src/lib.rt:122:9
+check-head-state-at-requires : (t : ℕ) → check-head-lts.Need-state-at-requires (
+  byte-at-reads.Asked,
+  byte-at-reads.Learnt,
+  check-choices-below t,
+  check-choices.Post,
+  word-at-reads.Asked,
+  word-at-reads.Learnt,
+  state-at-reads.Asked,
+  state-at-reads.Learnt,
+  check-targets-below t,
+  check-targets.Post,
+) (check-head-at t) check-head.Post
+check-head-state-at-requires t c κs = search needs
+
+-- src/lib.rt:123:5
+check-head-check-targets-requires : (t : ℕ) → check-head-lts.Need-check-targets-requires (
+  byte-at-reads.Asked,
+  byte-at-reads.Learnt,
+  check-choices-below t,
+  check-choices.Post,
+  word-at-reads.Asked,
+  word-at-reads.Learnt,
+  state-at-reads.Asked,
+  state-at-reads.Learnt,
+  check-targets-below t,
+  check-targets.Post,
+) (check-head-at t) check-head.Post
+check-head-check-targets-requires t c κs = let p = c .before .before .before .before .before .before .before .before .before .before .before .before .before .before .pre .0 in (omega arith, Prim.tt)
+
+-- src/lib.rt:85:1
+check-head-same-length-2 : (t : ℕ) → check-head-lts.Need-same-length-2 (
+  byte-at-reads.Asked,
+  byte-at-reads.Learnt,
+  check-choices-below t,
+  check-choices.Post,
+  word-at-reads.Asked,
+  word-at-reads.Learnt,
+  state-at-reads.Asked,
+  state-at-reads.Learnt,
+  check-targets-below t,
+  check-targets.Post,
+) (check-head-at t) check-head.Post
+check-head-same-length-2 t c = (head-told _ _ _ _ _ _ _ _ (c .before .before .before .before .before .before .before .before .byte-at .ensures .value) (c .before .before .before .before .before .before .before .if2 .left) (c .before .before .before .before .before .before .word-at .ensures .value) (c .before .before .before .before .before .byte-at2 .ensures .value) (c .before .before .before .before .state-at .ensures) _ _ (c .before .before .check-targets .ensures)) .keeps .long
+
+-- src/lib.rt:85:1
+check-head-returns-3 : (t : ℕ) → check-head-lts.Need-returns-3 (
+  byte-at-reads.Asked,
+  byte-at-reads.Learnt,
+  check-choices-below t,
+  check-choices.Post,
+  word-at-reads.Asked,
+  word-at-reads.Learnt,
+  state-at-reads.Asked,
+  state-at-reads.Learnt,
+  check-targets-below t,
+  check-targets.Post,
+) (check-head-at t) check-head.Post
+check-head-returns-3 t c = head-told _ _ _ _ _ _ _ _ (c .before .before .before .before .before .before .before .before .byte-at .ensures .value) (c .before .before .before .before .before .before .before .if2 .left) (c .before .before .before .before .before .before .word-at .ensures .value) (c .before .before .before .before .before .byte-at2 .ensures .value) (c .before .before .before .before .state-at .ensures) _ _ (c .before .before .check-targets .ensures)
+
 abbrev check-targets-Inv-loop : check-targets-lts.InvT-loop
-check-targets-Inv-loop file index groups kept ends body test memo₀ at goal table types constructors c count next₀ q row i₀ memo next i = Args (record { file = file; index = index; groups = groups; kept = kept; ends = ends; body = body; table = table; test = test }) memo₀ next₀ count true 0 row memo next i 0 0
+check-targets-Inv-loop file index groups kept ends body test memo₀ at goal q table types constructors c count next₀ row i₀ memo next i = Args (record { file = file; index = index; groups = groups; kept = kept; ends = ends; body = body; table = table; test = test }) memo₀ next₀ count true 0 row memo next i 0 0
 
 abbrev check-targets-μ-loop : check-targets-lts.MeasureT-loop
-check-targets-μ-loop file index groups kept ends body test memo₀ at goal table types constructors c count next₀ q row i₀ memo next i = count - i
+check-targets-μ-loop file index groups kept ends body test memo₀ at goal q table types constructors c count next₀ row i₀ memo next i = count - i
 
--- src/lib.rt:119:9
+-- src/lib.rt:158:9
 check-targets-returns : (t : ℕ) → check-targets-lts.Need-returns (
   word-at-reads.Asked,
   word-at-reads.Learnt,
   byte-at-reads.Asked,
   byte-at-reads.Learnt,
-  state-at-reads.Asked,
-  state-at-reads.Learnt,
   row-serves-reads.Asked,
   row-serves-reads.Learnt,
   target-of-reads.Asked,
@@ -698,16 +954,14 @@ check-targets-returns : (t : ℕ) → check-targets-lts.Need-returns (
   check-term-below t,
   check-term.Post,
 ) (check-targets-at t) check-targets.Post check-targets-Inv-loop check-targets-μ-loop
-check-targets-returns t c = λ e. term-past _ _ _ _ (c .if1 .taken)
+check-targets-returns t c = λ e ends. term-past _ _ _ _ (c .if1 .taken)
 
--- src/lib.rt:123:27
+-- src/lib.rt:162:27
 check-targets-mul-word-at : (t : ℕ) → check-targets-lts.Need-mul-word-at (
   word-at-reads.Asked,
   word-at-reads.Learnt,
   byte-at-reads.Asked,
   byte-at-reads.Learnt,
-  state-at-reads.Asked,
-  state-at-reads.Learnt,
   row-serves-reads.Asked,
   row-serves-reads.Learnt,
   target-of-reads.Asked,
@@ -719,14 +973,12 @@ check-targets-mul-word-at : (t : ℕ) → check-targets-lts.Need-mul-word-at (
 ) (check-targets-at t) check-targets.Post check-targets-Inv-loop check-targets-μ-loop
 check-targets-mul-word-at t c = search needs
 
--- src/lib.rt:123:27
+-- src/lib.rt:162:27
 check-targets-add-word-at : (t : ℕ) → check-targets-lts.Need-add-word-at (
   word-at-reads.Asked,
   word-at-reads.Learnt,
   byte-at-reads.Asked,
   byte-at-reads.Learnt,
-  state-at-reads.Asked,
-  state-at-reads.Learnt,
   row-serves-reads.Asked,
   row-serves-reads.Learnt,
   target-of-reads.Asked,
@@ -738,14 +990,12 @@ check-targets-add-word-at : (t : ℕ) → check-targets-lts.Need-add-word-at (
 ) (check-targets-at t) check-targets.Post check-targets-Inv-loop check-targets-μ-loop
 check-targets-add-word-at t c = search needs
 
--- src/lib.rt:123:9
+-- src/lib.rt:162:9
 check-targets-word-at-requires : (t : ℕ) → check-targets-lts.Need-word-at-requires (
   word-at-reads.Asked,
   word-at-reads.Learnt,
   byte-at-reads.Asked,
   byte-at-reads.Learnt,
-  state-at-reads.Asked,
-  state-at-reads.Learnt,
   row-serves-reads.Asked,
   row-serves-reads.Learnt,
   target-of-reads.Asked,
@@ -757,14 +1007,12 @@ check-targets-word-at-requires : (t : ℕ) → check-targets-lts.Need-word-at-re
 ) (check-targets-at t) check-targets.Post check-targets-Inv-loop check-targets-μ-loop
 check-targets-word-at-requires t c κs = search needs
 
--- src/lib.rt:124:31
+-- src/lib.rt:163:31
 check-targets-mul-byte-at : (t : ℕ) → check-targets-lts.Need-mul-byte-at (
   word-at-reads.Asked,
   word-at-reads.Learnt,
   byte-at-reads.Asked,
   byte-at-reads.Learnt,
-  state-at-reads.Asked,
-  state-at-reads.Learnt,
   row-serves-reads.Asked,
   row-serves-reads.Learnt,
   target-of-reads.Asked,
@@ -776,14 +1024,12 @@ check-targets-mul-byte-at : (t : ℕ) → check-targets-lts.Need-mul-byte-at (
 ) (check-targets-at t) check-targets.Post check-targets-Inv-loop check-targets-μ-loop
 check-targets-mul-byte-at t c = search needs
 
--- src/lib.rt:124:31
+-- src/lib.rt:163:31
 check-targets-add-byte-at : (t : ℕ) → check-targets-lts.Need-add-byte-at (
   word-at-reads.Asked,
   word-at-reads.Learnt,
   byte-at-reads.Asked,
   byte-at-reads.Learnt,
-  state-at-reads.Asked,
-  state-at-reads.Learnt,
   row-serves-reads.Asked,
   row-serves-reads.Learnt,
   target-of-reads.Asked,
@@ -795,14 +1041,12 @@ check-targets-add-byte-at : (t : ℕ) → check-targets-lts.Need-add-byte-at (
 ) (check-targets-at t) check-targets.Post check-targets-Inv-loop check-targets-μ-loop
 check-targets-add-byte-at t c = search needs
 
--- src/lib.rt:124:9
+-- src/lib.rt:163:9
 check-targets-byte-at-requires : (t : ℕ) → check-targets-lts.Need-byte-at-requires (
   word-at-reads.Asked,
   word-at-reads.Learnt,
   byte-at-reads.Asked,
   byte-at-reads.Learnt,
-  state-at-reads.Asked,
-  state-at-reads.Learnt,
   row-serves-reads.Asked,
   row-serves-reads.Learnt,
   target-of-reads.Asked,
@@ -814,14 +1058,12 @@ check-targets-byte-at-requires : (t : ℕ) → check-targets-lts.Need-byte-at-re
 ) (check-targets-at t) check-targets.Post check-targets-Inv-loop check-targets-μ-loop
 check-targets-byte-at-requires t c κs = search needs
 
--- src/lib.rt:125:20
+-- src/lib.rt:164:20
 check-targets-add-next : (t : ℕ) → check-targets-lts.Need-add-next (
   word-at-reads.Asked,
   word-at-reads.Learnt,
   byte-at-reads.Asked,
   byte-at-reads.Learnt,
-  state-at-reads.Asked,
-  state-at-reads.Learnt,
   row-serves-reads.Asked,
   row-serves-reads.Learnt,
   target-of-reads.Asked,
@@ -833,33 +1075,12 @@ check-targets-add-next : (t : ℕ) → check-targets-lts.Need-add-next (
 ) (check-targets-at t) check-targets.Post check-targets-Inv-loop check-targets-μ-loop
 check-targets-add-next t c = search needs
 
--- src/lib.rt:126:9
-check-targets-state-at-requires : (t : ℕ) → check-targets-lts.Need-state-at-requires (
-  word-at-reads.Asked,
-  word-at-reads.Learnt,
-  byte-at-reads.Asked,
-  byte-at-reads.Learnt,
-  state-at-reads.Asked,
-  state-at-reads.Learnt,
-  row-serves-reads.Asked,
-  row-serves-reads.Learnt,
-  target-of-reads.Asked,
-  target-of-reads.Learnt,
-  place-at-reads.Asked,
-  place-at-reads.Learnt,
-  check-term-below t,
-  check-term.Post,
-) (check-targets-at t) check-targets.Post check-targets-Inv-loop check-targets-μ-loop
-check-targets-state-at-requires t c κs = search needs
-
--- src/lib.rt:128:9
+-- src/lib.rt:166:9
 check-targets-returns-2 : (t : ℕ) → check-targets-lts.Need-returns-2 (
   word-at-reads.Asked,
   word-at-reads.Learnt,
   byte-at-reads.Asked,
   byte-at-reads.Learnt,
-  state-at-reads.Asked,
-  state-at-reads.Learnt,
   row-serves-reads.Asked,
   row-serves-reads.Learnt,
   target-of-reads.Asked,
@@ -869,16 +1090,14 @@ check-targets-returns-2 : (t : ℕ) → check-targets-lts.Need-returns-2 (
   check-term-below t,
   check-term.Post,
 ) (check-targets-at t) check-targets.Post check-targets-Inv-loop check-targets-μ-loop
-check-targets-returns-2 t c = targets-no-state _ _ _ _ _ _ _ (c .before .before .before .word-at .ensures .value) (c .before .before .byte-at .ensures .value) (c .before .state-at .ensures) (c .if2 .taken)
+check-targets-returns-2 t c = targets-no-state _ _ _ _ _ _ _ (c .before .before .word-at .ensures .value) (c .before .byte-at .ensures .value) (c .if2 .taken)
 
--- src/lib.rt:131:9
+-- src/lib.rt:169:9
 check-targets-returns-3 : (t : ℕ) → check-targets-lts.Need-returns-3 (
   word-at-reads.Asked,
   word-at-reads.Learnt,
   byte-at-reads.Asked,
   byte-at-reads.Learnt,
-  state-at-reads.Asked,
-  state-at-reads.Learnt,
   row-serves-reads.Asked,
   row-serves-reads.Learnt,
   target-of-reads.Asked,
@@ -888,16 +1107,14 @@ check-targets-returns-3 : (t : ℕ) → check-targets-lts.Need-returns-3 (
   check-term-below t,
   check-term.Post,
 ) (check-targets-at t) check-targets.Post check-targets-Inv-loop check-targets-μ-loop
-check-targets-returns-3 t c = targets-no-constructor _ _ _ _ _ _ _ (c .before .before .before .before .word-at .ensures .value) (c .before .before .before .byte-at .ensures .value) (c .before .before .state-at .ensures) (c .if3 .taken)
+check-targets-returns-3 t c = targets-no-constructor _ _ _ _ _ _ _ (c .before .before .before .word-at .ensures .value) (c .before .before .byte-at .ensures .value) (c .if3 .taken)
 
--- src/lib.rt:133:15
+-- src/lib.rt:171:15
 check-targets-mul-row : (t : ℕ) → check-targets-lts.Need-mul-row (
   word-at-reads.Asked,
   word-at-reads.Learnt,
   byte-at-reads.Asked,
   byte-at-reads.Learnt,
-  state-at-reads.Asked,
-  state-at-reads.Learnt,
   row-serves-reads.Asked,
   row-serves-reads.Learnt,
   target-of-reads.Asked,
@@ -909,14 +1126,12 @@ check-targets-mul-row : (t : ℕ) → check-targets-lts.Need-mul-row (
 ) (check-targets-at t) check-targets.Post check-targets-Inv-loop check-targets-μ-loop
 check-targets-mul-row t c = search needs
 
--- src/lib.rt:133:15
+-- src/lib.rt:171:15
 check-targets-mul-row-2 : (t : ℕ) → check-targets-lts.Need-mul-row-2 (
   word-at-reads.Asked,
   word-at-reads.Learnt,
   byte-at-reads.Asked,
   byte-at-reads.Learnt,
-  state-at-reads.Asked,
-  state-at-reads.Learnt,
   row-serves-reads.Asked,
   row-serves-reads.Learnt,
   target-of-reads.Asked,
@@ -928,14 +1143,12 @@ check-targets-mul-row-2 : (t : ℕ) → check-targets-lts.Need-mul-row-2 (
 ) (check-targets-at t) check-targets.Post check-targets-Inv-loop check-targets-μ-loop
 check-targets-mul-row-2 t c = search needs
 
--- src/lib.rt:133:15
+-- src/lib.rt:171:15
 check-targets-index-1-row : (t : ℕ) → check-targets-lts.Need-index-1-row (
   word-at-reads.Asked,
   word-at-reads.Learnt,
   byte-at-reads.Asked,
   byte-at-reads.Learnt,
-  state-at-reads.Asked,
-  state-at-reads.Learnt,
   row-serves-reads.Asked,
   row-serves-reads.Learnt,
   target-of-reads.Asked,
@@ -947,14 +1160,12 @@ check-targets-index-1-row : (t : ℕ) → check-targets-lts.Need-index-1-row (
 ) (check-targets-at t) check-targets.Post check-targets-Inv-loop check-targets-μ-loop
 check-targets-index-1-row t c = search needs
 
--- src/lib.rt:133:15
+-- src/lib.rt:171:15
 check-targets-index-2-row : (t : ℕ) → check-targets-lts.Need-index-2-row (
   word-at-reads.Asked,
   word-at-reads.Learnt,
   byte-at-reads.Asked,
   byte-at-reads.Learnt,
-  state-at-reads.Asked,
-  state-at-reads.Learnt,
   row-serves-reads.Asked,
   row-serves-reads.Learnt,
   target-of-reads.Asked,
@@ -966,14 +1177,12 @@ check-targets-index-2-row : (t : ℕ) → check-targets-lts.Need-index-2-row (
 ) (check-targets-at t) check-targets.Post check-targets-Inv-loop check-targets-μ-loop
 check-targets-index-2-row t c = search needs
 
--- src/lib.rt:134:9
+-- src/lib.rt:172:9
 check-targets-row-serves-requires : (t : ℕ) → check-targets-lts.Need-row-serves-requires (
   word-at-reads.Asked,
   word-at-reads.Learnt,
   byte-at-reads.Asked,
   byte-at-reads.Learnt,
-  state-at-reads.Asked,
-  state-at-reads.Learnt,
   row-serves-reads.Asked,
   row-serves-reads.Learnt,
   target-of-reads.Asked,
@@ -985,14 +1194,12 @@ check-targets-row-serves-requires : (t : ℕ) → check-targets-lts.Need-row-ser
 ) (check-targets-at t) check-targets.Post check-targets-Inv-loop check-targets-μ-loop
 check-targets-row-serves-requires t c κs = search needs
 
--- src/lib.rt:135:9
+-- src/lib.rt:173:9
 check-targets-returns-4 : (t : ℕ) → check-targets-lts.Need-returns-4 (
   word-at-reads.Asked,
   word-at-reads.Learnt,
   byte-at-reads.Asked,
   byte-at-reads.Learnt,
-  state-at-reads.Asked,
-  state-at-reads.Learnt,
   row-serves-reads.Asked,
   row-serves-reads.Learnt,
   target-of-reads.Asked,
@@ -1002,16 +1209,14 @@ check-targets-returns-4 : (t : ℕ) → check-targets-lts.Need-returns-4 (
   check-term-below t,
   check-term.Post,
 ) (check-targets-at t) check-targets.Post check-targets-Inv-loop check-targets-μ-loop
-check-targets-returns-4 t c = targets-not-served _ _ _ _ _ _ _ (c .before .before .before .before .before .before .before .word-at .ensures .value) (c .before .before .before .before .before .before .byte-at .ensures .value) (c .before .before .before .before .before .state-at .ensures) (let h = c .before .before .before .before .if2 .left in omega arith) (let h = c .before .before .before .if3 .left in omega arith) _ refl _ (c .before .row-serves .ensures) (not-true _ (c .if4 .taken))
+check-targets-returns-4 t c = targets-not-served _ _ _ _ _ _ _ (c .before .before .before .before .before .before .word-at .ensures .value) (c .before .before .before .before .before .byte-at .ensures .value) (let h = c .before .before .before .before .if2 .left in omega arith) (let h = c .before .before .before .if3 .left in omega arith) _ refl _ (c .before .row-serves .ensures) (not-true _ (c .if4 .taken))
 
--- src/lib.rt:138:5
+-- src/lib.rt:176:5
 check-targets-loop-holds : (t : ℕ) → check-targets-lts.Need-loop-holds (
   word-at-reads.Asked,
   word-at-reads.Learnt,
   byte-at-reads.Asked,
   byte-at-reads.Learnt,
-  state-at-reads.Asked,
-  state-at-reads.Learnt,
   row-serves-reads.Asked,
   row-serves-reads.Learnt,
   target-of-reads.Asked,
@@ -1023,14 +1228,12 @@ check-targets-loop-holds : (t : ℕ) → check-targets-lts.Need-loop-holds (
 ) (check-targets-at t) check-targets.Post check-targets-Inv-loop check-targets-μ-loop
 check-targets-loop-holds t c = args-start _ _ _ _ _ _ _
 
--- src/lib.rt:139:13
+-- src/lib.rt:177:13
 check-targets-target-of-requires : (t : ℕ) → check-targets-lts.Need-target-of-requires (
   word-at-reads.Asked,
   word-at-reads.Learnt,
   byte-at-reads.Asked,
   byte-at-reads.Learnt,
-  state-at-reads.Asked,
-  state-at-reads.Learnt,
   row-serves-reads.Asked,
   row-serves-reads.Learnt,
   target-of-reads.Asked,
@@ -1042,14 +1245,12 @@ check-targets-target-of-requires : (t : ℕ) → check-targets-lts.Need-target-o
 ) (check-targets-at t) check-targets.Post check-targets-Inv-loop check-targets-μ-loop
 check-targets-target-of-requires t c κs = search needs
 
--- src/lib.rt:141:13
+-- src/lib.rt:179:13
 check-targets-same-length : (t : ℕ) → check-targets-lts.Need-same-length (
   word-at-reads.Asked,
   word-at-reads.Learnt,
   byte-at-reads.Asked,
   byte-at-reads.Learnt,
-  state-at-reads.Asked,
-  state-at-reads.Learnt,
   row-serves-reads.Asked,
   row-serves-reads.Learnt,
   target-of-reads.Asked,
@@ -1061,14 +1262,12 @@ check-targets-same-length : (t : ℕ) → check-targets-lts.Need-same-length (
 ) (check-targets-at t) check-targets.Post check-targets-Inv-loop check-targets-μ-loop
 check-targets-same-length t c = c .before .before .before .loop .inv .keeps .long
 
--- src/lib.rt:141:13
+-- src/lib.rt:179:13
 check-targets-returns-5 : (t : ℕ) → check-targets-lts.Need-returns-5 (
   word-at-reads.Asked,
   word-at-reads.Learnt,
   byte-at-reads.Asked,
   byte-at-reads.Learnt,
-  state-at-reads.Asked,
-  state-at-reads.Learnt,
   row-serves-reads.Asked,
   row-serves-reads.Learnt,
   target-of-reads.Asked,
@@ -1078,16 +1277,14 @@ check-targets-returns-5 : (t : ℕ) → check-targets-lts.Need-returns-5 (
   check-term-below t,
   check-term.Post,
 ) (check-targets-at t) check-targets.Post check-targets-Inv-loop check-targets-μ-loop
-check-targets-returns-5 t c = targets-told _ _ _ _ _ _ _ (c .before .before .before .before .before .before .before .before .before .before .before .word-at .ensures .value) (c .before .before .before .before .before .before .before .before .before .before .byte-at .ensures .value) (c .before .before .before .before .before .before .before .before .before .state-at .ensures) (let h = c .before .before .before .before .before .before .before .before .if2 .left in omega arith) (let h = c .before .before .before .before .before .before .before .if3 .left in omega arith) _ refl _ (c .before .before .before .before .before .row-serves .ensures) (not-false _ (c .before .before .before .before .if4 .left)) _ (omega arith) _ _ (target-past _ (c .before .before .before .loop .inv) (c .before .before .loop-test .taken) _ (c .before .target-of .ensures) (c .if5 .taken))
+check-targets-returns-5 t c = targets-told _ _ _ _ _ _ _ (c .before .before .before .before .before .before .before .before .before .before .word-at .ensures .value) (c .before .before .before .before .before .before .before .before .before .byte-at .ensures .value) (let h = c .before .before .before .before .before .before .before .before .if2 .left in omega arith) (let h = c .before .before .before .before .before .before .before .if3 .left in omega arith) _ refl _ (c .before .before .before .before .before .row-serves .ensures) (not-false _ (c .before .before .before .before .if4 .left)) _ (omega arith) _ _ (target-past _ (c .before .before .before .loop .inv) (c .before .before .loop-test .taken) _ (c .before .target-of .ensures) (c .if5 .taken))
 
--- src/lib.rt:143:13
+-- src/lib.rt:181:13
 check-targets-place-at-requires : (t : ℕ) → check-targets-lts.Need-place-at-requires (
   word-at-reads.Asked,
   word-at-reads.Learnt,
   byte-at-reads.Asked,
   byte-at-reads.Learnt,
-  state-at-reads.Asked,
-  state-at-reads.Learnt,
   row-serves-reads.Asked,
   row-serves-reads.Learnt,
   target-of-reads.Asked,
@@ -1099,14 +1296,12 @@ check-targets-place-at-requires : (t : ℕ) → check-targets-lts.Need-place-at-
 ) (check-targets-at t) check-targets.Post check-targets-Inv-loop check-targets-μ-loop
 check-targets-place-at-requires t c κs = search needs
 
--- src/lib.rt:145:13
+-- src/lib.rt:183:13
 check-targets-same-length-2 : (t : ℕ) → check-targets-lts.Need-same-length-2 (
   word-at-reads.Asked,
   word-at-reads.Learnt,
   byte-at-reads.Asked,
   byte-at-reads.Learnt,
-  state-at-reads.Asked,
-  state-at-reads.Learnt,
   row-serves-reads.Asked,
   row-serves-reads.Learnt,
   target-of-reads.Asked,
@@ -1118,14 +1313,12 @@ check-targets-same-length-2 : (t : ℕ) → check-targets-lts.Need-same-length-2
 ) (check-targets-at t) check-targets.Post check-targets-Inv-loop check-targets-μ-loop
 check-targets-same-length-2 t c = c .before .before .before .before .before .loop .inv .keeps .long
 
--- src/lib.rt:145:13
+-- src/lib.rt:183:13
 check-targets-returns-6 : (t : ℕ) → check-targets-lts.Need-returns-6 (
   word-at-reads.Asked,
   word-at-reads.Learnt,
   byte-at-reads.Asked,
   byte-at-reads.Learnt,
-  state-at-reads.Asked,
-  state-at-reads.Learnt,
   row-serves-reads.Asked,
   row-serves-reads.Learnt,
   target-of-reads.Asked,
@@ -1135,16 +1328,14 @@ check-targets-returns-6 : (t : ℕ) → check-targets-lts.Need-returns-6 (
   check-term-below t,
   check-term.Post,
 ) (check-targets-at t) check-targets.Post check-targets-Inv-loop check-targets-μ-loop
-check-targets-returns-6 t c = targets-told _ _ _ _ _ _ _ (c .before .before .before .before .before .before .before .before .before .before .before .before .before .word-at .ensures .value) (c .before .before .before .before .before .before .before .before .before .before .before .before .byte-at .ensures .value) (c .before .before .before .before .before .before .before .before .before .before .before .state-at .ensures) (let h = c .before .before .before .before .before .before .before .before .before .before .if2 .left in omega arith) (let h = c .before .before .before .before .before .before .before .before .before .if3 .left in omega arith) _ refl _ (c .before .before .before .before .before .before .before .row-serves .ensures) (not-false _ (c .before .before .before .before .before .before .if4 .left)) _ (omega arith) _ _ (target-stuck _ (c .before .before .before .before .before .loop .inv) (c .before .before .before .before .loop-test .taken) _ (c .before .before .before .target-of .ensures) (c .before .before .if5 .left) _ (c .before .place-at .ensures .value) (c .if6 .taken))
+check-targets-returns-6 t c = targets-told _ _ _ _ _ _ _ (c .before .before .before .before .before .before .before .before .before .before .before .before .word-at .ensures .value) (c .before .before .before .before .before .before .before .before .before .before .before .byte-at .ensures .value) (let h = c .before .before .before .before .before .before .before .before .before .before .if2 .left in omega arith) (let h = c .before .before .before .before .before .before .before .before .before .if3 .left in omega arith) _ refl _ (c .before .before .before .before .before .before .before .row-serves .ensures) (not-false _ (c .before .before .before .before .before .before .if4 .left)) _ (omega arith) _ _ (target-stuck _ (c .before .before .before .before .before .loop .inv) (c .before .before .before .before .loop-test .taken) _ (c .before .before .before .target-of .ensures) (c .before .before .if5 .left) _ (c .before .place-at .ensures .value) (c .if6 .taken))
 
--- src/lib.rt:147:13
+-- src/lib.rt:185:13
 check-targets-add-i : (t : ℕ) → check-targets-lts.Need-add-i (
   word-at-reads.Asked,
   word-at-reads.Learnt,
   byte-at-reads.Asked,
   byte-at-reads.Learnt,
-  state-at-reads.Asked,
-  state-at-reads.Learnt,
   row-serves-reads.Asked,
   row-serves-reads.Learnt,
   target-of-reads.Asked,
@@ -1156,14 +1347,12 @@ check-targets-add-i : (t : ℕ) → check-targets-lts.Need-add-i (
 ) (check-targets-at t) check-targets.Post check-targets-Inv-loop check-targets-μ-loop
 check-targets-add-i t c = search needs
 
--- src/lib.rt:148:13
+-- src/lib.rt:186:13
 check-targets-check-term-requires : (t : ℕ) → check-targets-lts.Need-check-term-requires (
   word-at-reads.Asked,
   word-at-reads.Learnt,
   byte-at-reads.Asked,
   byte-at-reads.Learnt,
-  state-at-reads.Asked,
-  state-at-reads.Learnt,
   row-serves-reads.Asked,
   row-serves-reads.Learnt,
   target-of-reads.Asked,
@@ -1173,16 +1362,14 @@ check-targets-check-term-requires : (t : ℕ) → check-targets-lts.Need-check-t
   check-term-below t,
   check-term.Post,
 ) (check-targets-at t) check-targets.Post check-targets-Inv-loop check-targets-μ-loop
-check-targets-check-term-requires t c κs = let p = c .before .before .before .before .before .before .before .before .before .before .before .before .before .before .before .before .before .before .before .before .before .before .before .pre .0 in let f = c .before .before .before .before .before .before .loop .inv .forward in let h = c .before .before .before .before .before .before .before .before .before .before .before .before .before .before .before .if1 .left in (omega arith, Prim.tt)
+check-targets-check-term-requires t c κs = let p = c .before .before .before .before .before .before .before .before .before .before .before .before .before .before .before .before .before .before .before .before .before .before .pre .0 in let f = c .before .before .before .before .before .before .loop .inv .forward in let h = c .before .before .before .before .before .before .before .before .before .before .before .before .before .before .if1 .left in (omega arith, Prim.tt)
 
--- src/lib.rt:161:13
+-- src/lib.rt:199:13
 check-targets-same-length-3 : (t : ℕ) → check-targets-lts.Need-same-length-3 (
   word-at-reads.Asked,
   word-at-reads.Learnt,
   byte-at-reads.Asked,
   byte-at-reads.Learnt,
-  state-at-reads.Asked,
-  state-at-reads.Learnt,
   row-serves-reads.Asked,
   row-serves-reads.Learnt,
   target-of-reads.Asked,
@@ -1194,14 +1381,12 @@ check-targets-same-length-3 : (t : ℕ) → check-targets-lts.Need-same-length-3
 ) (check-targets-at t) check-targets.Post check-targets-Inv-loop check-targets-μ-loop
 check-targets-same-length-3 t c = c .before .before .before .check-term .ensures .keeps .long ∙ c .before .before .before .before .before .before .before .before .before .before .loop .inv .keeps .long
 
--- src/lib.rt:161:13
+-- src/lib.rt:199:13
 check-targets-returns-7 : (t : ℕ) → check-targets-lts.Need-returns-7 (
   word-at-reads.Asked,
   word-at-reads.Learnt,
   byte-at-reads.Asked,
   byte-at-reads.Learnt,
-  state-at-reads.Asked,
-  state-at-reads.Learnt,
   row-serves-reads.Asked,
   row-serves-reads.Learnt,
   target-of-reads.Asked,
@@ -1211,16 +1396,14 @@ check-targets-returns-7 : (t : ℕ) → check-targets-lts.Need-returns-7 (
   check-term-below t,
   check-term.Post,
 ) (check-targets-at t) check-targets.Post check-targets-Inv-loop check-targets-μ-loop
-check-targets-returns-7 t c = targets-told _ _ _ _ _ _ _ (c .before .before .before .before .before .before .before .before .before .before .before .before .before .before .before .before .before .before .word-at .ensures .value) (c .before .before .before .before .before .before .before .before .before .before .before .before .before .before .before .before .before .byte-at .ensures .value) (c .before .before .before .before .before .before .before .before .before .before .before .before .before .before .before .before .state-at .ensures) (let h = c .before .before .before .before .before .before .before .before .before .before .before .before .before .before .before .if2 .left in omega arith) (let h = c .before .before .before .before .before .before .before .before .before .before .before .before .before .before .if3 .left in omega arith) _ refl _ (c .before .before .before .before .before .before .before .before .before .before .before .before .row-serves .ensures) (not-false _ (c .before .before .before .before .before .before .before .before .before .before .before .if4 .left)) _ (omega arith) _ _ (target-lacks _ (c .before .before .before .before .before .before .before .before .before .before .loop .inv) (c .before .before .before .before .before .before .before .before .before .loop-test .taken) _ (c .before .before .before .before .before .before .before .before .target-of .ensures) (c .before .before .before .before .before .before .before .if5 .left) _ _ (c .before .before .before .check-term .ensures) (not-true _ (c .if7 .taken)))
+check-targets-returns-7 t c = targets-told _ _ _ _ _ _ _ (c .before .before .before .before .before .before .before .before .before .before .before .before .before .before .before .before .before .word-at .ensures .value) (c .before .before .before .before .before .before .before .before .before .before .before .before .before .before .before .before .byte-at .ensures .value) (let h = c .before .before .before .before .before .before .before .before .before .before .before .before .before .before .before .if2 .left in omega arith) (let h = c .before .before .before .before .before .before .before .before .before .before .before .before .before .before .if3 .left in omega arith) _ refl _ (c .before .before .before .before .before .before .before .before .before .before .before .before .row-serves .ensures) (not-false _ (c .before .before .before .before .before .before .before .before .before .before .before .if4 .left)) _ (omega arith) _ _ (target-lacks _ (c .before .before .before .before .before .before .before .before .before .before .loop .inv) (c .before .before .before .before .before .before .before .before .before .loop-test .taken) _ (c .before .before .before .before .before .before .before .before .target-of .ensures) (c .before .before .before .before .before .before .before .if5 .left) _ _ (c .before .before .before .check-term .ensures) (not-true _ (c .if7 .taken)))
 
--- src/lib.rt:138:5
+-- src/lib.rt:176:5
 check-targets-loop-less : (t : ℕ) → check-targets-lts.Need-loop-less (
   word-at-reads.Asked,
   word-at-reads.Learnt,
   byte-at-reads.Asked,
   byte-at-reads.Learnt,
-  state-at-reads.Asked,
-  state-at-reads.Learnt,
   row-serves-reads.Asked,
   row-serves-reads.Learnt,
   target-of-reads.Asked,
@@ -1232,14 +1415,12 @@ check-targets-loop-less : (t : ℕ) → check-targets-lts.Need-loop-less (
 ) (check-targets-at t) check-targets.Post check-targets-Inv-loop check-targets-μ-loop
 check-targets-loop-less t c = let h = c .before .before .before .before .before .before .before .before .before .loop-test .taken in omega arith
 
--- src/lib.rt:138:5
+-- src/lib.rt:176:5
 check-targets-loop-again : (t : ℕ) → check-targets-lts.Need-loop-again (
   word-at-reads.Asked,
   word-at-reads.Learnt,
   byte-at-reads.Asked,
   byte-at-reads.Learnt,
-  state-at-reads.Asked,
-  state-at-reads.Learnt,
   row-serves-reads.Asked,
   row-serves-reads.Learnt,
   target-of-reads.Asked,
@@ -1251,14 +1432,12 @@ check-targets-loop-again : (t : ℕ) → check-targets-lts.Need-loop-again (
 ) (check-targets-at t) check-targets.Post check-targets-Inv-loop check-targets-μ-loop
 check-targets-loop-again t c = target-has _ (c .before .before .before .before .before .before .before .before .before .before .loop .inv) (c .before .before .before .before .before .before .before .before .before .loop-test .taken) _ (c .before .before .before .before .before .before .before .before .target-of .ensures) (c .before .before .before .before .before .before .before .if5 .left) _ _ (c .before .before .before .check-term .ensures) (not-false _ (c .if7 .left)) _ _ (c .before .before .before .before .before .before .place-at .ensures .value) (let h = c .before .before .before .before .before .if6 .left in omega arith) (omega arith)
 
--- src/lib.rt:103:1
+-- src/lib.rt:141:1
 check-targets-same-length-4 : (t : ℕ) → check-targets-lts.Need-same-length-4 (
   word-at-reads.Asked,
   word-at-reads.Learnt,
   byte-at-reads.Asked,
   byte-at-reads.Learnt,
-  state-at-reads.Asked,
-  state-at-reads.Learnt,
   row-serves-reads.Asked,
   row-serves-reads.Learnt,
   target-of-reads.Asked,
@@ -1270,14 +1449,12 @@ check-targets-same-length-4 : (t : ℕ) → check-targets-lts.Need-same-length-4
 ) (check-targets-at t) check-targets.Post check-targets-Inv-loop check-targets-μ-loop
 check-targets-same-length-4 t c = c .before .loop .inv .keeps .long
 
--- src/lib.rt:103:1
+-- src/lib.rt:141:1
 check-targets-returns-8 : (t : ℕ) → check-targets-lts.Need-returns-8 (
   word-at-reads.Asked,
   word-at-reads.Learnt,
   byte-at-reads.Asked,
   byte-at-reads.Learnt,
-  state-at-reads.Asked,
-  state-at-reads.Learnt,
   row-serves-reads.Asked,
   row-serves-reads.Learnt,
   target-of-reads.Asked,
@@ -1287,7 +1464,7 @@ check-targets-returns-8 : (t : ℕ) → check-targets-lts.Need-returns-8 (
   check-term-below t,
   check-term.Post,
 ) (check-targets-at t) check-targets.Post check-targets-Inv-loop check-targets-μ-loop
-check-targets-returns-8 t c = targets-told _ _ _ _ _ _ _ (c .before .before .before .before .before .before .before .before .before .word-at .ensures .value) (c .before .before .before .before .before .before .before .before .byte-at .ensures .value) (c .before .before .before .before .before .before .before .state-at .ensures) (let h = c .before .before .before .before .before .before .if2 .left in omega arith) (let h = c .before .before .before .before .before .if3 .left in omega arith) _ refl _ (c .before .before .before .row-serves .ensures) (not-false _ (c .before .before .if4 .left)) _ (omega arith) _ _ (args-end _ (c .before .loop .inv) (c .loop-test .left))
+check-targets-returns-8 t c = targets-told _ _ _ _ _ _ _ (c .before .before .before .before .before .before .before .before .word-at .ensures .value) (c .before .before .before .before .before .before .before .byte-at .ensures .value) (let h = c .before .before .before .before .before .before .if2 .left in omega arith) (let h = c .before .before .before .before .before .if3 .left in omega arith) _ refl _ (c .before .before .before .row-serves .ensures) (not-false _ (c .before .before .if4 .left)) _ (omega arith) _ _ (args-end _ (c .before .loop .inv) (c .loop-test .left))
 
 -- src/lib.rt:46:9
 check-term-returns : (t : ℕ) → check-term-lts.Need-returns (
@@ -1299,12 +1476,10 @@ check-term-returns : (t : ℕ) → check-term-lts.Need-returns (
   bare-has-reads.Learnt,
   known-reads.Asked,
   known-reads.Learnt,
-  check-targets-below t,
-  check-targets.Post,
+  check-head-below t,
+  check-head.Post,
   learn-reads.Asked,
   learn-reads.Learnt,
-  check-choices-below t,
-  check-choices.Post,
 ) (check-term-at t) check-term.Post
 check-term-returns t c = types-many _ _ _ _ (c .if1 .taken)
 
@@ -1318,12 +1493,10 @@ check-term-returns-2 : (t : ℕ) → check-term-lts.Need-returns-2 (
   bare-has-reads.Learnt,
   known-reads.Asked,
   known-reads.Learnt,
-  check-targets-below t,
-  check-targets.Post,
+  check-head-below t,
+  check-head.Post,
   learn-reads.Asked,
   learn-reads.Learnt,
-  check-choices-below t,
-  check-choices.Post,
 ) (check-term-at t) check-term.Post
 check-term-returns-2 t c = term-past _ _ _ _ (c .if2 .taken)
 
@@ -1337,12 +1510,10 @@ check-term-mul-byte-at : (t : ℕ) → check-term-lts.Need-mul-byte-at (
   bare-has-reads.Learnt,
   known-reads.Asked,
   known-reads.Learnt,
-  check-targets-below t,
-  check-targets.Post,
+  check-head-below t,
+  check-head.Post,
   learn-reads.Asked,
   learn-reads.Learnt,
-  check-choices-below t,
-  check-choices.Post,
 ) (check-term-at t) check-term.Post
 check-term-mul-byte-at t c = search needs
 
@@ -1356,12 +1527,10 @@ check-term-byte-at-requires : (t : ℕ) → check-term-lts.Need-byte-at-requires
   bare-has-reads.Learnt,
   known-reads.Asked,
   known-reads.Learnt,
-  check-targets-below t,
-  check-targets.Post,
+  check-head-below t,
+  check-head.Post,
   learn-reads.Asked,
   learn-reads.Learnt,
-  check-choices-below t,
-  check-choices.Post,
 ) (check-term-at t) check-term.Post
 check-term-byte-at-requires t c κs = search needs
 
@@ -1375,12 +1544,10 @@ check-term-mul-word-at : (t : ℕ) → check-term-lts.Need-mul-word-at (
   bare-has-reads.Learnt,
   known-reads.Asked,
   known-reads.Learnt,
-  check-targets-below t,
-  check-targets.Post,
+  check-head-below t,
+  check-head.Post,
   learn-reads.Asked,
   learn-reads.Learnt,
-  check-choices-below t,
-  check-choices.Post,
 ) (check-term-at t) check-term.Post
 check-term-mul-word-at t c = search needs
 
@@ -1394,12 +1561,10 @@ check-term-add-word-at : (t : ℕ) → check-term-lts.Need-add-word-at (
   bare-has-reads.Learnt,
   known-reads.Asked,
   known-reads.Learnt,
-  check-targets-below t,
-  check-targets.Post,
+  check-head-below t,
+  check-head.Post,
   learn-reads.Asked,
   learn-reads.Learnt,
-  check-choices-below t,
-  check-choices.Post,
 ) (check-term-at t) check-term.Post
 check-term-add-word-at t c = search needs
 
@@ -1413,12 +1578,10 @@ check-term-word-at-requires : (t : ℕ) → check-term-lts.Need-word-at-requires
   bare-has-reads.Learnt,
   known-reads.Asked,
   known-reads.Learnt,
-  check-targets-below t,
-  check-targets.Post,
+  check-head-below t,
+  check-head.Post,
   learn-reads.Asked,
   learn-reads.Learnt,
-  check-choices-below t,
-  check-choices.Post,
 ) (check-term-at t) check-term.Post
 check-term-word-at-requires t c κs = search needs
 
@@ -1432,12 +1595,10 @@ check-term-mul-byte-at-2 : (t : ℕ) → check-term-lts.Need-mul-byte-at-2 (
   bare-has-reads.Learnt,
   known-reads.Asked,
   known-reads.Learnt,
-  check-targets-below t,
-  check-targets.Post,
+  check-head-below t,
+  check-head.Post,
   learn-reads.Asked,
   learn-reads.Learnt,
-  check-choices-below t,
-  check-choices.Post,
 ) (check-term-at t) check-term.Post
 check-term-mul-byte-at-2 t c = search needs
 
@@ -1451,12 +1612,10 @@ check-term-add-byte-at : (t : ℕ) → check-term-lts.Need-add-byte-at (
   bare-has-reads.Learnt,
   known-reads.Asked,
   known-reads.Learnt,
-  check-targets-below t,
-  check-targets.Post,
+  check-head-below t,
+  check-head.Post,
   learn-reads.Asked,
   learn-reads.Learnt,
-  check-choices-below t,
-  check-choices.Post,
 ) (check-term-at t) check-term.Post
 check-term-add-byte-at t c = search needs
 
@@ -1470,12 +1629,10 @@ check-term-byte-at-requires-2 : (t : ℕ) → check-term-lts.Need-byte-at-requir
   bare-has-reads.Learnt,
   known-reads.Asked,
   known-reads.Learnt,
-  check-targets-below t,
-  check-targets.Post,
+  check-head-below t,
+  check-head.Post,
   learn-reads.Asked,
   learn-reads.Learnt,
-  check-choices-below t,
-  check-choices.Post,
 ) (check-term-at t) check-term.Post
 check-term-byte-at-requires-2 t c κs = search needs
 
@@ -1489,12 +1646,10 @@ check-term-bare-has-requires : (t : ℕ) → check-term-lts.Need-bare-has-requir
   bare-has-reads.Learnt,
   known-reads.Asked,
   known-reads.Learnt,
-  check-targets-below t,
-  check-targets.Post,
+  check-head-below t,
+  check-head.Post,
   learn-reads.Asked,
   learn-reads.Learnt,
-  check-choices-below t,
-  check-choices.Post,
 ) (check-term-at t) check-term.Post
 check-term-bare-has-requires t c κs = search needs
 
@@ -1508,12 +1663,10 @@ check-term-returns-3 : (t : ℕ) → check-term-lts.Need-returns-3 (
   bare-has-reads.Learnt,
   known-reads.Asked,
   known-reads.Learnt,
-  check-targets-below t,
-  check-targets.Post,
+  check-head-below t,
+  check-head.Post,
   learn-reads.Asked,
   learn-reads.Learnt,
-  check-choices-below t,
-  check-choices.Post,
 ) (check-term-at t) check-term.Post
 check-term-returns-3 t c = bare-checked _ _ _ _ _ _ _ (other-head _ _ _ _ (c .before .before .before .before .before .byte-at .ensures .value) (c .before .before .before .before .word-at .ensures .value) (c .before .if4 .taken) (let h = c .before .before .before .before .before .before .if2 .left in omega arith)) (c .before .before .before .byte-at2 .ensures .value) (c .before .before .if3 .taken) (let h = c .before .before .before .before .before .before .if2 .left in omega arith) _ (c .bare-has .ensures)
 
@@ -1527,12 +1680,10 @@ check-term-add-known : (t : ℕ) → check-term-lts.Need-add-known (
   bare-has-reads.Learnt,
   known-reads.Asked,
   known-reads.Learnt,
-  check-targets-below t,
-  check-targets.Post,
+  check-head-below t,
+  check-head.Post,
   learn-reads.Asked,
   learn-reads.Learnt,
-  check-choices-below t,
-  check-choices.Post,
 ) (check-term-at t) check-term.Post
 check-term-add-known t c = search needs
 
@@ -1546,12 +1697,10 @@ check-term-known-requires : (t : ℕ) → check-term-lts.Need-known-requires (
   bare-has-reads.Learnt,
   known-reads.Asked,
   known-reads.Learnt,
-  check-targets-below t,
-  check-targets.Post,
+  check-head-below t,
+  check-head.Post,
   learn-reads.Asked,
   learn-reads.Learnt,
-  check-choices-below t,
-  check-choices.Post,
 ) (check-term-at t) check-term.Post
 check-term-known-requires t c κs = search needs
 
@@ -1565,12 +1714,10 @@ check-term-same-length : (t : ℕ) → check-term-lts.Need-same-length (
   bare-has-reads.Learnt,
   known-reads.Asked,
   known-reads.Learnt,
-  check-targets-below t,
-  check-targets.Post,
+  check-head-below t,
+  check-head.Post,
   learn-reads.Asked,
   learn-reads.Learnt,
-  check-choices-below t,
-  check-choices.Post,
 ) (check-term-at t) check-term.Post
 check-term-same-length t c = search needs
 
@@ -1584,12 +1731,10 @@ check-term-returns-4 : (t : ℕ) → check-term-lts.Need-returns-4 (
   bare-has-reads.Learnt,
   known-reads.Asked,
   known-reads.Learnt,
-  check-targets-below t,
-  check-targets.Post,
+  check-head-below t,
+  check-head.Post,
   learn-reads.Asked,
   learn-reads.Learnt,
-  check-choices-below t,
-  check-choices.Post,
 ) (check-term-at t) check-term.Post
 check-term-returns-4 t c = known-yes _ _ _ _ _ (c .before .known .ensures) (c .if5 .taken)
 
@@ -1603,12 +1748,10 @@ check-term-same-length-2 : (t : ℕ) → check-term-lts.Need-same-length-2 (
   bare-has-reads.Learnt,
   known-reads.Asked,
   known-reads.Learnt,
-  check-targets-below t,
-  check-targets.Post,
+  check-head-below t,
+  check-head.Post,
   learn-reads.Asked,
   learn-reads.Learnt,
-  check-choices-below t,
-  check-choices.Post,
 ) (check-term-at t) check-term.Post
 check-term-same-length-2 t c = search needs
 
@@ -1622,17 +1765,15 @@ check-term-returns-5 : (t : ℕ) → check-term-lts.Need-returns-5 (
   bare-has-reads.Learnt,
   known-reads.Asked,
   known-reads.Learnt,
-  check-targets-below t,
-  check-targets.Post,
+  check-head-below t,
+  check-head.Post,
   learn-reads.Asked,
   learn-reads.Learnt,
-  check-choices-below t,
-  check-choices.Post,
 ) (check-term-at t) check-term.Post
 check-term-returns-5 t c = known-no _ _ _ _ _ (c .before .before .known .ensures) (c .if6 .taken)
 
--- src/lib.rt:68:13
-check-term-check-targets-requires : (t : ℕ) → check-term-lts.Need-check-targets-requires (
+-- src/lib.rt:67:9
+check-term-check-head-requires : (t : ℕ) → check-term-lts.Need-check-head-requires (
   byte-at-reads.Asked,
   byte-at-reads.Learnt,
   word-at-reads.Asked,
@@ -1641,16 +1782,14 @@ check-term-check-targets-requires : (t : ℕ) → check-term-lts.Need-check-targ
   bare-has-reads.Learnt,
   known-reads.Asked,
   known-reads.Learnt,
-  check-targets-below t,
-  check-targets.Post,
+  check-head-below t,
+  check-head.Post,
   learn-reads.Asked,
   learn-reads.Learnt,
-  check-choices-below t,
-  check-choices.Post,
 ) (check-term-at t) check-term.Post
-check-term-check-targets-requires t c κs = let p = c .before .before .before .before .before .before .before .before .before .before .before .before .before .before .before .before .before .before .before .pre .0 in (omega arith, Prim.tt)
+check-term-check-head-requires t c κs = let p = c .before .before .before .before .before .before .before .before .before .before .before .before .before .before .before .before .before .before .pre .0 in (omega arith, Prim.tt)
 
--- src/lib.rt:81:21
+-- src/lib.rt:80:17
 check-term-add-learn : (t : ℕ) → check-term-lts.Need-add-learn (
   byte-at-reads.Asked,
   byte-at-reads.Learnt,
@@ -1660,16 +1799,14 @@ check-term-add-learn : (t : ℕ) → check-term-lts.Need-add-learn (
   bare-has-reads.Learnt,
   known-reads.Asked,
   known-reads.Learnt,
-  check-targets-below t,
-  check-targets.Post,
+  check-head-below t,
+  check-head.Post,
   learn-reads.Asked,
   learn-reads.Learnt,
-  check-choices-below t,
-  check-choices.Post,
 ) (check-term-at t) check-term.Post
 check-term-add-learn t c = search needs
 
--- src/lib.rt:81:9
+-- src/lib.rt:80:5
 check-term-learn-requires : (t : ℕ) → check-term-lts.Need-learn-requires (
   byte-at-reads.Asked,
   byte-at-reads.Learnt,
@@ -1679,16 +1816,14 @@ check-term-learn-requires : (t : ℕ) → check-term-lts.Need-learn-requires (
   bare-has-reads.Learnt,
   known-reads.Asked,
   known-reads.Learnt,
-  check-targets-below t,
-  check-targets.Post,
+  check-head-below t,
+  check-head.Post,
   learn-reads.Asked,
   learn-reads.Learnt,
-  check-choices-below t,
-  check-choices.Post,
 ) (check-term-at t) check-term.Post
 check-term-learn-requires t c κs = search needs
 
--- src/lib.rt:82:9
+-- src/lib.rt:29:1
 check-term-same-length-3 : (t : ℕ) → check-term-lts.Need-same-length-3 (
   byte-at-reads.Asked,
   byte-at-reads.Learnt,
@@ -1698,16 +1833,14 @@ check-term-same-length-3 : (t : ℕ) → check-term-lts.Need-same-length-3 (
   bare-has-reads.Learnt,
   known-reads.Asked,
   known-reads.Learnt,
-  check-targets-below t,
-  check-targets.Post,
+  check-head-below t,
+  check-head.Post,
   learn-reads.Asked,
   learn-reads.Learnt,
-  check-choices-below t,
-  check-choices.Post,
 ) (check-term-at t) check-term.Post
-check-term-same-length-3 t c = (term-learnt _ _ _ _ _ _ (c .before .before .before .before .before .before .check-targets .ensures (sym (c .before .before .before .before .before .before .before .before .before .before .before .before .before .before .before .before .byte-at .ensures .value) ∙ c .before .before .before .before .before .before .before .before .if7 .taken)) _ (c .before .before .learn .ensures)) .keeps .long
+check-term-same-length-3 t c = (term-learnt _ _ _ _ _ _ (c .before .before .before .before .before .before .check-head .ensures) _ (c .before .before .learn .ensures)) .keeps .long
 
--- src/lib.rt:82:9
+-- src/lib.rt:29:1
 check-term-returns-6 : (t : ℕ) → check-term-lts.Need-returns-6 (
   byte-at-reads.Asked,
   byte-at-reads.Learnt,
@@ -1717,113 +1850,22 @@ check-term-returns-6 : (t : ℕ) → check-term-lts.Need-returns-6 (
   bare-has-reads.Learnt,
   known-reads.Asked,
   known-reads.Learnt,
-  check-targets-below t,
-  check-targets.Post,
+  check-head-below t,
+  check-head.Post,
   learn-reads.Asked,
   learn-reads.Learnt,
-  check-choices-below t,
-  check-choices.Post,
 ) (check-term-at t) check-term.Post
-check-term-returns-6 t c = term-learnt _ _ _ _ _ _ (c .before .before .before .before .before .before .check-targets .ensures (sym (c .before .before .before .before .before .before .before .before .before .before .before .before .before .before .before .before .byte-at .ensures .value) ∙ c .before .before .before .before .before .before .before .before .if7 .taken)) _ (c .before .before .learn .ensures)
+check-term-returns-6 t c = term-learnt _ _ _ _ _ _ (c .before .before .before .before .before .before .check-head .ensures) _ (c .before .before .learn .ensures)
 
--- src/lib.rt:84:9
-check-term-check-choices-requires : (t : ℕ) → check-term-lts.Need-check-choices-requires (
-  byte-at-reads.Asked,
-  byte-at-reads.Learnt,
-  word-at-reads.Asked,
-  word-at-reads.Learnt,
-  bare-has-reads.Asked,
-  bare-has-reads.Learnt,
-  known-reads.Asked,
-  known-reads.Learnt,
-  check-targets-below t,
-  check-targets.Post,
-  learn-reads.Asked,
-  learn-reads.Learnt,
-  check-choices-below t,
-  check-choices.Post,
-) (check-term-at t) check-term.Post
-check-term-check-choices-requires t c κs = let p = c .before .before .before .before .before .before .before .before .before .before .before .before .before .before .before .before .before .before .before .pre .0 in (omega arith, Prim.tt)
-
--- src/lib.rt:97:17
-check-term-add-learn-2 : (t : ℕ) → check-term-lts.Need-add-learn-2 (
-  byte-at-reads.Asked,
-  byte-at-reads.Learnt,
-  word-at-reads.Asked,
-  word-at-reads.Learnt,
-  bare-has-reads.Asked,
-  bare-has-reads.Learnt,
-  known-reads.Asked,
-  known-reads.Learnt,
-  check-targets-below t,
-  check-targets.Post,
-  learn-reads.Asked,
-  learn-reads.Learnt,
-  check-choices-below t,
-  check-choices.Post,
-) (check-term-at t) check-term.Post
-check-term-add-learn-2 t c = search needs
-
--- src/lib.rt:97:5
-check-term-learn-requires-2 : (t : ℕ) → check-term-lts.Need-learn-requires-2 (
-  byte-at-reads.Asked,
-  byte-at-reads.Learnt,
-  word-at-reads.Asked,
-  word-at-reads.Learnt,
-  bare-has-reads.Asked,
-  bare-has-reads.Learnt,
-  known-reads.Asked,
-  known-reads.Learnt,
-  check-targets-below t,
-  check-targets.Post,
-  learn-reads.Asked,
-  learn-reads.Learnt,
-  check-choices-below t,
-  check-choices.Post,
-) (check-term-at t) check-term.Post
-check-term-learn-requires-2 t c κs = search needs
-
--- src/lib.rt:29:1
-check-term-same-length-4 : (t : ℕ) → check-term-lts.Need-same-length-4 (
-  byte-at-reads.Asked,
-  byte-at-reads.Learnt,
-  word-at-reads.Asked,
-  word-at-reads.Learnt,
-  bare-has-reads.Asked,
-  bare-has-reads.Learnt,
-  known-reads.Asked,
-  known-reads.Learnt,
-  check-targets-below t,
-  check-targets.Post,
-  learn-reads.Asked,
-  learn-reads.Learnt,
-  check-choices-below t,
-  check-choices.Post,
-) (check-term-at t) check-term.Post
-check-term-same-length-4 t c = (term-learnt _ _ _ _ _ _ (c .before .before .before .before .before .before .check-choices .ensures (λ z. c .before .before .before .before .before .before .before .before .if7 .left (c .before .before .before .before .before .before .before .before .before .before .before .before .before .before .before .before .byte-at .ensures .value ∙ z))) _ (c .before .before .learn2 .ensures)) .keeps .long
-
--- src/lib.rt:29:1
-check-term-returns-7 : (t : ℕ) → check-term-lts.Need-returns-7 (
-  byte-at-reads.Asked,
-  byte-at-reads.Learnt,
-  word-at-reads.Asked,
-  word-at-reads.Learnt,
-  bare-has-reads.Asked,
-  bare-has-reads.Learnt,
-  known-reads.Asked,
-  known-reads.Learnt,
-  check-targets-below t,
-  check-targets.Post,
-  learn-reads.Asked,
-  learn-reads.Learnt,
-  check-choices-below t,
-  check-choices.Post,
-) (check-term-at t) check-term.Post
-check-term-returns-7 t c = term-learnt _ _ _ _ _ _ (c .before .before .before .before .before .before .check-choices .ensures (λ z. c .before .before .before .before .before .before .before .before .if7 .left (c .before .before .before .before .before .before .before .before .before .before .before .before .before .before .before .before .byte-at .ensures .value ∙ z))) _ (c .before .before .learn2 .ensures)
-
-pub +check-args+check-choices+check-targets+check-term-spec : {M : Type 1} → statement M
-+check-args+check-choices+check-targets+check-term-spec =
-    close μ-check-args μ-check-choices μ-check-targets μ-check-term (λ t. check-args-lts.spec (
+pub +check-args+check-choices+check-head+check-targets+check-term-spec : {M : Type 1} → statement M
++check-args+check-choices+check-head+check-targets+check-term-spec =
+    close
+    μ-check-args
+    μ-check-choices
+    μ-check-head
+    μ-check-targets
+    μ-check-term
+    (λ t. check-args-lts.spec (
       wanted-reads.Asked,
       wanted-reads.Learnt,
       place-at-reads.Asked,
@@ -1893,13 +1935,41 @@ pub +check-args+check-choices+check-targets+check-term-spec : {M : Type 1} → s
     (check-choices-loop-again-2 t)
     (check-choices-same-length-2 t)
     (check-choices-returns-3 t))
+    (λ t. check-head-lts.spec (
+      byte-at-reads.Asked,
+      byte-at-reads.Learnt,
+      check-choices-below t,
+      check-choices.Post,
+      word-at-reads.Asked,
+      word-at-reads.Learnt,
+      state-at-reads.Asked,
+      state-at-reads.Learnt,
+      check-targets-below t,
+      check-targets.Post,
+    )
+    (check-head-at t)
+    check-head.Post
+    (check-head-returns t)
+    (check-head-mul-byte-at t)
+    (check-head-byte-at-requires t)
+    (check-head-check-choices-requires t)
+    (check-head-same-length t)
+    (check-head-returns-2 t)
+    (check-head-mul-word-at t)
+    (check-head-add-word-at t)
+    (check-head-word-at-requires t)
+    (check-head-mul-byte-at-2 t)
+    (check-head-add-byte-at t)
+    (check-head-byte-at-requires-2 t)
+    (check-head-state-at-requires t)
+    (check-head-check-targets-requires t)
+    (check-head-same-length-2 t)
+    (check-head-returns-3 t))
     (λ t. check-targets-lts.spec (
       word-at-reads.Asked,
       word-at-reads.Learnt,
       byte-at-reads.Asked,
       byte-at-reads.Learnt,
-      state-at-reads.Asked,
-      state-at-reads.Learnt,
       row-serves-reads.Asked,
       row-serves-reads.Learnt,
       target-of-reads.Asked,
@@ -1921,7 +1991,6 @@ pub +check-args+check-choices+check-targets+check-term-spec : {M : Type 1} → s
     (check-targets-add-byte-at t)
     (check-targets-byte-at-requires t)
     (check-targets-add-next t)
-    (check-targets-state-at-requires t)
     (check-targets-returns-2 t)
     (check-targets-returns-3 t)
     (check-targets-mul-row t)
@@ -1954,12 +2023,10 @@ pub +check-args+check-choices+check-targets+check-term-spec : {M : Type 1} → s
       bare-has-reads.Learnt,
       known-reads.Asked,
       known-reads.Learnt,
-      check-targets-below t,
-      check-targets.Post,
+      check-head-below t,
+      check-head.Post,
       learn-reads.Asked,
       learn-reads.Learnt,
-      check-choices-below t,
-      check-choices.Post,
     )
     (check-term-at t)
     check-term.Post
@@ -1981,13 +2048,8 @@ pub +check-args+check-choices+check-targets+check-term-spec : {M : Type 1} → s
     (check-term-returns-4 t)
     (check-term-same-length-2 t)
     (check-term-returns-5 t)
-    (check-term-check-targets-requires t)
+    (check-term-check-head-requires t)
     (check-term-add-learn t)
     (check-term-learn-requires t)
     (check-term-same-length-3 t)
     (check-term-returns-6 t)
-    (check-term-check-choices-requires t)
-    (check-term-add-learn-2 t)
-    (check-term-learn-requires-2 t)
-    (check-term-same-length-4 t)
-    (check-term-returns-7 t)
