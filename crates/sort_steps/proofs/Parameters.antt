@@ -3,7 +3,7 @@ use Prim.Native.Nat.{ℕ, zero, suc, _+_, _-_, _<_, _≤_}
 use mathlib.Core.Path.{_≡_, refl, sym, ap, subst, _∙_}
 use mathlib.Core.List.{List, _∷_}
 use native.Mathlib.Omega.{arith}
-use native.Mathlib.Decide.{ℕ-discrete}
+use native.Mathlib.Decide.{decLt, ℕ-discrete}
 use lib.ListN.{length, getD, set, length-set}
 use lib.Seq.{getD-set-same, getD-set-other}
 use Rattle.scheme.specs.Sorts.{Sort, o, arguments}
@@ -76,6 +76,17 @@ module _ (froms tos : List ℕ) (own : ℕ) where
         go : (e : ℕ) → e < j + 1 → Dec (e ≡ j) → ParameterSort froms tos own e (getD (set sorts j v) e 0)
         go e k (yes z) = subst (λ x. ParameterSort froms tos own x (getD (set sorts j v) x 0)) (sym z) (subst (ParameterSort froms tos own j) (sym (getD-set-same sorts j v 0 (let y = l .eight in omega arith))) here)
         go e k (no z) = subst (ParameterSort froms tos own e) (sym (getD-set-other sorts j e v 0 z)) (l .done e (let w = z in omega arith))
+
+    -- sort 0 has no arguments, so there are no other parameters
+    pub list-stop : s ≡ 0 → ParameterSorts froms tos own sorts
+    list-stop z e k = go (decLt e j)
+      where
+        go : Dec (e < j) → ParameterSort froms tos own e (getD sorts e 0)
+        go (yes h) = l .done e h
+        go (no h) = λ ss w a b.
+            let (x, y, q) = l .ahead e (omega arith) ss w a b in
+            let (p, f) = arguments-step w s (e - j) x y in
+            absurd (omega arith)
 
     pub list-all : 8 ≤ j → ParameterSorts froms tos own sorts
     list-all h e k = l .done e (omega arith)

@@ -23,6 +23,9 @@ pub fn parameter_sorts(froms: &[u16], tos: &[u16], own: usize) -> [u16; 8]
     let mut s = own;
     let mut j: usize = 0;
     while j < 8 {
+        if s == 0 {
+            return sorts;
+        }
         sorts[j] = place_at(froms, s) as u16;
         s = place_at(tos, s);
         j += 1;

@@ -1,9 +1,8 @@
 -- `parameter_sorts` meets its contract: the sorts before j are listed, and the arguments of sort s are the other parameters.
 use Prim.Native.Nat.{_-_}
 use mathlib.Core.Path.{refl}
-use native.Mathlib.Omega.{arith}
-use Rattle.sort_steps.proofs.Parameters.{Listing, list-none, list-more, list-all}
 use borrow.Author.Needs.{needs}
+use Rattle.sort_steps.proofs.Parameters.{Listing, list-none, list-more, list-stop, list-all}
 use Rattle.sort_steps.proofs.parameter_sorts.Statement.{statement}
 use Rattle.sort_steps.proofs.parameter_sorts.Tie as tie
 
@@ -15,6 +14,9 @@ abbrev μ-loop : tie.MeasureT-loop
 
 loop-holds : tie.Need-loop-holds Inv-loop μ-loop
 loop-holds c = list-none _ _ _ _ refl
+
+returns : tie.Need-returns Inv-loop μ-loop
+returns c = list-stop _ _ _ _ _ _ (c .before .before .loop .inv) (c .if1 .taken)
 
 place-at-requires : tie.Need-place-at-requires Inv-loop μ-loop
 place-at-requires c κs = search needs
@@ -38,10 +40,10 @@ loop-less : tie.Need-loop-less Inv-loop μ-loop
 loop-less c = search needs
 
 loop-again : tie.Need-loop-again Inv-loop μ-loop
-loop-again c = list-more _ _ _ _ _ _ (c .before .before .before .loop .inv) _ _ (c .before .before .loop-test .taken) (c .before .place-at .ensures .value) (c .place-at2 .ensures .value)
+loop-again c = list-more _ _ _ _ _ _ (c .before .before .before .before .loop .inv) _ _ (c .before .before .before .loop-test .taken) (c .before .place-at .ensures .value) (c .place-at2 .ensures .value)
 
-returns : tie.Need-returns Inv-loop μ-loop
-returns c = list-all _ _ _ _ _ _ (c .before .loop .inv) (c .loop-test .left)
+returns-2 : tie.Need-returns-2 Inv-loop μ-loop
+returns-2 c = list-all _ _ _ _ _ _ (c .before .loop .inv) (c .loop-test .left)
 
 pub parameter-sorts-spec : {M : Type 1} → statement M
 parameter-sorts-spec =
@@ -50,6 +52,7 @@ parameter-sorts-spec =
     Inv-loop
     μ-loop
     loop-holds
+    returns
     place-at-requires
     cast-sorts
     mul-sorts
@@ -58,4 +61,4 @@ parameter-sorts-spec =
     add-j
     loop-less
     loop-again
-    returns)
+    returns-2)
