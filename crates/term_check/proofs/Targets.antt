@@ -1,7 +1,7 @@
 -- The loop over the arguments of a constructor: each has its target.
 use Prim.Native.Nat.{ℕ, suc, _+_, _*_, _<_, _≤_}
 use native.Mathlib.Omega.{arith}
-use mathlib.Core.Path.{_≡_, refl, sym, subst, _∙_}
+use mathlib.Core.Path.{_≡_, refl}
 use mathlib.Core.Bool.{Bool, true, false}
 use mathlib.Core.List.{List}
 use lib.ListN.{length, getD}
@@ -10,37 +10,24 @@ use Rattle.moves.specs.Moves.{rowAt}
 use Rattle.serving.specs.Serving.{EndsIn, Serves}
 use Rattle.wants.specs.Wants.{Wants, IsTarget}
 use Rattle.wants.proofs.Wanting.{want-target, want-second, follow-row}
-use Rattle.term_check.specs.Checking.{Body, ChecksTerm, ChecksTargets, ChecksArgs}
+use Rattle.term_check.specs.Checking.{Body, ChecksTerm, ChecksArgs}
 use Rattle.term_check.proofs.Arguments.{Args, args-past, args-stuck, args-next, args-lacks, args-has}
 use Rattle.term_check.proofs.Heads.{no-state-there, no-constructor-there, row-not-served, row-checked}
 
-module _ (x : Body) (memo₀ : List ℕ) (i goal q c count : ℕ) (is-c : c ≡ word (x .body) (i * 4 + 1)) (is-count : count ≡ byte (x .body) (i * 4 + 3)) where
-  ends-here : EndsIn (x .file) (x .index) (x .test .types) (x .test .constructors) (word (x .body) (i * 4 + 1)) (byte (x .body) (i * 4 + 3)) goal q → EndsIn (x .file) (x .index) (x .test .types) (x .test .constructors) c count goal q
-  ends-here e =
-      subst (λ d. EndsIn (x .file) (x .index) (x .test .types) (x .test .constructors) d count goal q) (sym is-c)
-      (subst (λ k. EndsIn (x .file) (x .index) (x .test .types) (x .test .constructors) (word (x .body) (i * 4 + 1)) k goal q) (sym is-count) e)
+module _ (x : Body) (memo₀ : List ℕ) (i goal q c count : ℕ) (is-c : c ≡ word (x .body) (i * 4 + 1)) (is-count : count ≡ byte (x .body) (i * 4 + 3)) (ends : EndsIn (x .file) (x .index) (x .test .types) (x .test .constructors) c count goal q) (tag : ℕ) (is-tag : tag ≡ byte (x .body) (i * 4)) (e : tag ≡ 0) where
+  pub targets-no-state : 16 ≤ q → ChecksTerm x memo₀ i goal memo₀ false
+  targets-no-state h = no-state-there x memo₀ i goal tag c count is-tag is-c is-count e q ends h
 
-  pub targets-no-state : 16 ≤ q → ChecksTargets x memo₀ i goal q memo₀ false
-  targets-no-state h e ends = no-state-there x memo₀ i goal (byte (x .body) (i * 4)) c count refl is-c is-count e q (ends-here ends) h
-
-  pub targets-no-constructor : 32 ≤ c → ChecksTargets x memo₀ i goal q memo₀ false
-  targets-no-constructor h e ends = no-constructor-there x memo₀ i goal (byte (x .body) (i * 4)) c count refl is-c is-count e q (ends-here ends) h
+  pub targets-no-constructor : 32 ≤ c → ChecksTerm x memo₀ i goal memo₀ false
+  targets-no-constructor h = no-constructor-there x memo₀ i goal tag c count is-tag is-c is-count e q ends h
 
   -- the row of the table at the state
   module _ (few : q < 16) (known : c < 32) (row : List ℕ) (is-row : row ≡ rowAt (x .table) q c) (served : Bool) (serves : Serves (x .file) (x .index) (x .test .types) (x .test .constructors) row c count q goal served) where
-    pub targets-not-served : served ≡ false → ChecksTargets x memo₀ i goal q memo₀ false
-    targets-not-served z e ends = row-not-served x memo₀ i goal (byte (x .body) (i * 4)) c count refl is-c is-count e q (ends-here ends) few known row is-row served serves z
+    pub targets-not-served : served ≡ false → ChecksTerm x memo₀ i goal memo₀ false
+    targets-not-served z = row-not-served x memo₀ i goal tag c count is-tag is-c is-count e q ends few known row is-row served serves z
 
-    pub targets-told : served ≡ true → (first : ℕ) → first ≡ suc i → (after : List ℕ) (b : Bool) → ChecksArgs x memo₀ first count true 0 row after b → ChecksTargets x memo₀ i goal q after b
-    targets-told z first ef after b told e ends = row-checked x memo₀ i goal (byte (x .body) (i * 4)) c count refl is-c is-count e q (ends-here ends) few known row is-row served serves z first ef after b told
-
--- what the check of a constructor's arguments says of its term
-pub head-told : (x : Body) (memo : List ℕ) (i goal tag q c count : ℕ) → tag ≡ byte (x .body) (i * 4) → tag ≡ 0 → c ≡ word (x .body) (i * 4 + 1) → count ≡ byte (x .body) (i * 4 + 3)
-    → EndsIn (x .file) (x .index) (x .test .types) (x .test .constructors) c count goal q → (after : List ℕ) (r : Bool) → ChecksTargets x memo i goal q after r → ChecksTerm x memo i goal after r
-head-told x memo i goal tag q c count is-tag zero-there is-c is-count ends after r told =
-    told (sym is-tag ∙ zero-there)
-    (subst (λ d. EndsIn (x .file) (x .index) (x .test .types) (x .test .constructors) d (byte (x .body) (i * 4 + 3)) goal q) is-c
-    (subst (λ k. EndsIn (x .file) (x .index) (x .test .types) (x .test .constructors) c k goal q) is-count ends))
+    pub targets-told : served ≡ true → (first : ℕ) → first ≡ suc i → (after : List ℕ) (b : Bool) → ChecksArgs x memo₀ first count true 0 row after b → ChecksTerm x memo₀ i goal after b
+    targets-told z first ef after b told = row-checked x memo₀ i goal tag c count is-tag is-c is-count e q ends few known row is-row served serves z first ef after b told
 
 -- One argument.
 module _ (x : Body) {memo₀ : List ℕ} {first count : ℕ} {row memo : List ℕ} {at k : ℕ} (w : Args x memo₀ first count true 0 row memo at k 0 0) (h : k < count) where

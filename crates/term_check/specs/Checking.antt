@@ -11,7 +11,7 @@ use Rattle.scheme.specs.Prefix.{Node, flat, flats, terms}
 use Rattle.scheme.specs.Types.{Ty, same, domains}
 use Rattle.scheme.specs.Typing.{headTypes, has}
 use Rattle.scheme.specs.Flags.{chosen}
-use Rattle.records.specs.Fields.{byte, word}
+use Rattle.records.specs.Fields.{byte}
 use Rattle.records.specs.Records.{Record}
 use Rattle.casefile.specs.Kinds.{Kind, payloads, count}
 use Rattle.casefile.specs.Tables.{headOf, nodesOf, firstTerm, automatonOf, bindingsOf}
@@ -21,7 +21,7 @@ use Rattle.groups.specs.Groups.{Grouped}
 use Rattle.moves.specs.Moves.{TableFor}
 use Rattle.goals.specs.Goals.{Goal}
 use Rattle.arrows.specs.Arrows.{off}
-use Rattle.serving.specs.Serving.{Given, EndsIn}
+use Rattle.serving.specs.Serving.{Given}
 use Rattle.serving.specs.Leading.{argsHave}
 use Rattle.memo.specs.Memo.{Under, Faithful}
 use Rattle.wants.specs.Wants.{HeadType}
@@ -90,11 +90,6 @@ pub record Keeps (x : Body) (memo after : List ℕ) : Type 0 where
 pub record ChecksTerm (x : Body) (memo : List ℕ) (i goal : ℕ) (after : List ℕ) (r : Bool) : Type 0 where
   pub keeps : Keeps x memo after
   pub answer : (rs : List Record) (τ : Ty) → Setting x rs τ → Remembers x rs τ memo → Right x rs τ i goal r
-
--- r is the answer for the term at a node that has a constructor in front, where the goal as its type ends in state q
-abbrev pub ChecksTargets : Body → List ℕ → ℕ → ℕ → ℕ → List ℕ → Bool → Type 0
-ChecksTargets x memo i goal q after r =
-    byte (x .body) (i * 4) ≡ 0 → EndsIn (x .file) (x .index) (x .test .types) (x .test .constructors) (word (x .body) (i * 4 + 1)) (byte (x .body) (i * 4 + 3)) goal q → ChecksTerm x memo i goal after r
 
 -- r is the answer for the term at a node that has a nonterminal or a parameter in front
 abbrev pub ChecksChoices : Body → List ℕ → ℕ → ℕ → List ℕ → Bool → Type 0

@@ -14,7 +14,7 @@ use wants::target_of;
 use wants::wanted;
 ghost use mathlib.Core.Bool.{false};
 ghost use mathlib.Core.List.{[]};
-ghost use Rattle.term_check.specs.Checking.{ChecksTerm, ChecksTargets, ChecksChoices, ChecksArgs};
+ghost use Rattle.term_check.specs.Checking.{ChecksTerm, ChecksChoices, ChecksArgs};
 
 // The numbers of a test: how many types and constructors there are, the goal that the binding's type is, and which test
 // this is for the memo.
@@ -91,7 +91,8 @@ pub fn check_term(
     yes
 }
 
-// Whether some type of the head at a node leads to the goal.
+// Whether some type of the head at a node leads to the goal. A constructor's does if the targets of its transition, at the
+// state in which the goal ends, give the goal, and each argument has its target.
 fn check_head(
     file: &[u8],
     index: &[u16],
@@ -129,49 +130,8 @@ fn check_head(
     let constructors = test.constructors;
     let c = word_at(body, at * 4 + 1);
     let count = byte_at(body, at * 4 + 3);
-    let q = state_at(file, index, types, constructors, c, count, goal);
-    check_targets(
-        file,
-        index,
-        groups,
-        kept,
-        ends,
-        body,
-        table,
-        test,
-        memo,
-        at,
-        goal,
-        q,
-    )
-}
-
-// The same for a constructor with the goal for its type, which ends in state q: the targets of its transition at q give
-// the goal, and each argument has its target.
-fn check_targets(
-    file: &[u8],
-    index: &[u16],
-    groups: &[u16],
-    kept: &[u8],
-    ends: &[u16],
-    body: &[u8],
-    table: [[[u8; 4]; 32]; 16],
-    test: Test,
-    memo: &mut [u8],
-    at: usize,
-    goal: usize,
-    q: usize,
-) -> bool
-    ensures { λ r. ⌜ ChecksTargets (record { file = now (file .entry); index = now (index .entry); groups = now (groups .entry); kept = now (kept .entry); ends = now (ends .entry); body = now (body .entry); table = table; test = test }) (now (memo .entry)) at goal q (now (memo .exit)) r ⌝ }
-{
-    if body.len() / 4 <= at {
-        return false;
-    }
-    let types = test.types;
-    let constructors = test.constructors;
-    let c = word_at(body, at * 4 + 1);
-    let count = byte_at(body, at * 4 + 3);
     let mut next = at + 1;
+    let q = state_at(file, index, types, constructors, c, count, goal);
     if 16 <= q {
         return false;
     }
@@ -213,7 +173,8 @@ fn check_targets(
     true
 }
 
-// The same for a nonterminal or a parameter: one of its types leads to the goal, and the arguments have what it asks for.
+// The same with a nonterminal or a parameter in front: one of its types leads to the goal, and the arguments have what it
+// asks for.
 fn check_choices(
     file: &[u8],
     index: &[u16],

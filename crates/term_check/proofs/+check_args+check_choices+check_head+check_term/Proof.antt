@@ -1,4 +1,4 @@
--- `check_term`, `check_head`, `check_targets`, `check_choices` and `check_args` meet their contracts.
+-- `check_term`, `check_head`, `check_choices` and `check_args` meet their contracts.
 use Prim.Native.Nat.{_+_, _-_, _*_, _/_}
 use mathlib.Core.Path.{_≡_, refl, sym, _∙_}
 use mathlib.Core.Bool.{true, false}
@@ -11,7 +11,7 @@ use borrow.Author.Tests.{not-true, not-false}
 use lib.ListN.{length, getD}
 use Rattle.term_check.proofs.Arguments.{Args, member-few, args-start, args-end, args-stuck, args-next, args-lacks, args-has}
 use Rattle.term_check.proofs.Heads.{types-many, term-past, known-yes, known-no, term-learnt, other-head}
-use Rattle.term_check.proofs.Targets.{targets-no-state, targets-no-constructor, targets-not-served, targets-told, head-told, target-past, target-stuck, target-lacks, target-has}
+use Rattle.term_check.proofs.Targets.{targets-no-state, targets-no-constructor, targets-not-served, targets-told, target-past, target-stuck, target-lacks, target-has}
 use Rattle.term_check.proofs.Choices.{bare-checked, Tried, tried-start, tried-end, tried-miss, tried-fails, tried-leads}
 use Rattle.wants.proofs.Wanting.{follow-result}
 use Prim.Native.Nat.{ℕ, _<_}
@@ -19,19 +19,16 @@ use borrow.Fn.Kinds.{In}
 use borrow.Fn.PlainCycle.{Measures, is, falls, and}
 use Rattle.term_check.proofs.check_args.Reads as check-args
 use Rattle.term_check.proofs.check_args.Kinds as check-args-kinds
-use Rattle.term_check.proofs.+check_args+check_choices+check_head+check_targets+check_term.Lts-check_args as check-args-lts
+use Rattle.term_check.proofs.+check_args+check_choices+check_head+check_term.Lts-check_args as check-args-lts
 use Rattle.term_check.proofs.check_choices.Reads as check-choices
 use Rattle.term_check.proofs.check_choices.Kinds as check-choices-kinds
-use Rattle.term_check.proofs.+check_args+check_choices+check_head+check_targets+check_term.Lts-check_choices as check-choices-lts
+use Rattle.term_check.proofs.+check_args+check_choices+check_head+check_term.Lts-check_choices as check-choices-lts
 use Rattle.term_check.proofs.check_head.Reads as check-head
 use Rattle.term_check.proofs.check_head.Kinds as check-head-kinds
-use Rattle.term_check.proofs.+check_args+check_choices+check_head+check_targets+check_term.Lts-check_head as check-head-lts
-use Rattle.term_check.proofs.check_targets.Reads as check-targets
-use Rattle.term_check.proofs.check_targets.Kinds as check-targets-kinds
-use Rattle.term_check.proofs.+check_args+check_choices+check_head+check_targets+check_term.Lts-check_targets as check-targets-lts
+use Rattle.term_check.proofs.+check_args+check_choices+check_head+check_term.Lts-check_head as check-head-lts
 use Rattle.term_check.proofs.check_term.Reads as check-term
 use Rattle.term_check.proofs.check_term.Kinds as check-term-kinds
-use Rattle.term_check.proofs.+check_args+check_choices+check_head+check_targets+check_term.Lts-check_term as check-term-lts
+use Rattle.term_check.proofs.+check_args+check_choices+check_head+check_term.Lts-check_term as check-term-lts
 use Rattle.bare_heads.proofs.bare_has.Reads as bare-has-reads
 use Rattle.candidates.proofs.candidate.Reads as candidate-reads
 use Rattle.candidates.proofs.span_of.Reads as span-of-reads
@@ -45,12 +42,8 @@ use Rattle.serving.proofs.row_serves.Reads as row-serves-reads
 use Rattle.serving.proofs.state_at.Reads as state-at-reads
 use Rattle.wants.proofs.target_of.Reads as target-of-reads
 use Rattle.wants.proofs.wanted.Reads as wanted-reads
-use Rattle.term_check.proofs.+check_args+check_choices+check_head+check_targets+check_term.{
-  statement,
-}
-use Rattle.term_check.proofs.+check_args+check_choices+check_head+check_targets+check_term.Tie.{
-  close,
-}
+use Rattle.term_check.proofs.+check_args+check_choices+check_head+check_term.{statement}
+use Rattle.term_check.proofs.+check_args+check_choices+check_head+check_term.Tie.{close}
 
 abbrev μ-check-args : Measures 7 check-args-kinds.ps ℕ
 μ-check-args κs a = (length (a .1 .1 .1 .1 .1 .0 .now) / 4 - a .1 .1 .1 .1 .1 .1 .1 .1 .1 .0) * 4 + 4
@@ -60,9 +53,6 @@ abbrev μ-check-choices : Measures 7 check-choices-kinds.ps ℕ
 
 abbrev μ-check-head : Measures 7 check-head-kinds.ps ℕ
 μ-check-head κs a = (length (a .1 .1 .1 .1 .1 .0 .now) / 4 - a .1 .1 .1 .1 .1 .1 .1 .1 .1 .0) * 4 + 2
-
-abbrev μ-check-targets : Measures 7 check-targets-kinds.ps ℕ
-μ-check-targets κs a = (length (a .1 .1 .1 .1 .1 .0 .now) / 4 - a .1 .1 .1 .1 .1 .1 .1 .1 .1 .0) * 4 + 1
 
 abbrev μ-check-term : Measures 7 check-term-kinds.ps ℕ
 μ-check-term κs a = (length (a .1 .1 .1 .1 .1 .0 .now) / 4 - a .1 .1 .1 .1 .1 .1 .1 .1 .1 .0) * 4 + 3
@@ -95,18 +85,6 @@ abbrev check-head-below : ℕ → In 7 check-head-kinds.ps
 check-head-below t =
     and 7 check-head-kinds.ps (falls 7 check-head-kinds.ps _<_ μ-check-head t) check-head.Pre
 
-abbrev check-targets-at : ℕ → In 7 check-targets-kinds.ps
-check-targets-at t =
-    and 7 check-targets-kinds.ps (is 7 check-targets-kinds.ps μ-check-targets t) check-targets.Pre
-
-abbrev check-targets-below : ℕ → In 7 check-targets-kinds.ps
-check-targets-below t =
-    and
-    7
-    check-targets-kinds.ps
-    (falls 7 check-targets-kinds.ps _<_ μ-check-targets t)
-    check-targets.Pre
-
 abbrev check-term-at : ℕ → In 7 check-term-kinds.ps
 check-term-at t =
     and 7 check-term-kinds.ps (is 7 check-term-kinds.ps μ-check-term t) check-term.Pre
@@ -121,7 +99,7 @@ check-args-Inv-loop file index groups kept ends body table test memo₀ first co
 abbrev check-args-μ-loop : check-args-lts.MeasureT-loop
 check-args-μ-loop file index groups kept ends body table test memo₀ first count head types at₀ i₀ j₀ asked₀ memo at i j asked = (count - i) * 17 + (16 - j)
 
--- src/lib.rt:280:5
+-- src/lib.rt:241:5
 check-args-loop-holds : (t : ℕ) → check-args-lts.Need-loop-holds (
   wanted-reads.Asked,
   wanted-reads.Learnt,
@@ -134,7 +112,7 @@ check-args-loop-holds : (t : ℕ) → check-args-lts.Need-loop-holds (
 ) (check-args-at t) check-args.Post check-args-Inv-loop check-args-μ-loop
 check-args-loop-holds t c = args-start _ _ _ _ _ _ _
 
--- src/lib.rt:281:13
+-- src/lib.rt:242:13
 check-args-wanted-requires : (t : ℕ) → check-args-lts.Need-wanted-requires (
   wanted-reads.Asked,
   wanted-reads.Learnt,
@@ -147,7 +125,7 @@ check-args-wanted-requires : (t : ℕ) → check-args-lts.Need-wanted-requires (
 ) (check-args-at t) check-args.Post check-args-Inv-loop check-args-μ-loop
 check-args-wanted-requires t c κs = search needs
 
--- src/lib.rt:283:17
+-- src/lib.rt:244:17
 check-args-place-at-requires : (t : ℕ) → check-args-lts.Need-place-at-requires (
   wanted-reads.Asked,
   wanted-reads.Learnt,
@@ -160,7 +138,7 @@ check-args-place-at-requires : (t : ℕ) → check-args-lts.Need-place-at-requir
 ) (check-args-at t) check-args.Post check-args-Inv-loop check-args-μ-loop
 check-args-place-at-requires t c κs = search needs
 
--- src/lib.rt:285:17
+-- src/lib.rt:246:17
 check-args-same-length : (t : ℕ) → check-args-lts.Need-same-length (
   wanted-reads.Asked,
   wanted-reads.Learnt,
@@ -173,7 +151,7 @@ check-args-same-length : (t : ℕ) → check-args-lts.Need-same-length (
 ) (check-args-at t) check-args.Post check-args-Inv-loop check-args-μ-loop
 check-args-same-length t c = c .before .before .before .before .before .loop .inv .keeps .long
 
--- src/lib.rt:285:17
+-- src/lib.rt:246:17
 check-args-returns : (t : ℕ) → check-args-lts.Need-returns (
   wanted-reads.Asked,
   wanted-reads.Learnt,
@@ -186,7 +164,7 @@ check-args-returns : (t : ℕ) → check-args-lts.Need-returns (
 ) (check-args-at t) check-args.Post check-args-Inv-loop check-args-μ-loop
 check-args-returns t c = args-stuck _ (c .before .before .before .before .before .loop .inv) (c .before .before .before .before .loop-test .taken) _ (c .before .before .before .wanted .ensures _ _) _ (c .before .place-at .ensures .value) (c .if2 .taken)
 
--- src/lib.rt:287:13
+-- src/lib.rt:248:13
 check-args-result-of-requires : (t : ℕ) → check-args-lts.Need-result-of-requires (
   wanted-reads.Asked,
   wanted-reads.Learnt,
@@ -199,7 +177,7 @@ check-args-result-of-requires : (t : ℕ) → check-args-lts.Need-result-of-requ
 ) (check-args-at t) check-args.Post check-args-Inv-loop check-args-μ-loop
 check-args-result-of-requires t c κs = search needs
 
--- src/lib.rt:289:17
+-- src/lib.rt:250:17
 check-args-add-i : (t : ℕ) → check-args-lts.Need-add-i (
   wanted-reads.Asked,
   wanted-reads.Learnt,
@@ -212,7 +190,7 @@ check-args-add-i : (t : ℕ) → check-args-lts.Need-add-i (
 ) (check-args-at t) check-args.Post check-args-Inv-loop check-args-μ-loop
 check-args-add-i t c = let h = c .before .before .before .before .before .loop-test .taken in omega arith
 
--- src/lib.rt:280:5
+-- src/lib.rt:241:5
 check-args-loop-less : (t : ℕ) → check-args-lts.Need-loop-less (
   wanted-reads.Asked,
   wanted-reads.Learnt,
@@ -225,7 +203,7 @@ check-args-loop-less : (t : ℕ) → check-args-lts.Need-loop-less (
 ) (check-args-at t) check-args.Post check-args-Inv-loop check-args-μ-loop
 check-args-loop-less t c = let h = c .before .before .before .before .before .loop-test .taken in let f = c .before .before .before .before .before .before .loop .inv .few in omega arith
 
--- src/lib.rt:280:5
+-- src/lib.rt:241:5
 check-args-loop-again : (t : ℕ) → check-args-lts.Need-loop-again (
   wanted-reads.Asked,
   wanted-reads.Learnt,
@@ -238,7 +216,7 @@ check-args-loop-again : (t : ℕ) → check-args-lts.Need-loop-again (
 ) (check-args-at t) check-args.Post check-args-Inv-loop check-args-μ-loop
 check-args-loop-again t c = args-next _ (c .before .before .before .before .before .before .loop .inv) (c .before .before .before .before .before .loop-test .taken) _ (c .before .before .before .before .wanted .ensures _ _) (c .before .before .before .if1 .taken) _ _ _ (c .before .before .place-at .ensures .value) (let h = c .before .if2 .left in omega arith) (follow-result _ (c .result-of .ensures)) (omega arith)
 
--- src/lib.rt:292:17
+-- src/lib.rt:253:17
 check-args-add-j : (t : ℕ) → check-args-lts.Need-add-j (
   wanted-reads.Asked,
   wanted-reads.Learnt,
@@ -251,7 +229,7 @@ check-args-add-j : (t : ℕ) → check-args-lts.Need-add-j (
 ) (check-args-at t) check-args.Post check-args-Inv-loop check-args-μ-loop
 check-args-add-j t c = let f = c .before .before .before .loop .inv .few in omega arith
 
--- src/lib.rt:293:17
+-- src/lib.rt:254:17
 check-args-check-term-requires : (t : ℕ) → check-args-lts.Need-check-term-requires (
   wanted-reads.Asked,
   wanted-reads.Learnt,
@@ -264,7 +242,7 @@ check-args-check-term-requires : (t : ℕ) → check-args-lts.Need-check-term-re
 ) (check-args-at t) check-args.Post check-args-Inv-loop check-args-μ-loop
 check-args-check-term-requires t c κs = let p = c .before .before .before .before .before .before .before .before .before .before .before .before .pre .0 in let f = c .before .before .before .before .loop .inv .forward in (omega arith, Prim.tt)
 
--- src/lib.rt:306:17
+-- src/lib.rt:267:17
 check-args-same-length-2 : (t : ℕ) → check-args-lts.Need-same-length-2 (
   wanted-reads.Asked,
   wanted-reads.Learnt,
@@ -277,7 +255,7 @@ check-args-same-length-2 : (t : ℕ) → check-args-lts.Need-same-length-2 (
 ) (check-args-at t) check-args.Post check-args-Inv-loop check-args-μ-loop
 check-args-same-length-2 t c = (args-lacks _ (c .before .before .before .before .before .before .before .before .loop .inv) (c .before .before .before .before .before .before .before .loop-test .taken) _ (c .before .before .before .before .before .before .wanted .ensures _ _) (c .before .before .before .before .before .if1 .left) _ _ (c .before .before .before .check-term .ensures) (not-true _ (c .if3 .taken))) .keeps .long
 
--- src/lib.rt:306:17
+-- src/lib.rt:267:17
 check-args-returns-2 : (t : ℕ) → check-args-lts.Need-returns-2 (
   wanted-reads.Asked,
   wanted-reads.Learnt,
@@ -290,7 +268,7 @@ check-args-returns-2 : (t : ℕ) → check-args-lts.Need-returns-2 (
 ) (check-args-at t) check-args.Post check-args-Inv-loop check-args-μ-loop
 check-args-returns-2 t c = args-lacks _ (c .before .before .before .before .before .before .before .before .loop .inv) (c .before .before .before .before .before .before .before .loop-test .taken) _ (c .before .before .before .before .before .before .wanted .ensures _ _) (c .before .before .before .before .before .if1 .left) _ _ (c .before .before .before .check-term .ensures) (not-true _ (c .if3 .taken))
 
--- src/lib.rt:280:5
+-- src/lib.rt:241:5
 check-args-loop-less-2 : (t : ℕ) → check-args-lts.Need-loop-less-2 (
   wanted-reads.Asked,
   wanted-reads.Learnt,
@@ -303,7 +281,7 @@ check-args-loop-less-2 : (t : ℕ) → check-args-lts.Need-loop-less-2 (
 ) (check-args-at t) check-args.Post check-args-Inv-loop check-args-μ-loop
 check-args-loop-less-2 t c = let h = c .before .before .before .before .before .before .before .loop-test .taken in let f = member-few _ _ (c .before .before .before .before .before .before .wanted .ensures [] 0 .few) (c .before .before .before .before .before .if1 .left) in omega arith
 
--- src/lib.rt:280:5
+-- src/lib.rt:241:5
 check-args-loop-again-2 : (t : ℕ) → check-args-lts.Need-loop-again-2 (
   wanted-reads.Asked,
   wanted-reads.Learnt,
@@ -316,7 +294,7 @@ check-args-loop-again-2 : (t : ℕ) → check-args-lts.Need-loop-again-2 (
 ) (check-args-at t) check-args.Post check-args-Inv-loop check-args-μ-loop
 check-args-loop-again-2 t c = args-has _ (c .before .before .before .before .before .before .before .before .loop .inv) (c .before .before .before .before .before .before .before .loop-test .taken) _ (c .before .before .before .before .before .before .wanted .ensures _ _) (c .before .before .before .before .before .if1 .left) _ _ (c .before .before .before .check-term .ensures) (not-false _ (c .if3 .left)) _ (omega arith)
 
--- src/lib.rt:259:1
+-- src/lib.rt:220:1
 check-args-same-length-3 : (t : ℕ) → check-args-lts.Need-same-length-3 (
   wanted-reads.Asked,
   wanted-reads.Learnt,
@@ -329,7 +307,7 @@ check-args-same-length-3 : (t : ℕ) → check-args-lts.Need-same-length-3 (
 ) (check-args-at t) check-args.Post check-args-Inv-loop check-args-μ-loop
 check-args-same-length-3 t c = c .before .loop .inv .keeps .long
 
--- src/lib.rt:259:1
+-- src/lib.rt:220:1
 check-args-returns-3 : (t : ℕ) → check-args-lts.Need-returns-3 (
   wanted-reads.Asked,
   wanted-reads.Learnt,
@@ -348,7 +326,7 @@ check-choices-Inv-loop file index groups kept ends body table test memo₀ at go
 abbrev check-choices-μ-loop : check-choices-lts.MeasureT-loop
 check-choices-μ-loop file index groups kept ends body table test memo₀ at goal first nonterminal number count types span given j₀ memo j = span .high - j
 
--- src/lib.rt:223:9
+-- src/lib.rt:184:9
 check-choices-returns : (t : ℕ) → check-choices-lts.Need-returns (
   byte-at-reads.Asked,
   byte-at-reads.Learnt,
@@ -363,7 +341,7 @@ check-choices-returns : (t : ℕ) → check-choices-lts.Need-returns (
 ) (check-choices-at t) check-choices.Post check-choices-Inv-loop check-choices-μ-loop
 check-choices-returns t c = λ other. term-past _ _ _ _ (c .if1 .taken)
 
--- src/lib.rt:225:17
+-- src/lib.rt:186:17
 check-choices-add-first : (t : ℕ) → check-choices-lts.Need-add-first (
   byte-at-reads.Asked,
   byte-at-reads.Learnt,
@@ -378,7 +356,7 @@ check-choices-add-first : (t : ℕ) → check-choices-lts.Need-add-first (
 ) (check-choices-at t) check-choices.Post check-choices-Inv-loop check-choices-μ-loop
 check-choices-add-first t c = search needs
 
--- src/lib.rt:226:37
+-- src/lib.rt:187:37
 check-choices-mul-byte-at : (t : ℕ) → check-choices-lts.Need-mul-byte-at (
   byte-at-reads.Asked,
   byte-at-reads.Learnt,
@@ -393,7 +371,7 @@ check-choices-mul-byte-at : (t : ℕ) → check-choices-lts.Need-mul-byte-at (
 ) (check-choices-at t) check-choices.Post check-choices-Inv-loop check-choices-μ-loop
 check-choices-mul-byte-at t c = search needs
 
--- src/lib.rt:226:23
+-- src/lib.rt:187:23
 check-choices-byte-at-requires : (t : ℕ) → check-choices-lts.Need-byte-at-requires (
   byte-at-reads.Asked,
   byte-at-reads.Learnt,
@@ -408,7 +386,7 @@ check-choices-byte-at-requires : (t : ℕ) → check-choices-lts.Need-byte-at-re
 ) (check-choices-at t) check-choices.Post check-choices-Inv-loop check-choices-μ-loop
 check-choices-byte-at-requires t c κs = search needs
 
--- src/lib.rt:227:32
+-- src/lib.rt:188:32
 check-choices-mul-word-at : (t : ℕ) → check-choices-lts.Need-mul-word-at (
   byte-at-reads.Asked,
   byte-at-reads.Learnt,
@@ -423,7 +401,7 @@ check-choices-mul-word-at : (t : ℕ) → check-choices-lts.Need-mul-word-at (
 ) (check-choices-at t) check-choices.Post check-choices-Inv-loop check-choices-μ-loop
 check-choices-mul-word-at t c = search needs
 
--- src/lib.rt:227:32
+-- src/lib.rt:188:32
 check-choices-add-word-at : (t : ℕ) → check-choices-lts.Need-add-word-at (
   byte-at-reads.Asked,
   byte-at-reads.Learnt,
@@ -438,7 +416,7 @@ check-choices-add-word-at : (t : ℕ) → check-choices-lts.Need-add-word-at (
 ) (check-choices-at t) check-choices.Post check-choices-Inv-loop check-choices-μ-loop
 check-choices-add-word-at t c = search needs
 
--- src/lib.rt:227:9
+-- src/lib.rt:188:9
 check-choices-word-at-requires : (t : ℕ) → check-choices-lts.Need-word-at-requires (
   byte-at-reads.Asked,
   byte-at-reads.Learnt,
@@ -453,7 +431,7 @@ check-choices-word-at-requires : (t : ℕ) → check-choices-lts.Need-word-at-re
 ) (check-choices-at t) check-choices.Post check-choices-Inv-loop check-choices-μ-loop
 check-choices-word-at-requires t c κs = search needs
 
--- src/lib.rt:228:31
+-- src/lib.rt:189:31
 check-choices-mul-byte-at-2 : (t : ℕ) → check-choices-lts.Need-mul-byte-at-2 (
   byte-at-reads.Asked,
   byte-at-reads.Learnt,
@@ -468,7 +446,7 @@ check-choices-mul-byte-at-2 : (t : ℕ) → check-choices-lts.Need-mul-byte-at-2
 ) (check-choices-at t) check-choices.Post check-choices-Inv-loop check-choices-μ-loop
 check-choices-mul-byte-at-2 t c = search needs
 
--- src/lib.rt:228:31
+-- src/lib.rt:189:31
 check-choices-add-byte-at : (t : ℕ) → check-choices-lts.Need-add-byte-at (
   byte-at-reads.Asked,
   byte-at-reads.Learnt,
@@ -483,7 +461,7 @@ check-choices-add-byte-at : (t : ℕ) → check-choices-lts.Need-add-byte-at (
 ) (check-choices-at t) check-choices.Post check-choices-Inv-loop check-choices-μ-loop
 check-choices-add-byte-at t c = search needs
 
--- src/lib.rt:228:9
+-- src/lib.rt:189:9
 check-choices-byte-at-requires-2 : (t : ℕ) → check-choices-lts.Need-byte-at-requires-2 (
   byte-at-reads.Asked,
   byte-at-reads.Learnt,
@@ -498,7 +476,7 @@ check-choices-byte-at-requires-2 : (t : ℕ) → check-choices-lts.Need-byte-at-
 ) (check-choices-at t) check-choices.Post check-choices-Inv-loop check-choices-μ-loop
 check-choices-byte-at-requires-2 t c κs = search needs
 
--- src/lib.rt:230:9
+-- src/lib.rt:191:9
 check-choices-span-of-requires : (t : ℕ) → check-choices-lts.Need-span-of-requires (
   byte-at-reads.Asked,
   byte-at-reads.Learnt,
@@ -513,7 +491,7 @@ check-choices-span-of-requires : (t : ℕ) → check-choices-lts.Need-span-of-re
 ) (check-choices-at t) check-choices.Post check-choices-Inv-loop check-choices-μ-loop
 check-choices-span-of-requires t c κs = search needs
 
--- src/lib.rt:233:5
+-- src/lib.rt:194:5
 check-choices-loop-holds : (t : ℕ) → check-choices-lts.Need-loop-holds (
   byte-at-reads.Asked,
   byte-at-reads.Learnt,
@@ -528,7 +506,7 @@ check-choices-loop-holds : (t : ℕ) → check-choices-lts.Need-loop-holds (
 ) (check-choices-at t) check-choices.Post check-choices-Inv-loop check-choices-μ-loop
 check-choices-loop-holds t c = tried-start _ _ _ _ _ _ _ (c .before .byte-at2 .ensures .value) (let h = c .before .before .before .before .if1 .left in omega arith) (c .span-of .ensures) _ _ refl
 
--- src/lib.rt:234:13
+-- src/lib.rt:195:13
 check-choices-candidate-requires : (t : ℕ) → check-choices-lts.Need-candidate-requires (
   byte-at-reads.Asked,
   byte-at-reads.Learnt,
@@ -543,7 +521,7 @@ check-choices-candidate-requires : (t : ℕ) → check-choices-lts.Need-candidat
 ) (check-choices-at t) check-choices.Post check-choices-Inv-loop check-choices-μ-loop
 check-choices-candidate-requires t c κs = search needs
 
--- src/lib.rt:235:13
+-- src/lib.rt:196:13
 check-choices-add-j : (t : ℕ) → check-choices-lts.Need-add-j (
   byte-at-reads.Asked,
   byte-at-reads.Learnt,
@@ -558,7 +536,7 @@ check-choices-add-j : (t : ℕ) → check-choices-lts.Need-add-j (
 ) (check-choices-at t) check-choices.Post check-choices-Inv-loop check-choices-μ-loop
 check-choices-add-j t c = search needs
 
--- src/lib.rt:237:16
+-- src/lib.rt:198:16
 check-choices-check-args-requires : (t : ℕ) → check-choices-lts.Need-check-args-requires (
   byte-at-reads.Asked,
   byte-at-reads.Learnt,
@@ -573,7 +551,7 @@ check-choices-check-args-requires : (t : ℕ) → check-choices-lts.Need-check-a
 ) (check-choices-at t) check-choices.Post check-choices-Inv-loop check-choices-μ-loop
 check-choices-check-args-requires t c κs = let p = c .before .before .before .before .before .before .before .before .before .before .before .before .before .before .before .before .before .before .pre .0 in let h = c .before .before .before .before .before .before .before .before .before .before .if1 .left in (omega arith, Prim.tt)
 
--- src/lib.rt:251:17
+-- src/lib.rt:212:17
 check-choices-same-length : (t : ℕ) → check-choices-lts.Need-same-length (
   byte-at-reads.Asked,
   byte-at-reads.Learnt,
@@ -588,7 +566,7 @@ check-choices-same-length : (t : ℕ) → check-choices-lts.Need-same-length (
 ) (check-choices-at t) check-choices.Post check-choices-Inv-loop check-choices-μ-loop
 check-choices-same-length t c = c .before .before .before .check-args .ensures .keeps .long ∙ c .before .before .before .before .before .before .before .before .before .loop .inv .keeps .long
 
--- src/lib.rt:251:17
+-- src/lib.rt:212:17
 check-choices-returns-2 : (t : ℕ) → check-choices-lts.Need-returns-2 (
   byte-at-reads.Asked,
   byte-at-reads.Learnt,
@@ -603,7 +581,7 @@ check-choices-returns-2 : (t : ℕ) → check-choices-lts.Need-returns-2 (
 ) (check-choices-at t) check-choices.Post check-choices-Inv-loop check-choices-μ-loop
 check-choices-returns-2 t c = λ other. tried-leads _ _ _ _ _ _ _ (c .before .before .before .before .before .before .before .before .before .before .before .byte-at2 .ensures .value) (let h = c .before .before .before .before .before .before .before .before .before .before .before .before .before .before .if1 .left in omega arith) (c .before .before .before .before .before .before .before .before .before .before .span-of .ensures) (c .before .before .before .before .before .before .before .before .before .loop .inv) (c .before .before .before .before .before .before .before .if2 .taken) _ (c .before .before .before .before .before .before .candidate .ensures) (c .before .before .before .before .before .if3 .taken) _ (omega arith) _ _ _ (c .before .before .before .check-args .ensures) (other-head _ _ _ _ (c .before .before .before .before .before .before .before .before .before .before .before .before .before .byte-at .ensures .value) (c .before .before .before .before .before .before .before .before .before .before .before .before .word-at .ensures .value) (λ z. other (sym (c .before .before .before .before .before .before .before .before .before .before .before .before .before .byte-at .ensures .value) ∙ z)) (let h = c .before .before .before .before .before .before .before .before .before .before .before .before .before .before .if1 .left in omega arith)) (c .if4 .taken)
 
--- src/lib.rt:233:5
+-- src/lib.rt:194:5
 check-choices-loop-less : (t : ℕ) → check-choices-lts.Need-loop-less (
   byte-at-reads.Asked,
   byte-at-reads.Learnt,
@@ -618,7 +596,7 @@ check-choices-loop-less : (t : ℕ) → check-choices-lts.Need-loop-less (
 ) (check-choices-at t) check-choices.Post check-choices-Inv-loop check-choices-μ-loop
 check-choices-loop-less t c = let h = c .before .before .before .before .before .before .before .if2 .taken in omega arith
 
--- src/lib.rt:233:5
+-- src/lib.rt:194:5
 check-choices-loop-again : (t : ℕ) → check-choices-lts.Need-loop-again (
   byte-at-reads.Asked,
   byte-at-reads.Learnt,
@@ -633,7 +611,7 @@ check-choices-loop-again : (t : ℕ) → check-choices-lts.Need-loop-again (
 ) (check-choices-at t) check-choices.Post check-choices-Inv-loop check-choices-μ-loop
 check-choices-loop-again t c = tried-fails _ _ _ _ _ _ _ (c .before .before .before .before .before .before .before .before .before .before .before .byte-at2 .ensures .value) (let h = c .before .before .before .before .before .before .before .before .before .before .before .before .before .before .if1 .left in omega arith) (c .before .before .before .before .before .before .before .before .before .before .span-of .ensures) (c .before .before .before .before .before .before .before .before .before .loop .inv) (c .before .before .before .before .before .before .before .if2 .taken) _ (c .before .before .before .before .before .before .candidate .ensures) (c .before .before .before .before .before .if3 .taken) _ (omega arith) _ _ _ (c .before .before .before .check-args .ensures) (c .if4 .left) _ (omega arith)
 
--- src/lib.rt:233:5
+-- src/lib.rt:194:5
 check-choices-loop-less-2 : (t : ℕ) → check-choices-lts.Need-loop-less-2 (
   byte-at-reads.Asked,
   byte-at-reads.Learnt,
@@ -648,7 +626,7 @@ check-choices-loop-less-2 : (t : ℕ) → check-choices-lts.Need-loop-less-2 (
 ) (check-choices-at t) check-choices.Post check-choices-Inv-loop check-choices-μ-loop
 check-choices-loop-less-2 t c = let h = c .before .before .if2 .taken in omega arith
 
--- src/lib.rt:233:5
+-- src/lib.rt:194:5
 check-choices-loop-again-2 : (t : ℕ) → check-choices-lts.Need-loop-again-2 (
   byte-at-reads.Asked,
   byte-at-reads.Learnt,
@@ -663,7 +641,7 @@ check-choices-loop-again-2 : (t : ℕ) → check-choices-lts.Need-loop-again-2 (
 ) (check-choices-at t) check-choices.Post check-choices-Inv-loop check-choices-μ-loop
 check-choices-loop-again-2 t c = tried-miss _ _ _ _ _ _ _ (c .before .before .before .before .before .before .byte-at2 .ensures .value) (let h = c .before .before .before .before .before .before .before .before .before .if1 .left in omega arith) (c .before .before .before .before .before .span-of .ensures) (c .before .before .before .before .loop .inv) (c .before .before .if2 .taken) _ (c .before .candidate .ensures) (c .if3 .left) _ (omega arith)
 
--- src/lib.rt:207:1
+-- src/lib.rt:168:1
 check-choices-same-length-2 : (t : ℕ) → check-choices-lts.Need-same-length-2 (
   byte-at-reads.Asked,
   byte-at-reads.Learnt,
@@ -678,7 +656,7 @@ check-choices-same-length-2 : (t : ℕ) → check-choices-lts.Need-same-length-2
 ) (check-choices-at t) check-choices.Post check-choices-Inv-loop check-choices-μ-loop
 check-choices-same-length-2 t c = c .before .before .loop .inv .keeps .long
 
--- src/lib.rt:207:1
+-- src/lib.rt:168:1
 check-choices-returns-3 : (t : ℕ) → check-choices-lts.Need-returns-3 (
   byte-at-reads.Asked,
   byte-at-reads.Learnt,
@@ -693,7 +671,13 @@ check-choices-returns-3 : (t : ℕ) → check-choices-lts.Need-returns-3 (
 ) (check-choices-at t) check-choices.Post check-choices-Inv-loop check-choices-μ-loop
 check-choices-returns-3 t c = λ other. tried-end _ _ _ _ _ _ _ (c .before .before .before .before .byte-at2 .ensures .value) (let h = c .before .before .before .before .before .before .before .if1 .left in omega arith) (c .before .before .before .span-of .ensures) (c .before .before .loop .inv) (other-head _ _ _ _ (c .before .before .before .before .before .before .byte-at .ensures .value) (c .before .before .before .before .before .word-at .ensures .value) (λ z. other (sym (c .before .before .before .before .before .before .byte-at .ensures .value) ∙ z)) (let h = c .before .before .before .before .before .before .before .if1 .left in omega arith)) (c .if2 .left)
 
--- src/lib.rt:101:9
+abbrev check-head-Inv-loop : check-head-lts.InvT-loop
+check-head-Inv-loop file index groups kept ends body test memo₀ at goal table types constructors c count next₀ q row i₀ memo next i = Args (record { file = file; index = index; groups = groups; kept = kept; ends = ends; body = body; table = table; test = test }) memo₀ next₀ count true 0 row memo next i 0 0
+
+abbrev check-head-μ-loop : check-head-lts.MeasureT-loop
+check-head-μ-loop file index groups kept ends body test memo₀ at goal table types constructors c count next₀ q row i₀ memo next i = count - i
+
+-- src/lib.rt:102:9
 check-head-returns : (t : ℕ) → check-head-lts.Need-returns (
   byte-at-reads.Asked,
   byte-at-reads.Learnt,
@@ -703,12 +687,18 @@ check-head-returns : (t : ℕ) → check-head-lts.Need-returns (
   word-at-reads.Learnt,
   state-at-reads.Asked,
   state-at-reads.Learnt,
-  check-targets-below t,
-  check-targets.Post,
-) (check-head-at t) check-head.Post
+  row-serves-reads.Asked,
+  row-serves-reads.Learnt,
+  target-of-reads.Asked,
+  target-of-reads.Learnt,
+  place-at-reads.Asked,
+  place-at-reads.Learnt,
+  check-term-below t,
+  check-term.Post,
+) (check-head-at t) check-head.Post check-head-Inv-loop check-head-μ-loop
 check-head-returns t c = term-past _ _ _ _ (c .if1 .taken)
 
--- src/lib.rt:103:22
+-- src/lib.rt:104:22
 check-head-mul-byte-at : (t : ℕ) → check-head-lts.Need-mul-byte-at (
   byte-at-reads.Asked,
   byte-at-reads.Learnt,
@@ -718,12 +708,18 @@ check-head-mul-byte-at : (t : ℕ) → check-head-lts.Need-mul-byte-at (
   word-at-reads.Learnt,
   state-at-reads.Asked,
   state-at-reads.Learnt,
-  check-targets-below t,
-  check-targets.Post,
-) (check-head-at t) check-head.Post
+  row-serves-reads.Asked,
+  row-serves-reads.Learnt,
+  target-of-reads.Asked,
+  target-of-reads.Learnt,
+  place-at-reads.Asked,
+  place-at-reads.Learnt,
+  check-term-below t,
+  check-term.Post,
+) (check-head-at t) check-head.Post check-head-Inv-loop check-head-μ-loop
 check-head-mul-byte-at t c = search needs
 
--- src/lib.rt:103:8
+-- src/lib.rt:104:8
 check-head-byte-at-requires : (t : ℕ) → check-head-lts.Need-byte-at-requires (
   byte-at-reads.Asked,
   byte-at-reads.Learnt,
@@ -733,12 +729,18 @@ check-head-byte-at-requires : (t : ℕ) → check-head-lts.Need-byte-at-requires
   word-at-reads.Learnt,
   state-at-reads.Asked,
   state-at-reads.Learnt,
-  check-targets-below t,
-  check-targets.Post,
-) (check-head-at t) check-head.Post
+  row-serves-reads.Asked,
+  row-serves-reads.Learnt,
+  target-of-reads.Asked,
+  target-of-reads.Learnt,
+  place-at-reads.Asked,
+  place-at-reads.Learnt,
+  check-term-below t,
+  check-term.Post,
+) (check-head-at t) check-head.Post check-head-Inv-loop check-head-μ-loop
 check-head-byte-at-requires t c κs = search needs
 
--- src/lib.rt:104:9
+-- src/lib.rt:105:9
 check-head-check-choices-requires : (t : ℕ) → check-head-lts.Need-check-choices-requires (
   byte-at-reads.Asked,
   byte-at-reads.Learnt,
@@ -748,12 +750,18 @@ check-head-check-choices-requires : (t : ℕ) → check-head-lts.Need-check-choi
   word-at-reads.Learnt,
   state-at-reads.Asked,
   state-at-reads.Learnt,
-  check-targets-below t,
-  check-targets.Post,
-) (check-head-at t) check-head.Post
+  row-serves-reads.Asked,
+  row-serves-reads.Learnt,
+  target-of-reads.Asked,
+  target-of-reads.Learnt,
+  place-at-reads.Asked,
+  place-at-reads.Learnt,
+  check-term-below t,
+  check-term.Post,
+) (check-head-at t) check-head.Post check-head-Inv-loop check-head-μ-loop
 check-head-check-choices-requires t c κs = let p = c .before .before .before .before .before .before .before .before .before .before .before .pre .0 in (omega arith, Prim.tt)
 
--- src/lib.rt:104:9
+-- src/lib.rt:105:9
 check-head-same-length : (t : ℕ) → check-head-lts.Need-same-length (
   byte-at-reads.Asked,
   byte-at-reads.Learnt,
@@ -763,12 +771,18 @@ check-head-same-length : (t : ℕ) → check-head-lts.Need-same-length (
   word-at-reads.Learnt,
   state-at-reads.Asked,
   state-at-reads.Learnt,
-  check-targets-below t,
-  check-targets.Post,
-) (check-head-at t) check-head.Post
+  row-serves-reads.Asked,
+  row-serves-reads.Learnt,
+  target-of-reads.Asked,
+  target-of-reads.Learnt,
+  place-at-reads.Asked,
+  place-at-reads.Learnt,
+  check-term-below t,
+  check-term.Post,
+) (check-head-at t) check-head.Post check-head-Inv-loop check-head-μ-loop
 check-head-same-length t c = (c .before .before .check-choices .ensures (λ z. c .before .before .before .before .if2 .taken (c .before .before .before .before .before .byte-at .ensures .value ∙ z))) .keeps .long
 
--- src/lib.rt:104:9
+-- src/lib.rt:105:9
 check-head-returns-2 : (t : ℕ) → check-head-lts.Need-returns-2 (
   byte-at-reads.Asked,
   byte-at-reads.Learnt,
@@ -778,12 +792,18 @@ check-head-returns-2 : (t : ℕ) → check-head-lts.Need-returns-2 (
   word-at-reads.Learnt,
   state-at-reads.Asked,
   state-at-reads.Learnt,
-  check-targets-below t,
-  check-targets.Post,
-) (check-head-at t) check-head.Post
+  row-serves-reads.Asked,
+  row-serves-reads.Learnt,
+  target-of-reads.Asked,
+  target-of-reads.Learnt,
+  place-at-reads.Asked,
+  place-at-reads.Learnt,
+  check-term-below t,
+  check-term.Post,
+) (check-head-at t) check-head.Post check-head-Inv-loop check-head-μ-loop
 check-head-returns-2 t c = c .before .before .check-choices .ensures (λ z. c .before .before .before .before .if2 .taken (c .before .before .before .before .before .byte-at .ensures .value ∙ z))
 
--- src/lib.rt:120:27
+-- src/lib.rt:121:27
 check-head-mul-word-at : (t : ℕ) → check-head-lts.Need-mul-word-at (
   byte-at-reads.Asked,
   byte-at-reads.Learnt,
@@ -793,12 +813,18 @@ check-head-mul-word-at : (t : ℕ) → check-head-lts.Need-mul-word-at (
   word-at-reads.Learnt,
   state-at-reads.Asked,
   state-at-reads.Learnt,
-  check-targets-below t,
-  check-targets.Post,
-) (check-head-at t) check-head.Post
+  row-serves-reads.Asked,
+  row-serves-reads.Learnt,
+  target-of-reads.Asked,
+  target-of-reads.Learnt,
+  place-at-reads.Asked,
+  place-at-reads.Learnt,
+  check-term-below t,
+  check-term.Post,
+) (check-head-at t) check-head.Post check-head-Inv-loop check-head-μ-loop
 check-head-mul-word-at t c = search needs
 
--- src/lib.rt:120:27
+-- src/lib.rt:121:27
 check-head-add-word-at : (t : ℕ) → check-head-lts.Need-add-word-at (
   byte-at-reads.Asked,
   byte-at-reads.Learnt,
@@ -808,12 +834,18 @@ check-head-add-word-at : (t : ℕ) → check-head-lts.Need-add-word-at (
   word-at-reads.Learnt,
   state-at-reads.Asked,
   state-at-reads.Learnt,
-  check-targets-below t,
-  check-targets.Post,
-) (check-head-at t) check-head.Post
+  row-serves-reads.Asked,
+  row-serves-reads.Learnt,
+  target-of-reads.Asked,
+  target-of-reads.Learnt,
+  place-at-reads.Asked,
+  place-at-reads.Learnt,
+  check-term-below t,
+  check-term.Post,
+) (check-head-at t) check-head.Post check-head-Inv-loop check-head-μ-loop
 check-head-add-word-at t c = search needs
 
--- src/lib.rt:120:9
+-- src/lib.rt:121:9
 check-head-word-at-requires : (t : ℕ) → check-head-lts.Need-word-at-requires (
   byte-at-reads.Asked,
   byte-at-reads.Learnt,
@@ -823,12 +855,18 @@ check-head-word-at-requires : (t : ℕ) → check-head-lts.Need-word-at-requires
   word-at-reads.Learnt,
   state-at-reads.Asked,
   state-at-reads.Learnt,
-  check-targets-below t,
-  check-targets.Post,
-) (check-head-at t) check-head.Post
+  row-serves-reads.Asked,
+  row-serves-reads.Learnt,
+  target-of-reads.Asked,
+  target-of-reads.Learnt,
+  place-at-reads.Asked,
+  place-at-reads.Learnt,
+  check-term-below t,
+  check-term.Post,
+) (check-head-at t) check-head.Post check-head-Inv-loop check-head-μ-loop
 check-head-word-at-requires t c κs = search needs
 
--- src/lib.rt:121:31
+-- src/lib.rt:122:31
 check-head-mul-byte-at-2 : (t : ℕ) → check-head-lts.Need-mul-byte-at-2 (
   byte-at-reads.Asked,
   byte-at-reads.Learnt,
@@ -838,12 +876,18 @@ check-head-mul-byte-at-2 : (t : ℕ) → check-head-lts.Need-mul-byte-at-2 (
   word-at-reads.Learnt,
   state-at-reads.Asked,
   state-at-reads.Learnt,
-  check-targets-below t,
-  check-targets.Post,
-) (check-head-at t) check-head.Post
+  row-serves-reads.Asked,
+  row-serves-reads.Learnt,
+  target-of-reads.Asked,
+  target-of-reads.Learnt,
+  place-at-reads.Asked,
+  place-at-reads.Learnt,
+  check-term-below t,
+  check-term.Post,
+) (check-head-at t) check-head.Post check-head-Inv-loop check-head-μ-loop
 check-head-mul-byte-at-2 t c = search needs
 
--- src/lib.rt:121:31
+-- src/lib.rt:122:31
 check-head-add-byte-at : (t : ℕ) → check-head-lts.Need-add-byte-at (
   byte-at-reads.Asked,
   byte-at-reads.Learnt,
@@ -853,12 +897,18 @@ check-head-add-byte-at : (t : ℕ) → check-head-lts.Need-add-byte-at (
   word-at-reads.Learnt,
   state-at-reads.Asked,
   state-at-reads.Learnt,
-  check-targets-below t,
-  check-targets.Post,
-) (check-head-at t) check-head.Post
+  row-serves-reads.Asked,
+  row-serves-reads.Learnt,
+  target-of-reads.Asked,
+  target-of-reads.Learnt,
+  place-at-reads.Asked,
+  place-at-reads.Learnt,
+  check-term-below t,
+  check-term.Post,
+) (check-head-at t) check-head.Post check-head-Inv-loop check-head-μ-loop
 check-head-add-byte-at t c = search needs
 
--- src/lib.rt:121:9
+-- src/lib.rt:122:9
 check-head-byte-at-requires-2 : (t : ℕ) → check-head-lts.Need-byte-at-requires-2 (
   byte-at-reads.Asked,
   byte-at-reads.Learnt,
@@ -868,12 +918,39 @@ check-head-byte-at-requires-2 : (t : ℕ) → check-head-lts.Need-byte-at-requir
   word-at-reads.Learnt,
   state-at-reads.Asked,
   state-at-reads.Learnt,
-  check-targets-below t,
-  check-targets.Post,
-) (check-head-at t) check-head.Post
+  row-serves-reads.Asked,
+  row-serves-reads.Learnt,
+  target-of-reads.Asked,
+  target-of-reads.Learnt,
+  place-at-reads.Asked,
+  place-at-reads.Learnt,
+  check-term-below t,
+  check-term.Post,
+) (check-head-at t) check-head.Post check-head-Inv-loop check-head-μ-loop
 check-head-byte-at-requires-2 t c κs = search needs
 
--- src/lib.rt:122:9
+-- src/lib.rt:123:20
+check-head-add-next : (t : ℕ) → check-head-lts.Need-add-next (
+  byte-at-reads.Asked,
+  byte-at-reads.Learnt,
+  check-choices-below t,
+  check-choices.Post,
+  word-at-reads.Asked,
+  word-at-reads.Learnt,
+  state-at-reads.Asked,
+  state-at-reads.Learnt,
+  row-serves-reads.Asked,
+  row-serves-reads.Learnt,
+  target-of-reads.Asked,
+  target-of-reads.Learnt,
+  place-at-reads.Asked,
+  place-at-reads.Learnt,
+  check-term-below t,
+  check-term.Post,
+) (check-head-at t) check-head.Post check-head-Inv-loop check-head-μ-loop
+check-head-add-next t c = search needs
+
+-- src/lib.rt:124:9
 check-head-state-at-requires : (t : ℕ) → check-head-lts.Need-state-at-requires (
   byte-at-reads.Asked,
   byte-at-reads.Learnt,
@@ -883,42 +960,18 @@ check-head-state-at-requires : (t : ℕ) → check-head-lts.Need-state-at-requir
   word-at-reads.Learnt,
   state-at-reads.Asked,
   state-at-reads.Learnt,
-  check-targets-below t,
-  check-targets.Post,
-) (check-head-at t) check-head.Post
+  row-serves-reads.Asked,
+  row-serves-reads.Learnt,
+  target-of-reads.Asked,
+  target-of-reads.Learnt,
+  place-at-reads.Asked,
+  place-at-reads.Learnt,
+  check-term-below t,
+  check-term.Post,
+) (check-head-at t) check-head.Post check-head-Inv-loop check-head-μ-loop
 check-head-state-at-requires t c κs = search needs
 
--- src/lib.rt:123:5
-check-head-check-targets-requires : (t : ℕ) → check-head-lts.Need-check-targets-requires (
-  byte-at-reads.Asked,
-  byte-at-reads.Learnt,
-  check-choices-below t,
-  check-choices.Post,
-  word-at-reads.Asked,
-  word-at-reads.Learnt,
-  state-at-reads.Asked,
-  state-at-reads.Learnt,
-  check-targets-below t,
-  check-targets.Post,
-) (check-head-at t) check-head.Post
-check-head-check-targets-requires t c κs = let p = c .before .before .before .before .before .before .before .before .before .before .before .before .before .before .pre .0 in (omega arith, Prim.tt)
-
--- src/lib.rt:85:1
-check-head-same-length-2 : (t : ℕ) → check-head-lts.Need-same-length-2 (
-  byte-at-reads.Asked,
-  byte-at-reads.Learnt,
-  check-choices-below t,
-  check-choices.Post,
-  word-at-reads.Asked,
-  word-at-reads.Learnt,
-  state-at-reads.Asked,
-  state-at-reads.Learnt,
-  check-targets-below t,
-  check-targets.Post,
-) (check-head-at t) check-head.Post
-check-head-same-length-2 t c = (head-told _ _ _ _ _ _ _ _ (c .before .before .before .before .before .before .before .before .byte-at .ensures .value) (c .before .before .before .before .before .before .before .if2 .left) (c .before .before .before .before .before .before .word-at .ensures .value) (c .before .before .before .before .before .byte-at2 .ensures .value) (c .before .before .before .before .state-at .ensures) _ _ (c .before .before .check-targets .ensures)) .keeps .long
-
--- src/lib.rt:85:1
+-- src/lib.rt:126:9
 check-head-returns-3 : (t : ℕ) → check-head-lts.Need-returns-3 (
   byte-at-reads.Asked,
   byte-at-reads.Learnt,
@@ -928,23 +981,6 @@ check-head-returns-3 : (t : ℕ) → check-head-lts.Need-returns-3 (
   word-at-reads.Learnt,
   state-at-reads.Asked,
   state-at-reads.Learnt,
-  check-targets-below t,
-  check-targets.Post,
-) (check-head-at t) check-head.Post
-check-head-returns-3 t c = head-told _ _ _ _ _ _ _ _ (c .before .before .before .before .before .before .before .before .byte-at .ensures .value) (c .before .before .before .before .before .before .before .if2 .left) (c .before .before .before .before .before .before .word-at .ensures .value) (c .before .before .before .before .before .byte-at2 .ensures .value) (c .before .before .before .before .state-at .ensures) _ _ (c .before .before .check-targets .ensures)
-
-abbrev check-targets-Inv-loop : check-targets-lts.InvT-loop
-check-targets-Inv-loop file index groups kept ends body test memo₀ at goal q table types constructors c count next₀ row i₀ memo next i = Args (record { file = file; index = index; groups = groups; kept = kept; ends = ends; body = body; table = table; test = test }) memo₀ next₀ count true 0 row memo next i 0 0
-
-abbrev check-targets-μ-loop : check-targets-lts.MeasureT-loop
-check-targets-μ-loop file index groups kept ends body test memo₀ at goal q table types constructors c count next₀ row i₀ memo next i = count - i
-
--- src/lib.rt:158:9
-check-targets-returns : (t : ℕ) → check-targets-lts.Need-returns (
-  word-at-reads.Asked,
-  word-at-reads.Learnt,
-  byte-at-reads.Asked,
-  byte-at-reads.Learnt,
   row-serves-reads.Asked,
   row-serves-reads.Learnt,
   target-of-reads.Asked,
@@ -953,15 +989,19 @@ check-targets-returns : (t : ℕ) → check-targets-lts.Need-returns (
   place-at-reads.Learnt,
   check-term-below t,
   check-term.Post,
-) (check-targets-at t) check-targets.Post check-targets-Inv-loop check-targets-μ-loop
-check-targets-returns t c = λ e ends. term-past _ _ _ _ (c .if1 .taken)
+) (check-head-at t) check-head.Post check-head-Inv-loop check-head-μ-loop
+check-head-returns-3 t c = targets-no-state _ _ _ _ _ _ _ (c .before .before .before .word-at .ensures .value) (c .before .before .byte-at2 .ensures .value) (c .before .state-at .ensures) _ (c .before .before .before .before .before .byte-at .ensures .value) (c .before .before .before .before .if2 .left) (c .if3 .taken)
 
--- src/lib.rt:162:27
-check-targets-mul-word-at : (t : ℕ) → check-targets-lts.Need-mul-word-at (
-  word-at-reads.Asked,
-  word-at-reads.Learnt,
+-- src/lib.rt:129:9
+check-head-returns-4 : (t : ℕ) → check-head-lts.Need-returns-4 (
   byte-at-reads.Asked,
   byte-at-reads.Learnt,
+  check-choices-below t,
+  check-choices.Post,
+  word-at-reads.Asked,
+  word-at-reads.Learnt,
+  state-at-reads.Asked,
+  state-at-reads.Learnt,
   row-serves-reads.Asked,
   row-serves-reads.Learnt,
   target-of-reads.Asked,
@@ -970,15 +1010,19 @@ check-targets-mul-word-at : (t : ℕ) → check-targets-lts.Need-mul-word-at (
   place-at-reads.Learnt,
   check-term-below t,
   check-term.Post,
-) (check-targets-at t) check-targets.Post check-targets-Inv-loop check-targets-μ-loop
-check-targets-mul-word-at t c = search needs
+) (check-head-at t) check-head.Post check-head-Inv-loop check-head-μ-loop
+check-head-returns-4 t c = targets-no-constructor _ _ _ _ _ _ _ (c .before .before .before .before .word-at .ensures .value) (c .before .before .before .byte-at2 .ensures .value) (c .before .before .state-at .ensures) _ (c .before .before .before .before .before .before .byte-at .ensures .value) (c .before .before .before .before .before .if2 .left) (c .if4 .taken)
 
--- src/lib.rt:162:27
-check-targets-add-word-at : (t : ℕ) → check-targets-lts.Need-add-word-at (
-  word-at-reads.Asked,
-  word-at-reads.Learnt,
+-- src/lib.rt:131:15
+check-head-mul-row : (t : ℕ) → check-head-lts.Need-mul-row (
   byte-at-reads.Asked,
   byte-at-reads.Learnt,
+  check-choices-below t,
+  check-choices.Post,
+  word-at-reads.Asked,
+  word-at-reads.Learnt,
+  state-at-reads.Asked,
+  state-at-reads.Learnt,
   row-serves-reads.Asked,
   row-serves-reads.Learnt,
   target-of-reads.Asked,
@@ -987,15 +1031,19 @@ check-targets-add-word-at : (t : ℕ) → check-targets-lts.Need-add-word-at (
   place-at-reads.Learnt,
   check-term-below t,
   check-term.Post,
-) (check-targets-at t) check-targets.Post check-targets-Inv-loop check-targets-μ-loop
-check-targets-add-word-at t c = search needs
+) (check-head-at t) check-head.Post check-head-Inv-loop check-head-μ-loop
+check-head-mul-row t c = search needs
 
--- src/lib.rt:162:9
-check-targets-word-at-requires : (t : ℕ) → check-targets-lts.Need-word-at-requires (
-  word-at-reads.Asked,
-  word-at-reads.Learnt,
+-- src/lib.rt:131:15
+check-head-mul-row-2 : (t : ℕ) → check-head-lts.Need-mul-row-2 (
   byte-at-reads.Asked,
   byte-at-reads.Learnt,
+  check-choices-below t,
+  check-choices.Post,
+  word-at-reads.Asked,
+  word-at-reads.Learnt,
+  state-at-reads.Asked,
+  state-at-reads.Learnt,
   row-serves-reads.Asked,
   row-serves-reads.Learnt,
   target-of-reads.Asked,
@@ -1004,15 +1052,19 @@ check-targets-word-at-requires : (t : ℕ) → check-targets-lts.Need-word-at-re
   place-at-reads.Learnt,
   check-term-below t,
   check-term.Post,
-) (check-targets-at t) check-targets.Post check-targets-Inv-loop check-targets-μ-loop
-check-targets-word-at-requires t c κs = search needs
+) (check-head-at t) check-head.Post check-head-Inv-loop check-head-μ-loop
+check-head-mul-row-2 t c = search needs
 
--- src/lib.rt:163:31
-check-targets-mul-byte-at : (t : ℕ) → check-targets-lts.Need-mul-byte-at (
-  word-at-reads.Asked,
-  word-at-reads.Learnt,
+-- src/lib.rt:131:15
+check-head-index-1-row : (t : ℕ) → check-head-lts.Need-index-1-row (
   byte-at-reads.Asked,
   byte-at-reads.Learnt,
+  check-choices-below t,
+  check-choices.Post,
+  word-at-reads.Asked,
+  word-at-reads.Learnt,
+  state-at-reads.Asked,
+  state-at-reads.Learnt,
   row-serves-reads.Asked,
   row-serves-reads.Learnt,
   target-of-reads.Asked,
@@ -1021,15 +1073,19 @@ check-targets-mul-byte-at : (t : ℕ) → check-targets-lts.Need-mul-byte-at (
   place-at-reads.Learnt,
   check-term-below t,
   check-term.Post,
-) (check-targets-at t) check-targets.Post check-targets-Inv-loop check-targets-μ-loop
-check-targets-mul-byte-at t c = search needs
+) (check-head-at t) check-head.Post check-head-Inv-loop check-head-μ-loop
+check-head-index-1-row t c = search needs
 
--- src/lib.rt:163:31
-check-targets-add-byte-at : (t : ℕ) → check-targets-lts.Need-add-byte-at (
-  word-at-reads.Asked,
-  word-at-reads.Learnt,
+-- src/lib.rt:131:15
+check-head-index-2-row : (t : ℕ) → check-head-lts.Need-index-2-row (
   byte-at-reads.Asked,
   byte-at-reads.Learnt,
+  check-choices-below t,
+  check-choices.Post,
+  word-at-reads.Asked,
+  word-at-reads.Learnt,
+  state-at-reads.Asked,
+  state-at-reads.Learnt,
   row-serves-reads.Asked,
   row-serves-reads.Learnt,
   target-of-reads.Asked,
@@ -1038,15 +1094,19 @@ check-targets-add-byte-at : (t : ℕ) → check-targets-lts.Need-add-byte-at (
   place-at-reads.Learnt,
   check-term-below t,
   check-term.Post,
-) (check-targets-at t) check-targets.Post check-targets-Inv-loop check-targets-μ-loop
-check-targets-add-byte-at t c = search needs
+) (check-head-at t) check-head.Post check-head-Inv-loop check-head-μ-loop
+check-head-index-2-row t c = search needs
 
--- src/lib.rt:163:9
-check-targets-byte-at-requires : (t : ℕ) → check-targets-lts.Need-byte-at-requires (
-  word-at-reads.Asked,
-  word-at-reads.Learnt,
+-- src/lib.rt:132:9
+check-head-row-serves-requires : (t : ℕ) → check-head-lts.Need-row-serves-requires (
   byte-at-reads.Asked,
   byte-at-reads.Learnt,
+  check-choices-below t,
+  check-choices.Post,
+  word-at-reads.Asked,
+  word-at-reads.Learnt,
+  state-at-reads.Asked,
+  state-at-reads.Learnt,
   row-serves-reads.Asked,
   row-serves-reads.Learnt,
   target-of-reads.Asked,
@@ -1055,15 +1115,19 @@ check-targets-byte-at-requires : (t : ℕ) → check-targets-lts.Need-byte-at-re
   place-at-reads.Learnt,
   check-term-below t,
   check-term.Post,
-) (check-targets-at t) check-targets.Post check-targets-Inv-loop check-targets-μ-loop
-check-targets-byte-at-requires t c κs = search needs
+) (check-head-at t) check-head.Post check-head-Inv-loop check-head-μ-loop
+check-head-row-serves-requires t c κs = search needs
 
--- src/lib.rt:164:20
-check-targets-add-next : (t : ℕ) → check-targets-lts.Need-add-next (
-  word-at-reads.Asked,
-  word-at-reads.Learnt,
+-- src/lib.rt:133:9
+check-head-returns-5 : (t : ℕ) → check-head-lts.Need-returns-5 (
   byte-at-reads.Asked,
   byte-at-reads.Learnt,
+  check-choices-below t,
+  check-choices.Post,
+  word-at-reads.Asked,
+  word-at-reads.Learnt,
+  state-at-reads.Asked,
+  state-at-reads.Learnt,
   row-serves-reads.Asked,
   row-serves-reads.Learnt,
   target-of-reads.Asked,
@@ -1072,15 +1136,19 @@ check-targets-add-next : (t : ℕ) → check-targets-lts.Need-add-next (
   place-at-reads.Learnt,
   check-term-below t,
   check-term.Post,
-) (check-targets-at t) check-targets.Post check-targets-Inv-loop check-targets-μ-loop
-check-targets-add-next t c = search needs
+) (check-head-at t) check-head.Post check-head-Inv-loop check-head-μ-loop
+check-head-returns-5 t c = targets-not-served _ _ _ _ _ _ _ (c .before .before .before .before .before .before .before .word-at .ensures .value) (c .before .before .before .before .before .before .byte-at2 .ensures .value) (c .before .before .before .before .before .state-at .ensures) _ (c .before .before .before .before .before .before .before .before .before .byte-at .ensures .value) (c .before .before .before .before .before .before .before .before .if2 .left) (let h = c .before .before .before .before .if3 .left in omega arith) (let h = c .before .before .before .if4 .left in omega arith) _ refl _ (c .before .row-serves .ensures) (not-true _ (c .if5 .taken))
 
--- src/lib.rt:166:9
-check-targets-returns-2 : (t : ℕ) → check-targets-lts.Need-returns-2 (
-  word-at-reads.Asked,
-  word-at-reads.Learnt,
+-- src/lib.rt:136:5
+check-head-loop-holds : (t : ℕ) → check-head-lts.Need-loop-holds (
   byte-at-reads.Asked,
   byte-at-reads.Learnt,
+  check-choices-below t,
+  check-choices.Post,
+  word-at-reads.Asked,
+  word-at-reads.Learnt,
+  state-at-reads.Asked,
+  state-at-reads.Learnt,
   row-serves-reads.Asked,
   row-serves-reads.Learnt,
   target-of-reads.Asked,
@@ -1089,15 +1157,19 @@ check-targets-returns-2 : (t : ℕ) → check-targets-lts.Need-returns-2 (
   place-at-reads.Learnt,
   check-term-below t,
   check-term.Post,
-) (check-targets-at t) check-targets.Post check-targets-Inv-loop check-targets-μ-loop
-check-targets-returns-2 t c = targets-no-state _ _ _ _ _ _ _ (c .before .before .word-at .ensures .value) (c .before .byte-at .ensures .value) (c .if2 .taken)
+) (check-head-at t) check-head.Post check-head-Inv-loop check-head-μ-loop
+check-head-loop-holds t c = args-start _ _ _ _ _ _ _
 
--- src/lib.rt:169:9
-check-targets-returns-3 : (t : ℕ) → check-targets-lts.Need-returns-3 (
-  word-at-reads.Asked,
-  word-at-reads.Learnt,
+-- src/lib.rt:137:13
+check-head-target-of-requires : (t : ℕ) → check-head-lts.Need-target-of-requires (
   byte-at-reads.Asked,
   byte-at-reads.Learnt,
+  check-choices-below t,
+  check-choices.Post,
+  word-at-reads.Asked,
+  word-at-reads.Learnt,
+  state-at-reads.Asked,
+  state-at-reads.Learnt,
   row-serves-reads.Asked,
   row-serves-reads.Learnt,
   target-of-reads.Asked,
@@ -1106,15 +1178,19 @@ check-targets-returns-3 : (t : ℕ) → check-targets-lts.Need-returns-3 (
   place-at-reads.Learnt,
   check-term-below t,
   check-term.Post,
-) (check-targets-at t) check-targets.Post check-targets-Inv-loop check-targets-μ-loop
-check-targets-returns-3 t c = targets-no-constructor _ _ _ _ _ _ _ (c .before .before .before .word-at .ensures .value) (c .before .before .byte-at .ensures .value) (c .if3 .taken)
+) (check-head-at t) check-head.Post check-head-Inv-loop check-head-μ-loop
+check-head-target-of-requires t c κs = search needs
 
--- src/lib.rt:171:15
-check-targets-mul-row : (t : ℕ) → check-targets-lts.Need-mul-row (
-  word-at-reads.Asked,
-  word-at-reads.Learnt,
+-- src/lib.rt:139:13
+check-head-same-length-2 : (t : ℕ) → check-head-lts.Need-same-length-2 (
   byte-at-reads.Asked,
   byte-at-reads.Learnt,
+  check-choices-below t,
+  check-choices.Post,
+  word-at-reads.Asked,
+  word-at-reads.Learnt,
+  state-at-reads.Asked,
+  state-at-reads.Learnt,
   row-serves-reads.Asked,
   row-serves-reads.Learnt,
   target-of-reads.Asked,
@@ -1123,15 +1199,19 @@ check-targets-mul-row : (t : ℕ) → check-targets-lts.Need-mul-row (
   place-at-reads.Learnt,
   check-term-below t,
   check-term.Post,
-) (check-targets-at t) check-targets.Post check-targets-Inv-loop check-targets-μ-loop
-check-targets-mul-row t c = search needs
+) (check-head-at t) check-head.Post check-head-Inv-loop check-head-μ-loop
+check-head-same-length-2 t c = c .before .before .before .loop .inv .keeps .long
 
--- src/lib.rt:171:15
-check-targets-mul-row-2 : (t : ℕ) → check-targets-lts.Need-mul-row-2 (
-  word-at-reads.Asked,
-  word-at-reads.Learnt,
+-- src/lib.rt:139:13
+check-head-returns-6 : (t : ℕ) → check-head-lts.Need-returns-6 (
   byte-at-reads.Asked,
   byte-at-reads.Learnt,
+  check-choices-below t,
+  check-choices.Post,
+  word-at-reads.Asked,
+  word-at-reads.Learnt,
+  state-at-reads.Asked,
+  state-at-reads.Learnt,
   row-serves-reads.Asked,
   row-serves-reads.Learnt,
   target-of-reads.Asked,
@@ -1140,15 +1220,19 @@ check-targets-mul-row-2 : (t : ℕ) → check-targets-lts.Need-mul-row-2 (
   place-at-reads.Learnt,
   check-term-below t,
   check-term.Post,
-) (check-targets-at t) check-targets.Post check-targets-Inv-loop check-targets-μ-loop
-check-targets-mul-row-2 t c = search needs
+) (check-head-at t) check-head.Post check-head-Inv-loop check-head-μ-loop
+check-head-returns-6 t c = targets-told _ _ _ _ _ _ _ (c .before .before .before .before .before .before .before .before .before .before .before .word-at .ensures .value) (c .before .before .before .before .before .before .before .before .before .before .byte-at2 .ensures .value) (c .before .before .before .before .before .before .before .before .before .state-at .ensures) _ (c .before .before .before .before .before .before .before .before .before .before .before .before .before .byte-at .ensures .value) (c .before .before .before .before .before .before .before .before .before .before .before .before .if2 .left) (let h = c .before .before .before .before .before .before .before .before .if3 .left in omega arith) (let h = c .before .before .before .before .before .before .before .if4 .left in omega arith) _ refl _ (c .before .before .before .before .before .row-serves .ensures) (not-false _ (c .before .before .before .before .if5 .left)) _ (omega arith) _ _ (target-past _ (c .before .before .before .loop .inv) (c .before .before .loop-test .taken) _ (c .before .target-of .ensures) (c .if6 .taken))
 
--- src/lib.rt:171:15
-check-targets-index-1-row : (t : ℕ) → check-targets-lts.Need-index-1-row (
-  word-at-reads.Asked,
-  word-at-reads.Learnt,
+-- src/lib.rt:141:13
+check-head-place-at-requires : (t : ℕ) → check-head-lts.Need-place-at-requires (
   byte-at-reads.Asked,
   byte-at-reads.Learnt,
+  check-choices-below t,
+  check-choices.Post,
+  word-at-reads.Asked,
+  word-at-reads.Learnt,
+  state-at-reads.Asked,
+  state-at-reads.Learnt,
   row-serves-reads.Asked,
   row-serves-reads.Learnt,
   target-of-reads.Asked,
@@ -1157,15 +1241,19 @@ check-targets-index-1-row : (t : ℕ) → check-targets-lts.Need-index-1-row (
   place-at-reads.Learnt,
   check-term-below t,
   check-term.Post,
-) (check-targets-at t) check-targets.Post check-targets-Inv-loop check-targets-μ-loop
-check-targets-index-1-row t c = search needs
+) (check-head-at t) check-head.Post check-head-Inv-loop check-head-μ-loop
+check-head-place-at-requires t c κs = search needs
 
--- src/lib.rt:171:15
-check-targets-index-2-row : (t : ℕ) → check-targets-lts.Need-index-2-row (
-  word-at-reads.Asked,
-  word-at-reads.Learnt,
+-- src/lib.rt:143:13
+check-head-same-length-3 : (t : ℕ) → check-head-lts.Need-same-length-3 (
   byte-at-reads.Asked,
   byte-at-reads.Learnt,
+  check-choices-below t,
+  check-choices.Post,
+  word-at-reads.Asked,
+  word-at-reads.Learnt,
+  state-at-reads.Asked,
+  state-at-reads.Learnt,
   row-serves-reads.Asked,
   row-serves-reads.Learnt,
   target-of-reads.Asked,
@@ -1174,15 +1262,19 @@ check-targets-index-2-row : (t : ℕ) → check-targets-lts.Need-index-2-row (
   place-at-reads.Learnt,
   check-term-below t,
   check-term.Post,
-) (check-targets-at t) check-targets.Post check-targets-Inv-loop check-targets-μ-loop
-check-targets-index-2-row t c = search needs
+) (check-head-at t) check-head.Post check-head-Inv-loop check-head-μ-loop
+check-head-same-length-3 t c = c .before .before .before .before .before .loop .inv .keeps .long
 
--- src/lib.rt:172:9
-check-targets-row-serves-requires : (t : ℕ) → check-targets-lts.Need-row-serves-requires (
-  word-at-reads.Asked,
-  word-at-reads.Learnt,
+-- src/lib.rt:143:13
+check-head-returns-7 : (t : ℕ) → check-head-lts.Need-returns-7 (
   byte-at-reads.Asked,
   byte-at-reads.Learnt,
+  check-choices-below t,
+  check-choices.Post,
+  word-at-reads.Asked,
+  word-at-reads.Learnt,
+  state-at-reads.Asked,
+  state-at-reads.Learnt,
   row-serves-reads.Asked,
   row-serves-reads.Learnt,
   target-of-reads.Asked,
@@ -1191,15 +1283,19 @@ check-targets-row-serves-requires : (t : ℕ) → check-targets-lts.Need-row-ser
   place-at-reads.Learnt,
   check-term-below t,
   check-term.Post,
-) (check-targets-at t) check-targets.Post check-targets-Inv-loop check-targets-μ-loop
-check-targets-row-serves-requires t c κs = search needs
+) (check-head-at t) check-head.Post check-head-Inv-loop check-head-μ-loop
+check-head-returns-7 t c = targets-told _ _ _ _ _ _ _ (c .before .before .before .before .before .before .before .before .before .before .before .before .before .word-at .ensures .value) (c .before .before .before .before .before .before .before .before .before .before .before .before .byte-at2 .ensures .value) (c .before .before .before .before .before .before .before .before .before .before .before .state-at .ensures) _ (c .before .before .before .before .before .before .before .before .before .before .before .before .before .before .before .byte-at .ensures .value) (c .before .before .before .before .before .before .before .before .before .before .before .before .before .before .if2 .left) (let h = c .before .before .before .before .before .before .before .before .before .before .if3 .left in omega arith) (let h = c .before .before .before .before .before .before .before .before .before .if4 .left in omega arith) _ refl _ (c .before .before .before .before .before .before .before .row-serves .ensures) (not-false _ (c .before .before .before .before .before .before .if5 .left)) _ (omega arith) _ _ (target-stuck _ (c .before .before .before .before .before .loop .inv) (c .before .before .before .before .loop-test .taken) _ (c .before .before .before .target-of .ensures) (c .before .before .if6 .left) _ (c .before .place-at .ensures .value) (c .if7 .taken))
 
--- src/lib.rt:173:9
-check-targets-returns-4 : (t : ℕ) → check-targets-lts.Need-returns-4 (
-  word-at-reads.Asked,
-  word-at-reads.Learnt,
+-- src/lib.rt:145:13
+check-head-add-i : (t : ℕ) → check-head-lts.Need-add-i (
   byte-at-reads.Asked,
   byte-at-reads.Learnt,
+  check-choices-below t,
+  check-choices.Post,
+  word-at-reads.Asked,
+  word-at-reads.Learnt,
+  state-at-reads.Asked,
+  state-at-reads.Learnt,
   row-serves-reads.Asked,
   row-serves-reads.Learnt,
   target-of-reads.Asked,
@@ -1208,15 +1304,19 @@ check-targets-returns-4 : (t : ℕ) → check-targets-lts.Need-returns-4 (
   place-at-reads.Learnt,
   check-term-below t,
   check-term.Post,
-) (check-targets-at t) check-targets.Post check-targets-Inv-loop check-targets-μ-loop
-check-targets-returns-4 t c = targets-not-served _ _ _ _ _ _ _ (c .before .before .before .before .before .before .word-at .ensures .value) (c .before .before .before .before .before .byte-at .ensures .value) (let h = c .before .before .before .before .if2 .left in omega arith) (let h = c .before .before .before .if3 .left in omega arith) _ refl _ (c .before .row-serves .ensures) (not-true _ (c .if4 .taken))
+) (check-head-at t) check-head.Post check-head-Inv-loop check-head-μ-loop
+check-head-add-i t c = search needs
 
--- src/lib.rt:176:5
-check-targets-loop-holds : (t : ℕ) → check-targets-lts.Need-loop-holds (
-  word-at-reads.Asked,
-  word-at-reads.Learnt,
+-- src/lib.rt:146:13
+check-head-check-term-requires : (t : ℕ) → check-head-lts.Need-check-term-requires (
   byte-at-reads.Asked,
   byte-at-reads.Learnt,
+  check-choices-below t,
+  check-choices.Post,
+  word-at-reads.Asked,
+  word-at-reads.Learnt,
+  state-at-reads.Asked,
+  state-at-reads.Learnt,
   row-serves-reads.Asked,
   row-serves-reads.Learnt,
   target-of-reads.Asked,
@@ -1225,15 +1325,19 @@ check-targets-loop-holds : (t : ℕ) → check-targets-lts.Need-loop-holds (
   place-at-reads.Learnt,
   check-term-below t,
   check-term.Post,
-) (check-targets-at t) check-targets.Post check-targets-Inv-loop check-targets-μ-loop
-check-targets-loop-holds t c = args-start _ _ _ _ _ _ _
+) (check-head-at t) check-head.Post check-head-Inv-loop check-head-μ-loop
+check-head-check-term-requires t c κs = let p = c .before .before .before .before .before .before .before .before .before .before .before .before .before .before .before .before .before .before .before .before .before .before .before .before .before .pre .0 in let f = c .before .before .before .before .before .before .loop .inv .forward in let h = c .before .before .before .before .before .before .before .before .before .before .before .before .before .before .before .before .before .if1 .left in (omega arith, Prim.tt)
 
--- src/lib.rt:177:13
-check-targets-target-of-requires : (t : ℕ) → check-targets-lts.Need-target-of-requires (
-  word-at-reads.Asked,
-  word-at-reads.Learnt,
+-- src/lib.rt:159:13
+check-head-same-length-4 : (t : ℕ) → check-head-lts.Need-same-length-4 (
   byte-at-reads.Asked,
   byte-at-reads.Learnt,
+  check-choices-below t,
+  check-choices.Post,
+  word-at-reads.Asked,
+  word-at-reads.Learnt,
+  state-at-reads.Asked,
+  state-at-reads.Learnt,
   row-serves-reads.Asked,
   row-serves-reads.Learnt,
   target-of-reads.Asked,
@@ -1242,15 +1346,19 @@ check-targets-target-of-requires : (t : ℕ) → check-targets-lts.Need-target-o
   place-at-reads.Learnt,
   check-term-below t,
   check-term.Post,
-) (check-targets-at t) check-targets.Post check-targets-Inv-loop check-targets-μ-loop
-check-targets-target-of-requires t c κs = search needs
+) (check-head-at t) check-head.Post check-head-Inv-loop check-head-μ-loop
+check-head-same-length-4 t c = c .before .before .before .check-term .ensures .keeps .long ∙ c .before .before .before .before .before .before .before .before .before .before .loop .inv .keeps .long
 
--- src/lib.rt:179:13
-check-targets-same-length : (t : ℕ) → check-targets-lts.Need-same-length (
-  word-at-reads.Asked,
-  word-at-reads.Learnt,
+-- src/lib.rt:159:13
+check-head-returns-8 : (t : ℕ) → check-head-lts.Need-returns-8 (
   byte-at-reads.Asked,
   byte-at-reads.Learnt,
+  check-choices-below t,
+  check-choices.Post,
+  word-at-reads.Asked,
+  word-at-reads.Learnt,
+  state-at-reads.Asked,
+  state-at-reads.Learnt,
   row-serves-reads.Asked,
   row-serves-reads.Learnt,
   target-of-reads.Asked,
@@ -1259,15 +1367,19 @@ check-targets-same-length : (t : ℕ) → check-targets-lts.Need-same-length (
   place-at-reads.Learnt,
   check-term-below t,
   check-term.Post,
-) (check-targets-at t) check-targets.Post check-targets-Inv-loop check-targets-μ-loop
-check-targets-same-length t c = c .before .before .before .loop .inv .keeps .long
+) (check-head-at t) check-head.Post check-head-Inv-loop check-head-μ-loop
+check-head-returns-8 t c = targets-told _ _ _ _ _ _ _ (c .before .before .before .before .before .before .before .before .before .before .before .before .before .before .before .before .before .before .word-at .ensures .value) (c .before .before .before .before .before .before .before .before .before .before .before .before .before .before .before .before .before .byte-at2 .ensures .value) (c .before .before .before .before .before .before .before .before .before .before .before .before .before .before .before .before .state-at .ensures) _ (c .before .before .before .before .before .before .before .before .before .before .before .before .before .before .before .before .before .before .before .before .byte-at .ensures .value) (c .before .before .before .before .before .before .before .before .before .before .before .before .before .before .before .before .before .before .before .if2 .left) (let h = c .before .before .before .before .before .before .before .before .before .before .before .before .before .before .before .if3 .left in omega arith) (let h = c .before .before .before .before .before .before .before .before .before .before .before .before .before .before .if4 .left in omega arith) _ refl _ (c .before .before .before .before .before .before .before .before .before .before .before .before .row-serves .ensures) (not-false _ (c .before .before .before .before .before .before .before .before .before .before .before .if5 .left)) _ (omega arith) _ _ (target-lacks _ (c .before .before .before .before .before .before .before .before .before .before .loop .inv) (c .before .before .before .before .before .before .before .before .before .loop-test .taken) _ (c .before .before .before .before .before .before .before .before .target-of .ensures) (c .before .before .before .before .before .before .before .if6 .left) _ _ (c .before .before .before .check-term .ensures) (not-true _ (c .if8 .taken)))
 
--- src/lib.rt:179:13
-check-targets-returns-5 : (t : ℕ) → check-targets-lts.Need-returns-5 (
-  word-at-reads.Asked,
-  word-at-reads.Learnt,
+-- src/lib.rt:136:5
+check-head-loop-less : (t : ℕ) → check-head-lts.Need-loop-less (
   byte-at-reads.Asked,
   byte-at-reads.Learnt,
+  check-choices-below t,
+  check-choices.Post,
+  word-at-reads.Asked,
+  word-at-reads.Learnt,
+  state-at-reads.Asked,
+  state-at-reads.Learnt,
   row-serves-reads.Asked,
   row-serves-reads.Learnt,
   target-of-reads.Asked,
@@ -1276,15 +1388,19 @@ check-targets-returns-5 : (t : ℕ) → check-targets-lts.Need-returns-5 (
   place-at-reads.Learnt,
   check-term-below t,
   check-term.Post,
-) (check-targets-at t) check-targets.Post check-targets-Inv-loop check-targets-μ-loop
-check-targets-returns-5 t c = targets-told _ _ _ _ _ _ _ (c .before .before .before .before .before .before .before .before .before .before .word-at .ensures .value) (c .before .before .before .before .before .before .before .before .before .byte-at .ensures .value) (let h = c .before .before .before .before .before .before .before .before .if2 .left in omega arith) (let h = c .before .before .before .before .before .before .before .if3 .left in omega arith) _ refl _ (c .before .before .before .before .before .row-serves .ensures) (not-false _ (c .before .before .before .before .if4 .left)) _ (omega arith) _ _ (target-past _ (c .before .before .before .loop .inv) (c .before .before .loop-test .taken) _ (c .before .target-of .ensures) (c .if5 .taken))
+) (check-head-at t) check-head.Post check-head-Inv-loop check-head-μ-loop
+check-head-loop-less t c = let h = c .before .before .before .before .before .before .before .before .before .loop-test .taken in omega arith
 
--- src/lib.rt:181:13
-check-targets-place-at-requires : (t : ℕ) → check-targets-lts.Need-place-at-requires (
-  word-at-reads.Asked,
-  word-at-reads.Learnt,
+-- src/lib.rt:136:5
+check-head-loop-again : (t : ℕ) → check-head-lts.Need-loop-again (
   byte-at-reads.Asked,
   byte-at-reads.Learnt,
+  check-choices-below t,
+  check-choices.Post,
+  word-at-reads.Asked,
+  word-at-reads.Learnt,
+  state-at-reads.Asked,
+  state-at-reads.Learnt,
   row-serves-reads.Asked,
   row-serves-reads.Learnt,
   target-of-reads.Asked,
@@ -1293,15 +1409,19 @@ check-targets-place-at-requires : (t : ℕ) → check-targets-lts.Need-place-at-
   place-at-reads.Learnt,
   check-term-below t,
   check-term.Post,
-) (check-targets-at t) check-targets.Post check-targets-Inv-loop check-targets-μ-loop
-check-targets-place-at-requires t c κs = search needs
+) (check-head-at t) check-head.Post check-head-Inv-loop check-head-μ-loop
+check-head-loop-again t c = target-has _ (c .before .before .before .before .before .before .before .before .before .before .loop .inv) (c .before .before .before .before .before .before .before .before .before .loop-test .taken) _ (c .before .before .before .before .before .before .before .before .target-of .ensures) (c .before .before .before .before .before .before .before .if6 .left) _ _ (c .before .before .before .check-term .ensures) (not-false _ (c .if8 .left)) _ _ (c .before .before .before .before .before .before .place-at .ensures .value) (let h = c .before .before .before .before .before .if7 .left in omega arith) (omega arith)
 
--- src/lib.rt:183:13
-check-targets-same-length-2 : (t : ℕ) → check-targets-lts.Need-same-length-2 (
-  word-at-reads.Asked,
-  word-at-reads.Learnt,
+-- src/lib.rt:86:1
+check-head-same-length-5 : (t : ℕ) → check-head-lts.Need-same-length-5 (
   byte-at-reads.Asked,
   byte-at-reads.Learnt,
+  check-choices-below t,
+  check-choices.Post,
+  word-at-reads.Asked,
+  word-at-reads.Learnt,
+  state-at-reads.Asked,
+  state-at-reads.Learnt,
   row-serves-reads.Asked,
   row-serves-reads.Learnt,
   target-of-reads.Asked,
@@ -1310,15 +1430,19 @@ check-targets-same-length-2 : (t : ℕ) → check-targets-lts.Need-same-length-2
   place-at-reads.Learnt,
   check-term-below t,
   check-term.Post,
-) (check-targets-at t) check-targets.Post check-targets-Inv-loop check-targets-μ-loop
-check-targets-same-length-2 t c = c .before .before .before .before .before .loop .inv .keeps .long
+) (check-head-at t) check-head.Post check-head-Inv-loop check-head-μ-loop
+check-head-same-length-5 t c = c .before .loop .inv .keeps .long
 
--- src/lib.rt:183:13
-check-targets-returns-6 : (t : ℕ) → check-targets-lts.Need-returns-6 (
-  word-at-reads.Asked,
-  word-at-reads.Learnt,
+-- src/lib.rt:86:1
+check-head-returns-9 : (t : ℕ) → check-head-lts.Need-returns-9 (
   byte-at-reads.Asked,
   byte-at-reads.Learnt,
+  check-choices-below t,
+  check-choices.Post,
+  word-at-reads.Asked,
+  word-at-reads.Learnt,
+  state-at-reads.Asked,
+  state-at-reads.Learnt,
   row-serves-reads.Asked,
   row-serves-reads.Learnt,
   target-of-reads.Asked,
@@ -1327,144 +1451,8 @@ check-targets-returns-6 : (t : ℕ) → check-targets-lts.Need-returns-6 (
   place-at-reads.Learnt,
   check-term-below t,
   check-term.Post,
-) (check-targets-at t) check-targets.Post check-targets-Inv-loop check-targets-μ-loop
-check-targets-returns-6 t c = targets-told _ _ _ _ _ _ _ (c .before .before .before .before .before .before .before .before .before .before .before .before .word-at .ensures .value) (c .before .before .before .before .before .before .before .before .before .before .before .byte-at .ensures .value) (let h = c .before .before .before .before .before .before .before .before .before .before .if2 .left in omega arith) (let h = c .before .before .before .before .before .before .before .before .before .if3 .left in omega arith) _ refl _ (c .before .before .before .before .before .before .before .row-serves .ensures) (not-false _ (c .before .before .before .before .before .before .if4 .left)) _ (omega arith) _ _ (target-stuck _ (c .before .before .before .before .before .loop .inv) (c .before .before .before .before .loop-test .taken) _ (c .before .before .before .target-of .ensures) (c .before .before .if5 .left) _ (c .before .place-at .ensures .value) (c .if6 .taken))
-
--- src/lib.rt:185:13
-check-targets-add-i : (t : ℕ) → check-targets-lts.Need-add-i (
-  word-at-reads.Asked,
-  word-at-reads.Learnt,
-  byte-at-reads.Asked,
-  byte-at-reads.Learnt,
-  row-serves-reads.Asked,
-  row-serves-reads.Learnt,
-  target-of-reads.Asked,
-  target-of-reads.Learnt,
-  place-at-reads.Asked,
-  place-at-reads.Learnt,
-  check-term-below t,
-  check-term.Post,
-) (check-targets-at t) check-targets.Post check-targets-Inv-loop check-targets-μ-loop
-check-targets-add-i t c = search needs
-
--- src/lib.rt:186:13
-check-targets-check-term-requires : (t : ℕ) → check-targets-lts.Need-check-term-requires (
-  word-at-reads.Asked,
-  word-at-reads.Learnt,
-  byte-at-reads.Asked,
-  byte-at-reads.Learnt,
-  row-serves-reads.Asked,
-  row-serves-reads.Learnt,
-  target-of-reads.Asked,
-  target-of-reads.Learnt,
-  place-at-reads.Asked,
-  place-at-reads.Learnt,
-  check-term-below t,
-  check-term.Post,
-) (check-targets-at t) check-targets.Post check-targets-Inv-loop check-targets-μ-loop
-check-targets-check-term-requires t c κs = let p = c .before .before .before .before .before .before .before .before .before .before .before .before .before .before .before .before .before .before .before .before .before .before .pre .0 in let f = c .before .before .before .before .before .before .loop .inv .forward in let h = c .before .before .before .before .before .before .before .before .before .before .before .before .before .before .if1 .left in (omega arith, Prim.tt)
-
--- src/lib.rt:199:13
-check-targets-same-length-3 : (t : ℕ) → check-targets-lts.Need-same-length-3 (
-  word-at-reads.Asked,
-  word-at-reads.Learnt,
-  byte-at-reads.Asked,
-  byte-at-reads.Learnt,
-  row-serves-reads.Asked,
-  row-serves-reads.Learnt,
-  target-of-reads.Asked,
-  target-of-reads.Learnt,
-  place-at-reads.Asked,
-  place-at-reads.Learnt,
-  check-term-below t,
-  check-term.Post,
-) (check-targets-at t) check-targets.Post check-targets-Inv-loop check-targets-μ-loop
-check-targets-same-length-3 t c = c .before .before .before .check-term .ensures .keeps .long ∙ c .before .before .before .before .before .before .before .before .before .before .loop .inv .keeps .long
-
--- src/lib.rt:199:13
-check-targets-returns-7 : (t : ℕ) → check-targets-lts.Need-returns-7 (
-  word-at-reads.Asked,
-  word-at-reads.Learnt,
-  byte-at-reads.Asked,
-  byte-at-reads.Learnt,
-  row-serves-reads.Asked,
-  row-serves-reads.Learnt,
-  target-of-reads.Asked,
-  target-of-reads.Learnt,
-  place-at-reads.Asked,
-  place-at-reads.Learnt,
-  check-term-below t,
-  check-term.Post,
-) (check-targets-at t) check-targets.Post check-targets-Inv-loop check-targets-μ-loop
-check-targets-returns-7 t c = targets-told _ _ _ _ _ _ _ (c .before .before .before .before .before .before .before .before .before .before .before .before .before .before .before .before .before .word-at .ensures .value) (c .before .before .before .before .before .before .before .before .before .before .before .before .before .before .before .before .byte-at .ensures .value) (let h = c .before .before .before .before .before .before .before .before .before .before .before .before .before .before .before .if2 .left in omega arith) (let h = c .before .before .before .before .before .before .before .before .before .before .before .before .before .before .if3 .left in omega arith) _ refl _ (c .before .before .before .before .before .before .before .before .before .before .before .before .row-serves .ensures) (not-false _ (c .before .before .before .before .before .before .before .before .before .before .before .if4 .left)) _ (omega arith) _ _ (target-lacks _ (c .before .before .before .before .before .before .before .before .before .before .loop .inv) (c .before .before .before .before .before .before .before .before .before .loop-test .taken) _ (c .before .before .before .before .before .before .before .before .target-of .ensures) (c .before .before .before .before .before .before .before .if5 .left) _ _ (c .before .before .before .check-term .ensures) (not-true _ (c .if7 .taken)))
-
--- src/lib.rt:176:5
-check-targets-loop-less : (t : ℕ) → check-targets-lts.Need-loop-less (
-  word-at-reads.Asked,
-  word-at-reads.Learnt,
-  byte-at-reads.Asked,
-  byte-at-reads.Learnt,
-  row-serves-reads.Asked,
-  row-serves-reads.Learnt,
-  target-of-reads.Asked,
-  target-of-reads.Learnt,
-  place-at-reads.Asked,
-  place-at-reads.Learnt,
-  check-term-below t,
-  check-term.Post,
-) (check-targets-at t) check-targets.Post check-targets-Inv-loop check-targets-μ-loop
-check-targets-loop-less t c = let h = c .before .before .before .before .before .before .before .before .before .loop-test .taken in omega arith
-
--- src/lib.rt:176:5
-check-targets-loop-again : (t : ℕ) → check-targets-lts.Need-loop-again (
-  word-at-reads.Asked,
-  word-at-reads.Learnt,
-  byte-at-reads.Asked,
-  byte-at-reads.Learnt,
-  row-serves-reads.Asked,
-  row-serves-reads.Learnt,
-  target-of-reads.Asked,
-  target-of-reads.Learnt,
-  place-at-reads.Asked,
-  place-at-reads.Learnt,
-  check-term-below t,
-  check-term.Post,
-) (check-targets-at t) check-targets.Post check-targets-Inv-loop check-targets-μ-loop
-check-targets-loop-again t c = target-has _ (c .before .before .before .before .before .before .before .before .before .before .loop .inv) (c .before .before .before .before .before .before .before .before .before .loop-test .taken) _ (c .before .before .before .before .before .before .before .before .target-of .ensures) (c .before .before .before .before .before .before .before .if5 .left) _ _ (c .before .before .before .check-term .ensures) (not-false _ (c .if7 .left)) _ _ (c .before .before .before .before .before .before .place-at .ensures .value) (let h = c .before .before .before .before .before .if6 .left in omega arith) (omega arith)
-
--- src/lib.rt:141:1
-check-targets-same-length-4 : (t : ℕ) → check-targets-lts.Need-same-length-4 (
-  word-at-reads.Asked,
-  word-at-reads.Learnt,
-  byte-at-reads.Asked,
-  byte-at-reads.Learnt,
-  row-serves-reads.Asked,
-  row-serves-reads.Learnt,
-  target-of-reads.Asked,
-  target-of-reads.Learnt,
-  place-at-reads.Asked,
-  place-at-reads.Learnt,
-  check-term-below t,
-  check-term.Post,
-) (check-targets-at t) check-targets.Post check-targets-Inv-loop check-targets-μ-loop
-check-targets-same-length-4 t c = c .before .loop .inv .keeps .long
-
--- src/lib.rt:141:1
-check-targets-returns-8 : (t : ℕ) → check-targets-lts.Need-returns-8 (
-  word-at-reads.Asked,
-  word-at-reads.Learnt,
-  byte-at-reads.Asked,
-  byte-at-reads.Learnt,
-  row-serves-reads.Asked,
-  row-serves-reads.Learnt,
-  target-of-reads.Asked,
-  target-of-reads.Learnt,
-  place-at-reads.Asked,
-  place-at-reads.Learnt,
-  check-term-below t,
-  check-term.Post,
-) (check-targets-at t) check-targets.Post check-targets-Inv-loop check-targets-μ-loop
-check-targets-returns-8 t c = targets-told _ _ _ _ _ _ _ (c .before .before .before .before .before .before .before .before .word-at .ensures .value) (c .before .before .before .before .before .before .before .byte-at .ensures .value) (let h = c .before .before .before .before .before .before .if2 .left in omega arith) (let h = c .before .before .before .before .before .if3 .left in omega arith) _ refl _ (c .before .before .before .row-serves .ensures) (not-false _ (c .before .before .if4 .left)) _ (omega arith) _ _ (args-end _ (c .before .loop .inv) (c .loop-test .left))
+) (check-head-at t) check-head.Post check-head-Inv-loop check-head-μ-loop
+check-head-returns-9 t c = targets-told _ _ _ _ _ _ _ (c .before .before .before .before .before .before .before .before .before .word-at .ensures .value) (c .before .before .before .before .before .before .before .before .byte-at2 .ensures .value) (c .before .before .before .before .before .before .before .state-at .ensures) _ (c .before .before .before .before .before .before .before .before .before .before .before .byte-at .ensures .value) (c .before .before .before .before .before .before .before .before .before .before .if2 .left) (let h = c .before .before .before .before .before .before .if3 .left in omega arith) (let h = c .before .before .before .before .before .if4 .left in omega arith) _ refl _ (c .before .before .before .row-serves .ensures) (not-false _ (c .before .before .if5 .left)) _ (omega arith) _ _ (args-end _ (c .before .loop .inv) (c .loop-test .left))
 
 -- src/lib.rt:46:9
 check-term-returns : (t : ℕ) → check-term-lts.Need-returns (
@@ -1857,15 +1845,9 @@ check-term-returns-6 : (t : ℕ) → check-term-lts.Need-returns-6 (
 ) (check-term-at t) check-term.Post
 check-term-returns-6 t c = term-learnt _ _ _ _ _ _ (c .before .before .before .before .before .before .check-head .ensures) _ (c .before .before .learn .ensures)
 
-pub +check-args+check-choices+check-head+check-targets+check-term-spec : {M : Type 1} → statement M
-+check-args+check-choices+check-head+check-targets+check-term-spec =
-    close
-    μ-check-args
-    μ-check-choices
-    μ-check-head
-    μ-check-targets
-    μ-check-term
-    (λ t. check-args-lts.spec (
+pub +check-args+check-choices+check-head+check-term-spec : {M : Type 1} → statement M
++check-args+check-choices+check-head+check-term-spec =
+    close μ-check-args μ-check-choices μ-check-head μ-check-term (λ t. check-args-lts.spec (
       wanted-reads.Asked,
       wanted-reads.Learnt,
       place-at-reads.Asked,
@@ -1944,11 +1926,19 @@ pub +check-args+check-choices+check-head+check-targets+check-term-spec : {M : Ty
       word-at-reads.Learnt,
       state-at-reads.Asked,
       state-at-reads.Learnt,
-      check-targets-below t,
-      check-targets.Post,
+      row-serves-reads.Asked,
+      row-serves-reads.Learnt,
+      target-of-reads.Asked,
+      target-of-reads.Learnt,
+      place-at-reads.Asked,
+      place-at-reads.Learnt,
+      check-term-below t,
+      check-term.Post,
     )
     (check-head-at t)
     check-head.Post
+    check-head-Inv-loop
+    check-head-μ-loop
     (check-head-returns t)
     (check-head-mul-byte-at t)
     (check-head-byte-at-requires t)
@@ -1961,59 +1951,31 @@ pub +check-args+check-choices+check-head+check-targets+check-term-spec : {M : Ty
     (check-head-mul-byte-at-2 t)
     (check-head-add-byte-at t)
     (check-head-byte-at-requires-2 t)
+    (check-head-add-next t)
     (check-head-state-at-requires t)
-    (check-head-check-targets-requires t)
+    (check-head-returns-3 t)
+    (check-head-returns-4 t)
+    (check-head-mul-row t)
+    (check-head-mul-row-2 t)
+    (check-head-index-1-row t)
+    (check-head-index-2-row t)
+    (check-head-row-serves-requires t)
+    (check-head-returns-5 t)
+    (check-head-loop-holds t)
+    (check-head-target-of-requires t)
     (check-head-same-length-2 t)
-    (check-head-returns-3 t))
-    (λ t. check-targets-lts.spec (
-      word-at-reads.Asked,
-      word-at-reads.Learnt,
-      byte-at-reads.Asked,
-      byte-at-reads.Learnt,
-      row-serves-reads.Asked,
-      row-serves-reads.Learnt,
-      target-of-reads.Asked,
-      target-of-reads.Learnt,
-      place-at-reads.Asked,
-      place-at-reads.Learnt,
-      check-term-below t,
-      check-term.Post,
-    )
-    (check-targets-at t)
-    check-targets.Post
-    check-targets-Inv-loop
-    check-targets-μ-loop
-    (check-targets-returns t)
-    (check-targets-mul-word-at t)
-    (check-targets-add-word-at t)
-    (check-targets-word-at-requires t)
-    (check-targets-mul-byte-at t)
-    (check-targets-add-byte-at t)
-    (check-targets-byte-at-requires t)
-    (check-targets-add-next t)
-    (check-targets-returns-2 t)
-    (check-targets-returns-3 t)
-    (check-targets-mul-row t)
-    (check-targets-mul-row-2 t)
-    (check-targets-index-1-row t)
-    (check-targets-index-2-row t)
-    (check-targets-row-serves-requires t)
-    (check-targets-returns-4 t)
-    (check-targets-loop-holds t)
-    (check-targets-target-of-requires t)
-    (check-targets-same-length t)
-    (check-targets-returns-5 t)
-    (check-targets-place-at-requires t)
-    (check-targets-same-length-2 t)
-    (check-targets-returns-6 t)
-    (check-targets-add-i t)
-    (check-targets-check-term-requires t)
-    (check-targets-same-length-3 t)
-    (check-targets-returns-7 t)
-    (check-targets-loop-less t)
-    (check-targets-loop-again t)
-    (check-targets-same-length-4 t)
-    (check-targets-returns-8 t))
+    (check-head-returns-6 t)
+    (check-head-place-at-requires t)
+    (check-head-same-length-3 t)
+    (check-head-returns-7 t)
+    (check-head-add-i t)
+    (check-head-check-term-requires t)
+    (check-head-same-length-4 t)
+    (check-head-returns-8 t)
+    (check-head-loop-less t)
+    (check-head-loop-again t)
+    (check-head-same-length-5 t)
+    (check-head-returns-9 t))
     λ t. check-term-lts.spec (
       byte-at-reads.Asked,
       byte-at-reads.Learnt,
