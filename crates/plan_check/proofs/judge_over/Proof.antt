@@ -59,7 +59,7 @@ of-path-requires c κs = search needs
 
 -- src/lib.rt:74:1
 returns : tie.Need-returns
-returns c = let i : _≡_ {A = ℕ} 7522 (length (c .before .before .before .before .before .before .before .before .before .before .before .before .before .before  .args .index .now)) = search needs in let e : _≡_ {A = ℕ} 15000 (length (c .before .before .before .before .before .before .before .before .before .before .before .before .before .before  .args .ends .now)) = search needs in let d = judged-refused _ _ (c .before .before .before .before .before .examine .ensures (omega arith) refl refl (omega arith)) _ _ (c .before .found .given .1) in (d, (demand2 _ _ _ _ d, demand3 _ _ _ _ d))
+returns c = let i : _≡_ {A = ℕ} 7522 (length (c .before .before .before .before .before .before .before .before .before .before .before .before .before .before .args .index .now)) = search needs in let e : _≡_ {A = ℕ} 15000 (length (c .before .before .before .before .before .before .before .before .before .before .before .before .before .before .args .ends .now)) = search needs in let d = judged-refused _ _ (c .before .before .before .before .before .examine .ensures (omega arith) refl refl (omega arith)) _ _ (c .before .found .given .1) in (d, (demand2 _ _ _ _ d, demand3 _ _ _ _ d))
 
 -- src/lib.rt:74:1
 same-length : tie.Need-same-length
@@ -71,11 +71,11 @@ same-length-2 c = search needs
 
 -- src/lib.rt:74:1
 returns-2 : tie.Need-returns-2
-returns-2 c = let i : _≡_ {A = ℕ} 7522 (length (c .before .before .before .before .before .before .before .before .before .before .before .before .before .before .before .before .before .before .before .before .before .before .before .before .before  .args .index .now)) = search needs in let e : _≡_ {A = ℕ} 15000 (length (c .before .before .before .before .before .before .before .before .before .before .before .before .before .before .before .before .before .before .before .before .before .before .before .before .before  .args .ends .now)) = search needs in let d = judged-bindings _ _ (c .before .before .before .before .before .before .before .before .before .before .before .before .before .before .before .before .examine .ensures (omega arith) refl refl (omega arith)) (c .before .before .before .before .before .before .before .before .before .before .before .before .enum-told .given .1) (omega arith) (c .before .before .before .before .before .judge-bindings .ensures) _ (c .of-bindings .ensures) in (d, (demand2 _ _ _ _ d, demand3 _ _ _ _ d))
+returns-2 c = let i : _≡_ {A = ℕ} 7522 (length (c .before .before .before .before .before .before .before .before .before .before .before .before .before .before .before .before .before .before .before .before .before .before .before .before .before .args .index .now)) = search needs in let e : _≡_ {A = ℕ} 15000 (length (c .before .before .before .before .before .before .before .before .before .before .before .before .before .before .before .before .before .before .before .before .before .before .before .before .before .args .ends .now)) = search needs in let d = judged-bindings _ _ (c .before .before .before .before .before .before .before .before .before .before .before .before .before .before .before .before .examine .ensures (omega arith) refl refl (omega arith)) (c .before .before .before .before .before .before .before .before .before .before .before .before .enum-told .given .1) (omega arith) (c .before .before .before .before .before .judge-bindings .ensures) _ (c .of-bindings .ensures) in (d, (demand2 _ _ _ _ d, demand3 _ _ _ _ d))
 
 -- src/lib.rt:74:1
 returns-3 : tie.Need-returns-3
-returns-3 c = let i : _≡_ {A = ℕ} 7522 (length (c .before .before .before .before .before .before .before .before .before .before .before .before .before .before .before .before .before .before  .args .index .now)) = search needs in let e : _≡_ {A = ℕ} 15000 (length (c .before .before .before .before .before .before .before .before .before .before .before .before .before .before .before .before .before .before  .args .ends .now)) = search needs in let d = judged-path _ _ (c .before .before .before .before .before .before .before .before .before .examine .ensures (omega arith) refl refl (omega arith)) (c .before .before .before .before .before .enum-told2 .given .1) _ (c .before .replay-path .ensures) _ (c .of-path .ensures) in (d, (demand2 _ _ _ _ d, demand3 _ _ _ _ d))
+returns-3 c = let i : _≡_ {A = ℕ} 7522 (length (c .before .before .before .before .before .before .before .before .before .before .before .before .before .before .before .before .before .before .args .index .now)) = search needs in let e : _≡_ {A = ℕ} 15000 (length (c .before .before .before .before .before .before .before .before .before .before .before .before .before .before .before .before .before .before .args .ends .now)) = search needs in let d = judged-path _ _ (c .before .before .before .before .before .before .before .before .before .examine .ensures (omega arith) refl refl (omega arith)) (c .before .before .before .before .before .enum-told2 .given .1) _ (c .before .replay-path .ensures) _ (c .of-path .ensures) in (d, (demand2 _ _ _ _ d, demand3 _ _ _ _ d))
 
 pub judge-over-spec : {M : Type 1} → statement M
 judge-over-spec =
