@@ -29,7 +29,6 @@ use Rattle.entries.specs.Index.{Indexed}
 use Rattle.lookup.specs.Lookup.{entryOf}
 use Rattle.lookup.proofs.Found.{entry-there}
 use Rattle.rule_bodies.specs.RuleBodies.{ruleOf}
-use Rattle.plan_tests.proofs.Contents.{payload-bytes}
 use Rattle.moves.proofs.Targets.{arity-small}
 use Rattle.goals.specs.Goals.{Goal, Typed, typeOfBinding, IsOwn}
 use Rattle.goals.proofs.Goals.{fewer, binding-there}

@@ -1,24 +1,21 @@
 -- Type number j of a head: the type of a binding by the index, and whether a type leads to a goal. Equal types have equal numbers, and
 -- no goal has the number 65,535, so numbers are compared.
-use Prim.Native.Nat.{ℕ, zero, suc, _+_, _<_, _≤_}
+use Prim.Native.Nat.{ℕ, zero, suc, _<_}
 use native.Mathlib.Omega.{arith}
-use mathlib.Core.Path.{_≡_, refl, sym, ap, subst, _∙_}
+use mathlib.Core.Path.{_≡_, refl, sym, subst, _∙_}
 use mathlib.Core.Bool.{Bool, true, false}
-use mathlib.Core.List.{List, [], _++_}
+use mathlib.Core.List.{List, []}
 use mathlib.Core.Option.{Option, none, some}
-use borrow.Author.Tests.{eq-eqb, ne-eqb, eqb-true, leb-false, not-false}
-use lib.Dec.{eqb, leb}
-use lib.ListN.{length, getD, length-append}
+use borrow.Author.Tests.{eq-eqb, ne-eqb}
+use lib.Dec.{eqb}
+use lib.ListN.{length, getD}
 use Rattle.scheme.specs.Lists.{if_then_else_, found}
 use Rattle.scheme.specs.Types.{Ty, state, same, domains}
 use Rattle.scheme.specs.Flags.{isKept}
-use Rattle.scheme.proofs.Lists.{or-false, select-append}
-use Rattle.records.specs.Fields.{field, byte, word}
+use Rattle.records.specs.Fields.{field, byte}
 use Rattle.records.specs.Records.{Record}
-use Rattle.casefile.specs.Kinds.{Kind, number, ofKind, payloads, count}
-use Rattle.casefile.specs.Refusals.{wrongLength, outOfRange}
+use Rattle.casefile.specs.Kinds.{Kind, number, payloads, count}
 use Rattle.casefile.specs.Tables.{typesOf, bindingsOf}
-use Rattle.casefile.proofs.Passed.{Passed, entry}
 use Rattle.casefile.proofs.TypeTable.{count-payloads}
 use Rattle.goals.specs.Goals.{Goal, Typed, typeOfBinding, IsOwn, IsMember}
 use Rattle.goals.proofs.Goals.{goal-below, goals-same}

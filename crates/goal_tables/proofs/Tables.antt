@@ -3,8 +3,8 @@ use Prim.Native.Nat.{ℕ, _+_, _-_, _*_, _/_, _<_, _≤_}
 use native.Mathlib.Omega.{arith}
 use mathlib.Core.Path.{_≡_, sym, ap, subst, _∙_}
 use mathlib.Core.List.{List, []}
-use lib.ListN.{length, getD}
-use Rattle.scheme.specs.Types.{Ty, state, arrow, Tys, members}
+use lib.ListN.{getD}
+use Rattle.scheme.specs.Types.{Ty, state, arrow, Tys}
 use Rattle.records.specs.Fields.{word}
 use Rattle.records.specs.Records.{Record}
 use Rattle.casefile.specs.Kinds.{Kind, payloads}

@@ -1,5 +1,5 @@
 -- The tables of goals, entered one type or one binding after another; what stands before them in the index stays.
-use Prim.Native.Nat.{ℕ, suc, _+_, _<_, _≤_}
+use Prim.Native.Nat.{ℕ, _+_, _<_, _≤_}
 use native.Mathlib.Omega.{arith}
 use native.Mathlib.Decide.{ℕ-discrete}
 use mathlib.Core.Path.{_≡_, refl, sym, ap, subst, _∙_}
@@ -13,14 +13,14 @@ use Rattle.scheme.specs.Types.{Ty, state, arrow, Tys}
 use Rattle.records.specs.Fields.{field, word}
 use Rattle.records.specs.Records.{Record}
 use Rattle.reading.specs.Reading.{partOf}
-use Rattle.casefile.specs.Kinds.{Kind, payloads, count}
+use Rattle.casefile.specs.Kinds.{Kind, payloads}
 use Rattle.casefile.specs.Tables.{typesOf}
-use Rattle.casefile.proofs.Passed.{Passed, entry}
+use Rattle.casefile.proofs.Passed.{entry}
 use Rattle.casefile.proofs.TypeTable.{count-payloads}
 use Rattle.entries.specs.Index.{base, Indexed}
 use Rattle.enter.specs.Entering.{stored}
 use Rattle.enter.proofs.Storing.{stored-set, stored-length}
-use Rattle.goals.specs.Goals.{Goal, Listed, typeOfBinding, goalBase, ownBase, Goals, Owns, ReadsGoal, ReadsResult, FillsGoals, FillsOwns}
+use Rattle.goals.specs.Goals.{Goal, Listed, typeOfBinding, goalBase, ownBase, ReadsGoal, ReadsResult, FillsGoals, FillsOwns}
 use Rattle.goals.proofs.Goals.{goal-below, arrow-record, binding-there}
 
 -- an entry that was stored, and the others

@@ -3,14 +3,13 @@ use Prim.Native.Nat.{ℕ, zero, suc, _+_, _-_, _*_, _/_, _%_, _<_, _≤_}
 use native.Mathlib.Omega.{arith}
 use native.Mathlib.Nat.{le-of-suc-le-suc}
 use mathlib.Core.Path.{_≡_, refl, sym, ap, ap₂, subst, _∙_}
-use mathlib.Core.Bool.{Bool, true, false, _&&_, _||_, not}
-use mathlib.Core.List.{List, [], _∷_, _++_, map, List·Memᴰ}
+use mathlib.Core.Bool.{Bool, true, false, _&&_, _||_}
+use mathlib.Core.List.{List, [], _∷_, _++_}
 use borrow.Author.Tests.{eqb-true, eqb-false, eq-eqb, ne-eqb, leb-true, leb-false, not-false}
 use lib.Dec.{T, eqb, leb}
 use lib.ListN.{length, getD, drop, length-append}
-use Rattle.scheme.specs.Lists.{if_then_else_}
-use Rattle.scheme.specs.Types.{Ty, state, arrow, Tys, []ʸ, _∷ʸ_, members, same}
-use Rattle.scheme.proofs.Lists.{true→T, T→true, and-true, or-false, select-append}
+use Rattle.scheme.specs.Types.{Ty, state, arrow, Tys, members, same}
+use Rattle.scheme.proofs.Lists.{true→T, T→true, or-false, select-append}
 use Rattle.scheme.proofs.Exact.{same→≡, same-refl}
 use Rattle.records.specs.Fields.{field, byte, word}
 use Rattle.records.specs.Records.{Record}
@@ -22,7 +21,6 @@ use Rattle.casefile.proofs.Repeats.{getD-mem}
 use Rattle.casefile.proofs.Steps.{words-step, words-done}
 use Rattle.casefile.proofs.TypeNumbers.{Shape, a-state, an-arrow}
 use Rattle.casefile.proofs.TypeTable.{count-payloads, type-shape, type-made, types-distinct}
-use Rattle.entries.specs.Index.{Indexed}
 use Rattle.goals.specs.Goals.{Goal, of-state, of-arrow, Listed, Typed, ReadsGoal, ReadsResult}
 
 -- the numbers of a payload, and how many bytes they take

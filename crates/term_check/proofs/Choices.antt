@@ -5,7 +5,6 @@ use mathlib.Core.Path.{_≡_, refl, sym, ap, subst, _∙_}
 use mathlib.Core.Bool.{Bool, true, false, _||_}
 use mathlib.Core.List.{List}
 use mathlib.Core.Option.{Option, none, some}
-use lib.Dec.{eqb}
 use lib.ListN.{length}
 use Rattle.scheme.specs.Lists.{found, any}
 use Rattle.scheme.specs.Terms.{Head, node, Terms, []ᵗ, _∷ᵗ_, countᵗ}

@@ -4,8 +4,8 @@ use native.Mathlib.Omega.{arith}
 use mathlib.Core.Path.{_≡_, refl}
 use mathlib.Core.Bool.{Bool, true, false}
 use mathlib.Core.List.{List}
-use lib.ListN.{length, getD}
-use Rattle.records.specs.Fields.{field, byte, word}
+use lib.ListN.{getD}
+use Rattle.records.specs.Fields.{byte, word}
 use Rattle.moves.specs.Moves.{rowAt}
 use Rattle.serving.specs.Serving.{EndsIn, Serves}
 use Rattle.wants.specs.Wants.{Wants, IsTarget}

@@ -4,12 +4,12 @@ use native.Mathlib.Omega.{arith}
 use native.Mathlib.Decide.{decLt}
 use mathlib.Core.Path.{_≡_, refl, ap, _∙_}
 use mathlib.Core.Logic.{inl, inr}
-use mathlib.Core.Bool.{Bool, true, false}
+use mathlib.Core.Bool.{true, false}
 use mathlib.Core.List.{List}
 use lib.ListN.{length, getD, take, drop}
 use Rattle.scheme.specs.Types.{Ty, state, arrow, Tys, []ʸ, _∷ʸ_, members, takes}
 use Rattle.records.specs.Records.{Record}
-use Rattle.goals.specs.Goals.{Goal, of-state, Typed, IsResult, CountsMembers, IsMember}
+use Rattle.goals.specs.Goals.{Goal, of-state, IsResult, CountsMembers, IsMember}
 use Rattle.goals.proofs.Goals as types
 use Rattle.goals.proofs.Goals.{arrow-record}
 use Rattle.arrows.proofs.Arrows.{takes-step, takes-none}

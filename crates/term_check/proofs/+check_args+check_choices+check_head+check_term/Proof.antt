@@ -1,14 +1,12 @@
 -- `check_term`, `check_head`, `check_choices` and `check_args` meet their contracts.
 use Prim.Native.Nat.{_+_, _-_, _*_, _/_}
-use mathlib.Core.Path.{_≡_, refl, sym, _∙_}
+use mathlib.Core.Path.{refl, sym, _∙_}
 use mathlib.Core.Bool.{true, false}
 use mathlib.Core.List.{[]}
 use native.Mathlib.Omega.{arith}
-use mir.Syntax.{w8}
-use mir.Val.{Fits}
 use borrow.Author.Needs.{needs}
 use borrow.Author.Tests.{not-true, not-false}
-use lib.ListN.{length, getD}
+use lib.ListN.{length}
 use Rattle.term_check.proofs.Arguments.{Args, member-few, args-start, args-end, args-stuck, args-next, args-lacks, args-has}
 use Rattle.term_check.proofs.Heads.{types-many, term-past, known-yes, known-no, term-learnt, other-head}
 use Rattle.term_check.proofs.Targets.{targets-no-state, targets-no-constructor, targets-not-served, targets-told, target-past, target-stuck, target-lacks, target-has}

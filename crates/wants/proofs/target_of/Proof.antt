@@ -4,7 +4,7 @@ use native.Mathlib.Omega.{arith}
 use mir.Syntax.{w8}
 use mir.Val.{Fits}
 use lib.ListN.{getD}
-use Rattle.wants.proofs.Wanting.{target-many, target-there}
+use Rattle.wants.proofs.Wanting.{target-there}
 use borrow.Author.Needs.{needs}
 use Rattle.wants.proofs.target_of.Statement.{statement}
 use Rattle.wants.proofs.target_of.Tie as tie
