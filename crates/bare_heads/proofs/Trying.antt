@@ -10,6 +10,7 @@ use Rattle.scheme.specs.Lists.{found, any}
 use Rattle.scheme.specs.Types.{Ty, same, domains}
 use Rattle.scheme.specs.Typing.{Automaton, headTypes}
 use Rattle.scheme.specs.Flags.{chosen}
+use Rattle.scheme.proofs.Lists.{or-first}
 use Rattle.records.specs.Records.{Record}
 use Rattle.casefile.specs.Kinds.{Kind}
 use Rattle.casefile.specs.Tables.{bindingsOf}
@@ -28,10 +29,6 @@ none-off : (o : Option Ty) (σ : Ty) (b : Bool) → found o (λ τ. found (off 0
 unfolding found off
 none-off none σ b e = e
 none-off (some τ) σ b e = e
-
-or-left : (a b : Bool) → a ≡ true → (a || b) ≡ true
-or-left true b e = refl
-or-left false b e = let z : _≡_ {A = ℕ} 0 1 = cc in absurd (omega arith)
 
 module _ (file index : List ℕ) (n : ℕ) (groups kept : List ℕ) (own : ℕ) (nonterminal : Bool) (number goal : ℕ) (span : Span) where
   -- type number j is the goal
@@ -69,7 +66,7 @@ module _ (file index : List ℕ) (n : ℕ) (groups kept : List ℕ) (own : ℕ) 
         tried-there ne =
             record {
               answer = λ rs m ty ix few g room aut τ σ x y.
-                  sym (w .rest rs m ty ix few g room aut τ σ x y ∙ anyIn-step (span .high) j (Is rs τ σ) l ∙ or-left (Is rs τ σ j) (anyIn (span .high - suc j) (suc j) (Is rs τ σ)) (by rs τ σ (found-here rs m ty ix few g room τ σ x y)));
+                  sym (w .rest rs m ty ix few g room aut τ σ x y ∙ anyIn-step (span .high) j (Is rs τ σ) l ∙ or-first (Is rs τ σ j) (anyIn (span .high - suc j) (suc j) (Is rs τ σ)) (by rs τ σ (found-here rs m ty ix few g room τ σ x y)));
             }
           where
             by : (rs : List Record) (τ σ : Ty) → Found rs n (candidateTy rs kept τ nonterminal number j) 0 σ t → Is rs τ σ j ≡ true

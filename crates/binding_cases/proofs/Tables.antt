@@ -24,6 +24,7 @@ use Rattle.casefile.proofs.Passed.{Passed, first-none}
 use Rattle.casefile.proofs.Plans.{first-both, plan-right}
 use Rattle.entries.specs.Index.{base, Indexed}
 use Rattle.entries.specs.Tests.{IsPlace}
+use Rattle.entries.proofs.Stays.{indexed-same}
 use Rattle.kinds.specs.Known.{room, Known}
 use Rattle.rule_bodies.specs.RuleBodies.{firstNode}
 use Rattle.plan_tests.specs.PlanTests.{EndsAre}
@@ -31,7 +32,6 @@ use Rattle.plan_tests.proofs.Contents.{payload-bytes}
 use Rattle.groups.specs.Groups.{Grouped, Fills}
 use Rattle.moves.specs.Moves.{Holds}
 use Rattle.goals.specs.Goals.{Goal, of-state, of-arrow, Listed, goalBase, ownBase, Goals, Typed, FillsGoals, FillsOwns}
-use Rattle.goals.proofs.Filling.{indexed-same}
 use Rattle.whole_bodies.proofs.Wholes.{whole-body}
 use Rattle.binding_tests.specs.BindingTests.{Ready}
 use Rattle.rounds.specs.Shrinking.{testOf, Shrinks}
@@ -129,8 +129,8 @@ listed-known : {file index lens counts : List ℕ} {rs : List Record} → Known 
 unfolding number
 listed-known known ok bytes = record { passed = ok; bytes = payload-bytes (known .entries Kind.type) bytes; there = known .entries Kind.type; few = known .fits Kind.type }
 
-goals-same : {before index : List ℕ} {n : ℕ} {rs : List Record} → n ≤ 1024 → ((i : ℕ) → i < ownBase → getD index i 0 ≡ getD before i 0) → Goals before n rs → Goals index n rs
-goals-same {before} {index} {n} {rs} few same w =
+goals-kept : {before index : List ℕ} {n : ℕ} {rs : List Record} → n ≤ 1024 → ((i : ℕ) → i < ownBase → getD index i 0 ≡ getD before i 0) → Goals before n rs → Goals index n rs
+goals-kept {before} {index} {n} {rs} few same w =
     record {
       goal-there = λ t h. subst (λ x. Goal rs n x (getD (typesOf rs) t (state 0))) (sym (same (4450 + t) (omega arith))) (w .goal-there t h);
       result-there = λ g a τ x. subst (λ y. Goal rs n y τ) (sym (same (5474 + g) (by g a τ x))) (w .result-there g a τ x);
@@ -160,7 +160,7 @@ module _ (file before counts ends lent marks : List ℕ) (r : Bool) (many rounds
             let all-fit = known₀ .fits Kind.binding in
             let te = et .value in
             let owns = fills-owns .owns rs listed₁ there (omega arith) (omega (arith, fills-goals .long)) in
-            let goals = goals-same (listed .few) (fills-owns .stays) (fills-goals .goals rs listed₀ (omega arith)) in
+            let goals = goals-kept (listed .few) (fills-owns .stays) (fills-goals .goals rs listed₀ (omega arith)) in
             let typed : Typed file index types rs = record { passed = ok; bytes = listed .bytes; there = listed .there; few = listed .few; goals = goals; owns = owns } in
             let nodes : (f : ℕ) → f < getD counts 4 0 → getD firsts f 0 ≡ firstNode rs f =
             λ f h. first-nodes rs ok (subst (λ n. Indexed file index Kind.rule n rs) (sym (er .value)) (known .entries Kind.rule)) (let a = known .fits Kind.rule in let b = er .value in omega arith) f (let b = er .value in omega arith) in

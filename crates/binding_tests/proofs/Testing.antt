@@ -23,13 +23,13 @@ use Rattle.casefile.specs.Kinds.{Kind, number, payloads, count}
 use Rattle.casefile.specs.Tables.{Cell, cellsOf, headOf, nodesOf, firstTerm, bodyOf, aritiesOf, signaturesOf, typesOf, planOf, automatonOf, bindingsOf}
 use Rattle.casefile.specs.Refusals.{wrongCell, outOfRange}
 use Rattle.casefile.proofs.Passed.{Passed, entry}
+use Rattle.casefile.proofs.Payloads.{arity-small}
 use Rattle.casefile.proofs.TypeTable.{count-payloads}
 use Rattle.casefile.proofs.Cells.{cellAt, cells-length, cells-at, cell-range}
 use Rattle.entries.specs.Index.{Indexed}
 use Rattle.lookup.specs.Lookup.{entryOf}
 use Rattle.lookup.proofs.Found.{entry-there}
 use Rattle.rule_bodies.specs.RuleBodies.{ruleOf}
-use Rattle.moves.proofs.Targets.{arity-small}
 use Rattle.goals.specs.Goals.{Goal, Typed, typeOfBinding, IsOwn}
 use Rattle.goals.proofs.Goals.{fewer, binding-there}
 use Rattle.finals.specs.Finals.{IsFinal}

@@ -4,7 +4,7 @@ use mathlib.Core.Path.{_≡_, sym, ap}
 use mathlib.Core.List.{List, [], _∷_}
 use lib.ListN.{getD}
 use Rattle.plan_check.specs.Verdicts.{answerAs}
-use Rattle.plan_check.specs.Demands.{Demand1, Demand2, Demand3}
+use Rattle.demands.specs.Demands.{Demand1, Demand2, Demand3}
 use Rattle.plan_check.specs.declared.Verdict.{Verdict}
 use Rattle.plan_check.specs.declared.Verdict.the-variants.{Proved, Unproved, Refuted, Refused}
 use Rattle.capi.specs.Exports.{wordsOf, Judges}

@@ -3,8 +3,8 @@ use Prim.Native.Nat.{ℕ}
 use mathlib.Core.Path.{_≡_}
 use mathlib.Core.List.{List, [], _∷_}
 use lib.ListN.{length, getD}
-use Rattle.plan_check.specs.Answers.{Answer, proved, unproved, refuted, refused, answer, flagsAfter}
-use Rattle.plan_check.specs.Demands.{Demand2, Demand3}
+use Rattle.demands.specs.Answers.{Answer, proved, unproved, refuted, refused, answer, flagsAfter}
+use Rattle.demands.specs.Demands.{Demand2, Demand3}
 
 -- the number of an answer: 0 proved, 1 unproved, 2 refuted, 3 refused; then its values, 0 where there are fewer than three
 unfoldable pub wordsOf : Answer → List ℕ

@@ -8,3 +8,4 @@ pub mod SortTable
 pub mod Steps
 pub mod Cells
 pub mod Plans
+pub mod Payloads

@@ -16,10 +16,9 @@ use Rattle.records.specs.Fields.{field, byte, word}
 use Rattle.records.specs.Records.{Record}
 use Rattle.casefile.specs.Kinds.{sort, type, payloads}
 use Rattle.casefile.specs.Tables.{words, membersAt, arrowFrom, typeFrom, typesOf, sortFrom, sortsOf}
-use Rattle.casefile.proofs.Growth.{grow-grown}
 use Rattle.casefile.proofs.TypeNumbers.{Shape, a-state, an-arrow}
 use Rattle.casefile.proofs.TypeTable.{count-payloads, type-shape, type-made}
-use Rattle.casefile.proofs.SortTable.{sort-below, sort-made}
+use Rattle.casefile.proofs.SortTable.{sort-zero, sort-below, sort-made}
 use Rattle.fit_flags.specs.Fitted.{flag, says, arrowSays, Holds, ArrowFits, fitsAt, Fitted}
 use Rattle.fits.specs.Filled.{Listed}
 use Rattle.fit_flags.proofs.Arrows.{bit-says}
@@ -47,11 +46,6 @@ state-from types p e = rw (eq-eqb (length p) 1 e) refl
 arrow-from : (types : List Ty) (p : List ℕ) (r : ℕ) (ms : List ℕ) → eqb (length p) 1 ≡ false → words p ≡ r ∷ ms → typeFrom types p ≡ arrow (membersAt types ms) (getD types r (state 0))
 unfolding typeFrom arrowFrom
 arrow-from types p r ms e f = rw (e, f) refl
-
--- sort 0
-first-sort : (rs : List Record) → getD (sortsOf rs) 0 o ≡ o
-unfolding sortsOf
-first-sort rs = ap (λ l. getD l 0 o) (grow-grown sortFrom (o ∷ []) (payloads sort rs))
 
 module _ {file index : List ℕ} {types sorts : ℕ} {rs : List Record} (li : Listed file index types sorts rs) where
   abbrev typePay : ℕ → List ℕ
@@ -103,7 +97,7 @@ module _ {file index : List ℕ} {types sorts : ℕ} {rs : List Record} (li : Li
       state-row s l one e = e ∙ ap bit (sym (ap₂ fits (made ∙ state-from (typesOf rs) (typePay t) (length-is ∙ one)) refl ∙ by s l))
         where
           by : (s : ℕ) → s ≤ sorts → fits (state (byte (typePay t) 0)) (getD (sortsOf rs) s o) ≡ eqb s 0
-          by zero l = ap (fits (state (byte (typePay t) 0))) (first-sort rs)
+          by zero l = ap (fits (state (byte (typePay t) 0))) (sort-zero rs)
           by (suc s) l = ap (fits (state (byte (typePay t) 0))) (sort-there (suc s) (getD index (suc s - 1) 0) (word file (getD index (suc s - 1) 0)) (word file (getD index (suc s - 1) 0 + 2)) (omega arith) l refl refl refl .0)
               ∙ sym (ne-eqb (suc s) 0 (λ z. omega arith))
 
@@ -126,7 +120,7 @@ module _ {file index : List ℕ} {types sorts : ℕ} {rs : List Record} (li : Li
       -- it does not fit sort 0
       pub arrow-tree : (s : ℕ) → (len ≡ 1 → ⊥) → s ≡ 0 → 0 ≡ bit (fitsAt rs t s)
       unfolding fits bit
-      arrow-tree s ne z = let a = arrow-there ne in sym (ap bit (ap₂ fits (a .is-arrow) (ap (λ k. getD (sortsOf rs) k o) z ∙ first-sort rs)))
+      arrow-tree s ne z = let a = arrow-there ne in sym (ap bit (ap₂ fits (a .is-arrow) (ap (λ k. getD (sortsOf rs) k o) z ∙ sort-zero rs)))
 
       -- it fits another sort as its numbers say
       pub arrow-row : (fit : List ℕ) {r : ℕ} (s start from to : ℕ) → Fitted fit t sorts rs → s ≤ sorts → (len ≡ 1 → ⊥) → (s ≡ 0 → ⊥)

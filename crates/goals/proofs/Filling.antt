@@ -4,20 +4,20 @@ use native.Mathlib.Omega.{arith}
 use native.Mathlib.Decide.{ℕ-discrete}
 use mathlib.Core.Path.{_≡_, refl, sym, ap, subst, _∙_}
 use mathlib.Core.Bool.{Bool, true, false}
-use mathlib.Core.List.{List, []}
+use mathlib.Core.List.{List}
 use lib.Dec.{ltb}
 use lib.ListN.{length, getD, set}
 use lib.Seq.{getD-set-same, getD-set-other}
 use Rattle.scheme.specs.Lists.{if_then_else_}
 use Rattle.scheme.specs.Types.{Ty, state, arrow, Tys}
-use Rattle.records.specs.Fields.{field, word}
+use Rattle.records.specs.Fields.{word}
 use Rattle.records.specs.Records.{Record}
-use Rattle.reading.specs.Reading.{partOf}
 use Rattle.casefile.specs.Kinds.{Kind, payloads}
 use Rattle.casefile.specs.Tables.{typesOf}
 use Rattle.casefile.proofs.Passed.{entry}
 use Rattle.casefile.proofs.TypeTable.{count-payloads}
-use Rattle.entries.specs.Index.{base, Indexed}
+use Rattle.entries.specs.Index.{Indexed}
+use Rattle.entries.proofs.Stays.{indexed-same}
 use Rattle.enter.specs.Entering.{stored}
 use Rattle.enter.proofs.Storing.{stored-set, stored-length}
 use Rattle.goals.specs.Goals.{Goal, Listed, typeOfBinding, goalBase, ownBase, ReadsGoal, ReadsResult, FillsGoals, FillsOwns}
@@ -34,18 +34,6 @@ stored-other a i v j ne = by (ltb v 65536)
     by : (b : Bool) → getD (if b then set a i v else a) j 0 ≡ getD a j 0
     by true = getD-set-other a i j v 0 ne
     by false = refl
-
--- an index with the same entries of a kind has them too
-pub indexed-same : {file before index : List ℕ} {k : Kind} {n : ℕ} {rs : List Record} → ((i : ℕ) → i < n → getD index (base k + i) 0 ≡ getD before (base k + i) 0) → Indexed file before k n rs → Indexed file index k n rs
-indexed-same {file} {before} {index} {k} {n} {rs} same ix =
-    record {
-      counted = ix .counted;
-      behind-header = λ i h. subst (λ x. 4 ≤ x) (sym (same i h)) (ix .behind-header i h);
-      place-there = λ i h. ix .place-there i h ∙ sym (same i h);
-      length-there = λ i at h e. ix .length-there i at h (e ∙ same i h);
-      payload-there = λ i h. ap (λ x. partOf file x (length (getD (payloads k rs) i []))) (same i h) ∙ ix .payload-there i h;
-      field-there = λ i h w at l. ap (λ x. field w file (x + at)) (same i h) ∙ ix .field-there i h w at l;
-    }
 
 listed-same : {file before index : List ℕ} {n : ℕ} {rs : List Record} → ((i : ℕ) → i < goalBase → getD index i 0 ≡ getD before i 0) → Listed file before n rs → Listed file index n rs
 listed-same same w = record { passed = w .passed; bytes = w .bytes; there = indexed-same (λ i h. same (1120 + i) (omega (arith, w .few))) (w .there); few = w .few }

@@ -1,11 +1,11 @@
 -- What the rows of the table mean: the targets of the definitions.
-use Prim.Native.Nat.{ℕ, zero, suc, _+_, _*_, _<_, _≤_}
+use Prim.Native.Nat.{ℕ, zero, suc, _+_, _<_, _≤_}
 use native.Mathlib.Nat.{add-zero}
 use native.Mathlib.Omega.{arith}
 use mathlib.Core.Path.{_≡_, refl, sym, ap, ap₂, subst, _∙_}
 use mathlib.Core.Bool.{Bool, true, false, _&&_, _||_, not}
 use mathlib.Core.List.{List, [], _∷_, _++_, map, map-append}
-use mathlib.Core.Option.{Option, none, some}
+use mathlib.Core.Option.{none, some}
 use borrow.Author.Tests.{eqb-true, ne-eqb, leb-false, ltb-false}
 use lib.Dec.{eqb, leb, ltb}
 use lib.ListN.{length, getD, take, drop, length-map, length-append}
@@ -14,10 +14,10 @@ use Rattle.scheme.proofs.Lists.{or-false, select-append}
 use Rattle.records.specs.Fields.{field, byte}
 use Rattle.records.specs.Records.{Record}
 use Rattle.casefile.specs.Kinds.{Kind, number, ofKind, payloads}
-use Rattle.casefile.specs.Tables.{aritiesOf, stateCount, Transition, transitionOf, transitionsOf, targetsAt}
-use Rattle.casefile.specs.Refusals.{wrongTargets, outOfRange, refuseRecord}
-use Rattle.casefile.proofs.Passed.{Passed, nothing, also, Tested, entry, passed-tested, payloads-more, payloads-other}
-use Rattle.moves.specs.Moves.{rowAt, fourAt, rowFor, targetsIn, Shaped, Sofar, TableFor, Holds}
+use Rattle.casefile.specs.Tables.{aritiesOf, stateCount, transitionOf, transitionsOf, targetsAt}
+use Rattle.casefile.specs.Refusals.{wrongTargets, outOfRange}
+use Rattle.casefile.proofs.Passed.{Passed, nothing, also, entry, passed-tested, payloads-more, payloads-other}
+use Rattle.moves.specs.Moves.{rowAt, fourAt, rowFor, targetsIn, Sofar, Holds}
 use Rattle.moves.proofs.Filling.{six}
 
 last-more : (d : ℕ) (l : List ℕ) (x : ℕ) → lastOr d (l ++ (x ∷ [])) ≡ x

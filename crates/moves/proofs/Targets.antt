@@ -6,48 +6,23 @@ use native.Mathlib.Omega.{arith}
 use native.Mathlib.Decide.{decLt}
 use mathlib.Core.Path.{_≡_, refl, sym, ap, subst, _∙_}
 use mathlib.Core.Bool.{Bool, true, false, _&&_, _||_}
-use mathlib.Core.List.{List, [], _∷_, _++_, map, map-append, append-nil}
+use mathlib.Core.List.{List, [], _∷_, _++_, map, append-nil}
 use mathlib.Core.Option.{some}
 use borrow.Author.Tests.{eqb-true, leb-false, ltb-false}
 use lib.Dec.{eqb, leb, ltb}
-use lib.ListN.{length, getD, take, drop, length-map, length-append, length-take, length-drop, List·getD-eq-default}
+use lib.ListN.{length, getD, take, drop, length-append, length-take, length-drop, List·getD-eq-default}
 use lib.Seq.{length-take-le, getD-take, getD-drop}
 use Rattle.scheme.specs.Lists.{if_then_else_, any, lastOr}
-use Rattle.scheme.proofs.Lists.{or-false, select-append, any-at, getD-map-in}
+use Rattle.scheme.proofs.Lists.{or-false, any-at}
 use Rattle.records.specs.Fields.{byte}
 use Rattle.records.specs.Records.{Record}
-use Rattle.casefile.specs.Kinds.{Kind, ofKind, payloads}
+use Rattle.casefile.specs.Kinds.{Kind, payloads}
 use Rattle.casefile.specs.Tables.{aritiesOf, stateCount, transitionOf, transitionsOf, targetsAt}
 use Rattle.casefile.specs.Refusals.{wrongTargets, outOfRange}
 use Rattle.casefile.proofs.Passed.{Passed, entry}
+use Rattle.casefile.proofs.Payloads.{payloads-append, arity-small}
 use Rattle.moves.proofs.Filling.{six}
 use Rattle.moves.proofs.Meaning.{states-few}
-
--- a constructor has at most 4 arguments
-pub arity-small : {rs : List Record} → Passed rs → (c : ℕ) → getD (aritiesOf rs) c 0 ≤ 4
-unfolding aritiesOf outOfRange
-arity-small {rs} ok c = go (decLt c (length ps))
-  where
-    ps : List (List ℕ)
-    ps = payloads Kind.constructor rs
-
-    first : List ℕ → ℕ
-    first p = byte p 0
-
-    go : Dec (c < length ps) → getD (map first ps) c 0 ≤ 4
-    go (yes h) =
-        let e = entry ok Kind.constructor c h in
-        let small = ltb-false 4 (byte (e .payload) 0) (e .passed-tests .ranges) in
-        let here : getD (map first ps) c 0 ≡ byte (e .payload) 0 = getD-map-in first ps c 0 [] h ∙ ap first (e .here) in
-        omega arith
-    go (no h) =
-        let long = length-map ps first in
-        let past : getD (map first ps) c 0 ≡ 0 = List·getD-eq-default (map first ps) 0 (omega arith) in
-        omega arith
-
-payloads-append : (k : Kind) (a b : List Record) → payloads k (a ++ b) ≡ payloads k a ++ payloads k b
-unfolding payloads ofKind
-payloads-append k a b = rw select-append (map-append (λ (r : Record). r .payload) (ofKind k a) (ofKind k b))
 
 -- where there is one states record at most, and records before some have states, those are the states of all
 states-all : (a b : List Record) → length (payloads Kind.states (a ++ b)) ≤ 1 → 0 < stateCount a → stateCount (a ++ b) ≡ stateCount a

@@ -20,8 +20,8 @@ use Rattle.replay.specs.declared.Replayed.{Replayed}
 use Rattle.replay.specs.declared.Replayed.the-variants.{Refuted as Refuted′, Refused as Refused′}
 use Rattle.shrink.specs.BindingCases.{Shrunk, shrunk}
 use Rattle.binding_cases.specs.Judging.{IsShrunk, JudgesBindings}
-use Rattle.plan_check.specs.Answers.{Answer, proved, unproved, refuted, refused, Outcome, refusal, bindingOutcome, pathOutcome, outcomeOf, answer, flagsAfter}
-use Rattle.plan_check.specs.Demands.{Demand1}
+use Rattle.demands.specs.Answers.{Answer, proved, unproved, refuted, refused, Outcome, refusal, bindingOutcome, pathOutcome, outcomeOf, answer, flagsAfter}
+use Rattle.demands.specs.Demands.{Demand1}
 use Rattle.plan_check.specs.Verdicts.{answerAs, ofBindings, ofPath}
 use Rattle.plan_check.specs.declared.Verdict.{Verdict}
 use Rattle.plan_check.specs.declared.Verdict.the-variants.{Proved, Unproved, Refuted, Refused}

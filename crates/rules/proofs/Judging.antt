@@ -1,25 +1,25 @@
 -- The arrays hold what the bodies of a file are judged by.
 use Prim.Native.Nat.{ℕ, zero, suc, _+_, _%_, _<_, _≤_}
 use native.Mathlib.Omega.{arith}
-use native.Mathlib.Nat.{zero-add, le-of-suc-le-suc}
-use native.Mathlib.Decide.{decLt}
+use native.Mathlib.Nat.{zero-add}
 use mathlib.Core.Path.{_≡_, refl, sym, ap, subst, _∙_}
 use mathlib.Core.Bool.{Bool, false, _||_, not}
-use mathlib.Core.List.{List, [], _∷_, _++_, map, map-append}
+use mathlib.Core.List.{List, [], _∷_, _++_, map}
 use borrow.Author.Tests.{leb-false, ltb-false, lt-leb, eqb-true, not-false}
 use lib.Dec.{eqb, leb, ltb}
-use lib.ListN.{length, getD, take, length-map, length-append, List·getD-append, List·getD-eq-default}
+use lib.ListN.{length, getD, take, length-map, length-append, List·getD-append}
 use lib.Seq.{ext-getD, getD-take, length-take-le}
 use Rattle.scheme.specs.Lists.{any}
 use Rattle.scheme.specs.Sorts.{Sort, o, arguments}
-use Rattle.scheme.proofs.Lists.{or-false, select-append, getD-map-in}
+use Rattle.scheme.proofs.Lists.{or-false, getD-map-in}
 use Rattle.records.specs.Fields.{field, byte, word}
 use Rattle.records.specs.Records.{Record}
-use Rattle.casefile.specs.Kinds.{Kind, sort, constructor, nonterminal, rule, number, ofKind, payloads, count}
+use Rattle.casefile.specs.Kinds.{Kind, sort, constructor, nonterminal, rule, number, payloads, count}
 use Rattle.casefile.specs.Tables.{grow, sortFrom, sortsOf, aritiesOf, signaturesOf, Cell, cellsOf}
 use Rattle.casefile.specs.Refusals.{wrongLength, tooMany, tooLarge, outOfRange, wrongCell}
 use Rattle.casefile.proofs.Growth.{grow-append, grow-grown, grown}
 use Rattle.casefile.proofs.Passed.{Passed, entry}
+use Rattle.casefile.proofs.Payloads.{payloads-append, arity-small}
 use Rattle.casefile.proofs.TypeTable.{count-payloads}
 use Rattle.entries.specs.Index.{base, Indexed}
 use Rattle.sort_codes.specs.Sorted.{SortArrays, TreeCodes}
@@ -30,12 +30,6 @@ use Rattle.rules.specs.Rules.{Filled, Filed}
 use Rattle.rule_bodies.specs.RuleBodies.{ruleOf, numbersOf, Judged}
 
 -- More records leave what the tables have.
-payloads-append : (k : Kind) (xs ys : List Record) → payloads k (xs ++ ys) ≡ payloads k xs ++ payloads k ys
-unfolding payloads ofKind
-payloads-append k xs ys =
-    let test : Record → Bool = λ x. eqb (x .kind) (number k) in
-    ap (map (λ (r : Record). r .payload)) (select-append test xs ys) ∙ map-append (λ (r : Record). r .payload) (ofKind k xs) (ofKind k ys)
-
 payloads-stay : (k : Kind) (xs ys : List Record) (i : ℕ) → i < length (payloads k xs) → getD (payloads k (xs ++ ys)) i [] ≡ getD (payloads k xs) i []
 payloads-stay k xs ys i h = ap (λ l. getD l i []) (payloads-append k xs ys) ∙ List·getD-append (payloads k xs) (payloads k ys) [] i h
 
@@ -92,22 +86,6 @@ module _ {rs : List Record} (ok : Passed rs) where
       let below = leb-false (length (sortsOf (n .earlier))) (word (n .payload) 0) (n .passed-tests .ranges) in
       let grows : length (sortsOf (n .earlier)) ≤ length (sortsOf rs) = subst (λ z. length (sortsOf (n .earlier)) ≤ length (sortsOf z)) (n .together) (sorts-grow (n .earlier) (n .later)) in
       subst (λ z. word z 0 < length (sortsOf rs)) (sym (n .here)) (omega arith)
-
-  -- a constructor has four arguments at most
-  pub arity-small : (c : ℕ) → getD (aritiesOf rs) c 0 ≤ 4
-  unfolding outOfRange aritiesOf
-  arity-small c = by (decLt c (length (payloads constructor rs)))
-    where
-      by : Dec (c < length (payloads constructor rs)) → getD (map (λ (p : List ℕ). byte p 0) (payloads constructor rs)) c 0 ≤ 4
-      by (yes h) =
-          let n = entry ok constructor c h in
-          let small = ltb-false 4 (byte (n .payload) 0) (n .passed-tests .ranges) in
-          let e : getD (map (λ (p : List ℕ). byte p 0) (payloads constructor rs)) c 0 ≡ byte (n .payload) 0 = getD-map-in (λ (p : List ℕ). byte p 0) (payloads constructor rs) c 0 [] h ∙ ap (λ z. byte z 0) (n .here) in
-          omega arith
-      by (no h) =
-          let l = length-map (payloads constructor rs) (λ (p : List ℕ). byte p 0) in
-          let e : getD (map (λ (p : List ℕ). byte p 0) (payloads constructor rs)) c 0 ≡ 0 = List·getD-eq-default (map (λ (p : List ℕ). byte p 0) (payloads constructor rs)) 0 (omega arith) in
-          omega arith
 
 -- the sort of a nonterminal stays
 signatures-stay : {xs : List Record} (ys : List Record) → Passed xs → (i : ℕ) → i < length (signaturesOf xs) → getD (signaturesOf (xs ++ ys)) i o ≡ getD (signaturesOf xs) i o

@@ -2,7 +2,7 @@
 use Prim.Native.Nat.{ℕ, zero, suc, _+_, _<_, _≤_}
 use native.Mathlib.Omega.{arith}
 use native.Mathlib.Decide.{decLt}
-use mathlib.Core.Path.{_≡_, sym, ap, subst, _∙_}
+use mathlib.Core.Path.{_≡_, sym, subst}
 use mathlib.Core.Bool.{_&&_}
 use mathlib.Core.List.{List, [], _∷_}
 use mathlib.Core.Option.{some}
@@ -14,13 +14,14 @@ use Rattle.scheme.specs.Sorting.{headSort, sortOf}
 use Rattle.scheme.specs.Terms.{Head, con, nt, par, node, Terms, countᵗ}
 use Rattle.scheme.proofs.Lists.{or-false, and-false, getD-map-in}
 use Rattle.scheme.proofs.Sorting.{tree-arguments, after-count}
-use Rattle.records.specs.Fields.{byte, word}
+use Rattle.records.specs.Fields.{word}
 use Rattle.records.specs.Records.{Record}
 use Rattle.casefile.specs.Kinds.{Kind, payloads, count}
 use Rattle.casefile.specs.Tables.{grow, sortFrom, sortsOf, aritiesOf, signaturesOf}
 use Rattle.casefile.specs.Refusals.{tooMany, tooLarge, outOfRange}
 use Rattle.casefile.proofs.Growth.{sofar, grow-entry, grow-length}
 use Rattle.casefile.proofs.Passed.{Passed, Tested, entry}
+use Rattle.casefile.proofs.Payloads.{arity-small}
 use Rattle.casefile.proofs.SortTable.{sort-zero}
 use Rattle.sort_bounds.specs.Sorted.{closedSorts}
 
@@ -61,23 +62,6 @@ module _ {rs : List Record} (ok : Passed rs) where
           let l = grow-length sortFrom (o ∷ []) (payloads Kind.sort rs) in
           subst (λ s. length (arguments s) ≤ 8) (sym (List·getD-eq-default (sortsOf rs) o {n = suc i} (omega arith))) (omega arith)
 
-  -- a constructor takes at most 4 arguments
-  pub arity-small : (c : ℕ) → getD (aritiesOf rs) c 0 ≤ 4
-  unfolding aritiesOf
-  arity-small c = by (decLt c (length (payloads Kind.constructor rs)))
-    where
-      by : Dec (c < length (payloads Kind.constructor rs)) → getD (aritiesOf rs) c 0 ≤ 4
-      by (yes h) =
-          unfold outOfRange in
-          let n = entry ok Kind.constructor c h in
-          let a : getD (aritiesOf rs) c 0 ≡ byte (n .payload) 0 = getD-map-in (λ (p : List ℕ). byte p 0) (payloads Kind.constructor rs) c 0 [] h ∙ ap (λ (p : List ℕ). byte p 0) (n .here) in
-          let b = ltb-false 4 (byte (n .payload) 0) (n .passed-tests .ranges) in
-          omega arith
-      by (no h) =
-          let l = length-map (payloads Kind.constructor rs) (λ (p : List ℕ). byte p 0) in
-          let e : getD (aritiesOf rs) c 0 ≡ 0 = List·getD-eq-default (aritiesOf rs) 0 {n = c} (omega arith) in
-          omega arith
-
   -- the sort that a nonterminal record names
   abbrev sortAt : List ℕ → Sort
   sortAt p = getD (sortsOf rs) (word p 0) o
@@ -95,7 +79,7 @@ module _ {rs : List Record} (ok : Passed rs) where
 
   head-small : (h : Head) → length (arguments (closedSorts rs h)) ≤ 8
   unfolding closedSorts headSort arguments
-  head-small (con c) = let a = tree-arguments (getD (aritiesOf rs) c 0) in let b = arity-small c in omega arith
+  head-small (con c) = let a = tree-arguments (getD (aritiesOf rs) c 0) in let b = arity-small ok c in omega arith
   head-small (nt f) = signature-small f
   head-small (par i) = omega arith
 

@@ -1,6 +1,6 @@
 -- The sorts of a file, by arrays that hold the two numbers of each sort record.
 use Prim.Native.Nat.{ℕ, zero, suc, _<_}
-use mathlib.Core.Path.{_≡_, sym, ap, ap₂, _∙_}
+use mathlib.Core.Path.{_≡_, sym, ap₂, _∙_}
 use mathlib.Core.List.{List, [], _∷_}
 use native.Mathlib.Omega.{arith}
 use native.Mathlib.Nat.{le-of-suc-le-suc}
@@ -11,9 +11,9 @@ use Rattle.records.specs.Records.{Record}
 use Rattle.records.proofs.Fields.{Bytes}
 use Rattle.casefile.specs.Kinds.{sort, payloads}
 use Rattle.casefile.specs.Tables.{sortFrom, sortsOf}
-use Rattle.casefile.proofs.Growth.{grow-grown, grow-length}
+use Rattle.casefile.proofs.Growth.{grow-length}
 use Rattle.casefile.proofs.Passed.{Passed}
-use Rattle.casefile.proofs.SortTable.{sort-below, sort-made, sorts-distinct}
+use Rattle.casefile.proofs.SortTable.{sort-zero, sort-below, sort-made, sorts-distinct}
 use Rattle.sort_codes.specs.Sorted.{SortArrays}
 
 module _ {rs : List Record} (ok : Passed rs) (bytes : (i : ℕ) → Bytes (getD (payloads sort rs) i [])) (froms tos : List ℕ) (few : length (payloads sort rs) < 1000)
@@ -22,10 +22,6 @@ module _ {rs : List Record} (ok : Passed rs) (bytes : (i : ℕ) → Bytes (getD 
   count-is : length (sortsOf rs) ≡ suc (length (payloads sort rs))
   unfolding sortsOf
   count-is = grow-length sortFrom (o ∷ []) (payloads sort rs) ∙ (omega arith)
-
-  start-is : getD (sortsOf rs) 0 o ≡ o
-  unfolding sortsOf
-  start-is = ap (λ l. getD l 0 o) (grow-grown sortFrom (o ∷ []) (payloads sort rs))
 
   made-is : (i : ℕ) → 0 < i → i < suc (length (payloads sort rs)) → getD (sortsOf rs) i o ≡ getD (sortsOf rs) (getD froms i 0) o ⇒ getD (sortsOf rs) (getD tos i 0) o
   unfolding sortFrom
@@ -48,7 +44,7 @@ module _ {rs : List Record} (ok : Passed rs) (bytes : (i : ℕ) → Bytes (getD 
     count = count-is;
     few = omega arith;
     positive = omega arith;
-    start = start-is;
+    start = sort-zero rs;
     made = made-is;
     from-below = from-below-is;
     to-below = to-below-is;

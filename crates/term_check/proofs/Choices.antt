@@ -11,7 +11,7 @@ use Rattle.scheme.specs.Terms.{Head, node, Terms, []ᵗ, _∷ᵗ_, countᵗ}
 use Rattle.scheme.specs.Types.{Ty, same, domains}
 use Rattle.scheme.specs.Typing.{headTypes, has, leads}
 use Rattle.scheme.specs.Flags.{chosen}
-use Rattle.scheme.proofs.Lists.{true→T, found-out}
+use Rattle.scheme.proofs.Lists.{or-first, true→T, found-out}
 use Rattle.records.specs.Fields.{field}
 use Rattle.records.specs.Records.{Record}
 use Rattle.casefile.specs.Kinds.{Kind}
@@ -37,10 +37,6 @@ misses : (heads : Head → List Ty) (ts : Terms) (σ : Ty) (o : Option Ty) → f
 unfolding found
 misses heads ts σ none e = refl
 misses heads ts σ (some υ) e = leads-not heads ts υ σ e
-
-or-left : (a b : Bool) → a ≡ true → (a || b) ≡ true
-or-left true b e = refl
-or-left false b e = let z : _≡_ {A = ℕ} 0 1 = cc in absurd (omega arith)
 
 -- A head that stands alone.
 bare-is : (heads : Head → List Ty) (h : Head) (ts : Terms) (σ : Ty) → countᵗ ts ≡ 0 → any (λ υ. same υ σ) (heads h) ≡ has same heads (node h ts) σ
@@ -165,4 +161,4 @@ module _ (x : Body) (i goal : ℕ) (nonterminal : Bool) (number count : ℕ) (sp
           pub tried-leads : HeadHere → b ≡ true → ChecksTerm x memo₀ i goal after true
           tried-leads is-head e =
               tried-answer is-head memo₀ after true (keeps-on (w .keeps) (told .keeps)) (λ rs τ s ih r ts al c σ g.
-              sym (w .rest rs τ s ih r ts al c σ g ∙ anyIn-step (span .high) j (gives rs τ ts σ) l ∙ or-left (gives rs τ ts σ j) (anyIn (span .high - suc j) (suc j) (gives rs τ ts σ)) (gives-is rs τ s ih r ts al c σ g ∙ e)))
+              sym (w .rest rs τ s ih r ts al c σ g ∙ anyIn-step (span .high) j (gives rs τ ts σ) l ∙ or-first (gives rs τ ts σ j) (anyIn (span .high - suc j) (suc j) (gives rs τ ts σ)) (gives-is rs τ s ih r ts al c σ g ∙ e)))

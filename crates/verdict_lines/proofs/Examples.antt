@@ -2,7 +2,7 @@
 use Prim.Native.Nat.{ℕ}
 use mathlib.Core.Path.{_≡_, refl}
 use mathlib.Core.List.{List, [], _∷_, map}
-use Rattle.plan_check.specs.Answers.{Answer, proved, unproved, refuted, refused}
+use Rattle.demands.specs.Answers.{Answer, proved, unproved, refuted, refused}
 use Rattle.verdict_lines.specs.Lines.{numeralWithin, numeral, numbered, lineOf}
 
 -- numbers, the last the largest of 64 bits

@@ -5,7 +5,7 @@ use mathlib.Core.List.{List, [], _∷_, _++_}
 use lib.Dec.{ltb}
 use lib.ListN.{length, take}
 use Rattle.scheme.specs.Lists.{if_then_else_}
-use Rattle.plan_check.specs.Answers.{Answer, proved, unproved, refuted, refused}
+use Rattle.demands.specs.Answers.{Answer, proved, unproved, refuted, refused}
 
 -- `proved `
 abbrev pub provedWord : List ℕ

@@ -25,6 +25,7 @@ use Rattle.casefile.proofs.Passed.{payloads-more, payloads-other}
 use Rattle.casefile.proofs.Growth.{grow-append, grow-length}
 use Rattle.casefile.proofs.TypeTable.{count-payloads}
 use Rattle.entries.specs.Index.{base, Indexed}
+use Rattle.entries.proofs.Stays.{indexed-same}
 use Rattle.entries.specs.Chains.{hashOf, Chained}
 use Rattle.kinds.specs.Known.{room, Known}
 use Rattle.enter.proofs.Storing.{number-inj}
@@ -159,18 +160,6 @@ module _ (file index : List ℕ) (rs : List Record) (r : Record) (k : Kind) (n :
           field-there = each (λ b p. (w off : ℕ) → off + w ≤ length p → field w file (b + off) ≡ field w p off) (λ i h. old .field-there i h) new-field;
         }
 
--- the entries of a kind stay where every other place is written
-indexed-same : (file index index′ : List ℕ) (k : Kind) (n : ℕ) (rs : List Record) → ((i : ℕ) → i < n → getD index′ (base k + i) 0 ≡ getD index (base k + i) 0) → Indexed file index k n rs → Indexed file index′ k n rs
-indexed-same file index index′ k n rs same old =
-    record {
-      counted = old .counted;
-      behind-header = λ i h. rw (same i h) (old .behind-header i h);
-      place-there = λ i h. old .place-there i h ∙ sym (same i h);
-      length-there = λ i at h f. old .length-there i at h (f ∙ same i h);
-      payload-there = λ i h. rw (same i h) (old .payload-there i h);
-      field-there = λ i h w at l. rw (same i h) (old .field-there i h w at l);
-    }
-
 pub number-few : (k : Kind) → number k < 10
 unfolding number
 number-few sort = omega arith
@@ -292,7 +281,7 @@ module _ (file index lens counts : List ℕ) (rs : List Record) (known : Known f
     pub known-type : Known file (set (set (set index (base k + n) start) (3426 + n) (getD (set index (base k + n) start) (3170 + hashOf (r .payload)) 0)) (3170 + hashOf (r .payload)) (n + 1)) lens (set counts (number k) (n + 1)) (rs ++ (r ∷ []))
     known-type =
         record {
-          entries = λ k′. indexed-same file index⁺ index⁺⁺ k′ (getD counts⁺ (number k′) 0) (rs ++ (r ∷ [])) (outside k′) (entries-all k′);
+          entries = λ k′. indexed-same (outside k′) (entries-all k′);
           fits = fits-all;
           sort-lens = lens-other (λ e. let z : _≡_ {A = ℕ} 1 7 = sym e ∙ is-type in omega arith);
           chained = chained-type;

@@ -13,7 +13,7 @@ use denote.Enum.Declared.{tagOf}
 use mathlib.Core.WellFounded.{WellFounded, InvImage·wf}
 use lib.WfN.{Nat·lt-wfRel}
 use lib.Dec.{T, ltb, leb, eqb}
-use lib.ListN.{length, getD, set, replicate, length-set, getD-replicate, length-map}
+use lib.ListN.{length, getD, set, replicate, length-set, getD-replicate}
 use lib.Seq.{getD-set-same}
 use Rattle.scheme.specs.Lists.{if_then_else_, lastOr, select}
 use Rattle.scheme.specs.Sorts.{o, arguments}
@@ -30,7 +30,7 @@ use Rattle.casefile.specs.Tables.{grow, sortsOf, signaturesOf}
 use Rattle.casefile.specs.Refusals.{Refusal, first, wrongLength, tooMany, tooLarge, outOfRange, misplaced, refuseAs, refuseKind, lastKind, refuseRecord, refuseWhole}
 use Rattle.casefile.specs.Cases.{refusedCase, unlessRefused, acceptedCase, caseFrom}
 use Rattle.casefile.proofs.Passed.{Passed, nothing, also, Tested, passed-tested}
-use Rattle.casefile.proofs.TypeTable.{count-payloads}
+use Rattle.casefile.proofs.Plans.{signatures-length}
 use Rattle.kinds.proofs.Dispatch.{sorts-length}
 use Rattle.scheme.proofs.Lists.{or-false, and-false}
 use Rattle.entries.specs.Codes.{codeFor}
@@ -145,10 +145,6 @@ module _ (rs : List Record) (r : Record) (up : lastKind rs ≤ r .kind) where
       by (some k) f g = (as-kind ∙ ap (refuseKind rs r) f ∙ code-none rs r k g, (k, refl))
 
 -- There is room for a record that passed.
-signatures-length : (rs : List Record) → length (signaturesOf rs) ≡ count nonterminal rs
-unfolding signaturesOf
-signatures-length rs = length-map (payloads nonterminal rs) (λ (q : List ℕ). getD (sortsOf rs) (word q 0) o) ∙ sym (count-payloads nonterminal rs)
-
 room-left : (k : Kind) (rs : List Record) (p : List ℕ) → Tested rs p k → count nonterminal rs ≤ 256 → count k rs < room k
 unfolding tooMany outOfRange
 room-left sort rs p t h = leb-false 64 (count sort rs) (or-false (leb 64 (count sort rs)) (tooLarge rs p sort) (t .few) .0)

@@ -1,11 +1,7 @@
 use Rattle.moves.proofs.Meaning.{all-rows}
-use Prim.Native.Nat.{ℕ, _+_, _-_, _<_, _≤_}
-use mathlib.Core.Path.{_≡_, refl, sym, ap, subst, _∙_}
-use mathlib.Core.Logic.{⊎-elim}
-use mathlib.Core.List.{List}
+use Prim.Native.Nat.{_-_}
 use native.Mathlib.Omega.{arith}
 use borrow.Author.Needs.{needs}
-use lib.ListN.{length, drop}
 use Rattle.moves.specs.Moves.{Sofar}
 use Rattle.moves.proofs.Filling.{sofar-none, sofar-put, sofar-state, sofar-constructor}
 use Rattle.moves.proofs.moves.Statement.{statement}

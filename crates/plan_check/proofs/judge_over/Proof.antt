@@ -3,7 +3,7 @@ use Prim.Native.Nat.{ℕ}
 use native.Mathlib.Omega.{arith}
 use mathlib.Core.Path.{_≡_, refl}
 use lib.ListN.{length}
-use Rattle.plan_check.proofs.Demands.{demand2, demand3}
+use Rattle.demands.proofs.Demands.{demand2, demand3}
 use Rattle.plan_check.proofs.Judged.{judged-refused, judged-bindings, judged-path}
 use borrow.Author.Needs.{needs}
 use Rattle.plan_check.proofs.judge_over.Statement.{statement}

@@ -6,9 +6,9 @@ use mathlib.Core.List.{List}
 use lib.ListN.{length}
 use Rattle.scheme.specs.Reduction.{start}
 use Rattle.scheme.specs.Replay.{isErrorPath}
-use Rattle.plan_check.specs.Answers.{Answer, proved, refuted, answer, flagsAfter}
-use Rattle.plan_check.specs.Demands.{planIn, automatonIn, lettersIn, Demand1, Demand2, Demand3}
-use Rattle.plan_check.proofs.Outcomes.{meets2, meets3, refuted-errs}
+use Rattle.demands.specs.Answers.{Answer, proved, refuted, answer, flagsAfter}
+use Rattle.demands.specs.Demands.{planIn, automatonIn, lettersIn, Demand1, Demand2, Demand3}
+use Rattle.demands.proofs.Outcomes.{meets2, meets3, refuted-errs}
 
 -- DEMAND 2: the greatest consistent subset, and every verdict exactly where it is so
 pub demand2 : (file lent : List ℕ) (a : Answer) (marks : List ℕ) → Demand1 file lent a marks → Demand2 file lent a marks

@@ -31,8 +31,8 @@ use Rattle.casefile.specs.Cases.{Case, refusedCase, bindingCase, pathCase, case
 use Rattle.casefile.proofs.Passed.{Accepted, binding-case, path-case}
 use Rattle.replay.specs.PathCases.{nodeLimit, PathAnswer, refutedPath, refusedPath, pathAnswer, replayed}
 use Rattle.shrink.specs.BindingCases.{Shrunk, shrunk}
-use Rattle.plan_check.specs.Answers.{Answer, proved, unproved, refuted, refused, Outcome, refusal, bindingOutcome, pathOutcome, outcomeOf, answer, flagsAfter}
-use Rattle.plan_check.specs.Demands.{planIn, automatonIn, offeredIn, lettersIn, startBinding, Shrinks, Replayed, Demand1, Demand2, Demand3}
+use Rattle.demands.specs.Answers.{Answer, proved, unproved, refuted, refused, Outcome, refusal, bindingOutcome, pathOutcome, outcomeOf, answer, flagsAfter}
+use Rattle.demands.specs.Demands.{planIn, automatonIn, offeredIn, lettersIn, startBinding, Shrinks, Replayed, Demand1, Demand2, Demand3}
 
 -- Binding cases.
 module _ (aut : Automaton) (plan : Plan) (offered : List Binding) where

@@ -24,8 +24,8 @@ use Rattle.casefile.specs.Refusals.{first, tooLong, wrongLength, tooMany, wrong
 use Rattle.casefile.specs.Cases.{unlessRefused, acceptedCase, caseFrom, caseOf}
 use Rattle.replay.specs.PathCases.{pathAnswer, replayed}
 use Rattle.shrink.specs.BindingCases.{shrunk}
-use Rattle.plan_check.specs.Answers.{refusal, bindingOutcome, pathOutcome, outcomeOf, answer, flagsAfter}
-use Rattle.plan_check.specs.Ground.{Line, starred, small, E}
+use Rattle.demands.specs.Answers.{refusal, bindingOutcome, pathOutcome, outcomeOf, answer, flagsAfter}
+use Rattle.demands.specs.Ground.{Line, starred, small, E}
 
 -- a line with what the definitions say in the place of what is expected; it unfolds all that an answer is made of
 pub run : Line → Line

@@ -3,7 +3,7 @@
 use Prim.Native.Nat.{ℕ, zero, suc, _/_, _%_}
 use mathlib.Core.List.{List, [], _∷_, _++_}
 use lib.ListN.{length, replicate, take}
-use Rattle.plan_check.specs.Answers.{Answer, proved, unproved, refuted, refused}
+use Rattle.demands.specs.Answers.{Answer, proved, unproved, refuted, refused}
 
 -- a worked line
 pub record Line : Type 0 where

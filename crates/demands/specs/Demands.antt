@@ -19,7 +19,7 @@ use Rattle.casefile.specs.Kinds.{Kind, payloads}
 use Rattle.casefile.specs.Tables.{planOf, automatonOf, bindingsOf}
 use Rattle.casefile.specs.Cases.{bindingCase, pathCase, caseOf}
 use Rattle.replay.specs.PathCases.{nodeLimit, pathAnswer}
-use Rattle.plan_check.specs.Answers.{Answer, proved, unproved, refuted, answer, pathOutcome, flagsAfter}
+use Rattle.demands.specs.Answers.{Answer, proved, unproved, refuted, answer, pathOutcome, flagsAfter}
 
 -- The parts of a file: "plan and automaton are that file's kinds 1 to 6".
 abbrev pub planIn : List ℕ → Plan
