@@ -33,7 +33,7 @@ uint64_t plan_judge(const uint8_t *file, size_t file_length, uint8_t *flags, siz
 
 /* Working memory for plan_judge_with: room for every file. Its contents do not matter, before or after. */
 struct plan_memory {
-    uint16_t index[7522];
+    uint16_t index[8034];
     uint16_t ends[15000];
     uint8_t fit[66560];
     uint8_t memo[266240];
@@ -42,7 +42,7 @@ struct plan_memory {
 /* The same with working memory that the caller lends, for callers that judge many files: these tables are not made and
  * cleared at each call. None of the areas may overlap. */
 uint64_t plan_judge_with(const uint8_t *file, size_t file_length, uint8_t *flags, size_t flags_length, uint64_t out[4],
-                         uint16_t index[7522], uint16_t ends[15000], uint8_t fit[66560], uint8_t memo[266240]);
+                         uint16_t index[8034], uint16_t ends[15000], uint8_t fit[66560], uint8_t memo[266240]);
 
 #ifdef __cplusplus
 }

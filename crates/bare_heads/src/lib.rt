@@ -6,10 +6,10 @@ ghost use Rattle.bare_heads.specs.Bare.{HasBare};
 // Whether a goal is among the types of a head that has no arguments.
 pub fn bare_has(
     file: &[u8],
-    index: &[u16],
+    index: &[u16; 8034],
     types: usize,
-    groups: &[u16],
-    kept: &[u8],
+    groups: &[u16; 257],
+    kept: &[u8; 1024],
     own: usize,
     nonterminal: bool,
     number: usize,

@@ -1,6 +1,6 @@
 -- The tables of a file that is not refused are ready for the tests of its bindings; and what the rounds leave is what the
 -- definitions say.
-use Prim.Native.Nat.{ℕ, _+_, _<_, _≤_}
+use Prim.Native.Nat.{ℕ, _+_, _/_, _<_, _≤_}
 use native.Mathlib.Omega.{arith}
 use mathlib.Core.Path.{_≡_, sym, ap, ap₂, subst, _∙_}
 use mathlib.Core.Bool.{Bool, _&&_, _||_, not}
@@ -26,12 +26,13 @@ use Rattle.entries.specs.Index.{base, Indexed}
 use Rattle.entries.specs.Tests.{IsPlace}
 use Rattle.entries.proofs.Stays.{indexed-same}
 use Rattle.kinds.specs.Known.{room, Known}
-use Rattle.rule_bodies.specs.RuleBodies.{firstNode}
+use Rattle.rule_bodies.specs.RuleBodies.{ruleOf, firstNode}
+use Rattle.first_nodes.specs.FirstNodes.{FillsFirsts}
 use Rattle.plan_tests.specs.PlanTests.{EndsAre}
 use Rattle.plan_tests.proofs.Contents.{payload-bytes}
 use Rattle.groups.specs.Groups.{Grouped, Fills}
-use Rattle.moves.specs.Moves.{Holds}
-use Rattle.goals.specs.Goals.{Goal, of-state, of-arrow, Listed, goalBase, ownBase, Goals, Typed, FillsGoals, FillsOwns}
+use Rattle.row_places.specs.RowPlaces.{rowBase, RowsFor, FillsRows}
+use Rattle.goals.specs.Goals.{Goal, of-state, of-arrow, Listed, typeOfBinding, goalBase, ownBase, Goals, Owns, Typed, FillsGoals, FillsOwns}
 use Rattle.whole_bodies.proofs.Wholes.{whole-body}
 use Rattle.binding_tests.specs.BindingTests.{Ready}
 use Rattle.rounds.specs.Shrinking.{testOf, Shrinks}
@@ -54,10 +55,10 @@ enough-flags rs flags e =
 
 module _ {file index lens counts : List ℕ} {rs : List Record} (known : Known file index lens counts rs) (ok : Passed rs) (bytes : Bytes file) (typed : Typed file index (getD counts 7 0) rs) where
   ready : {ends : List ℕ} → EndsAre rs ends → (flags : ℕ) → refuseWhole rs flags ≡ none → (groups : List ℕ) → length groups ≡ 257 → Fills file index (getD counts 8 0) groups
-      → (firsts : List ℕ) → ((f : ℕ) → f < getD counts 4 0 → getD firsts f 0 ≡ firstNode rs f) → (table : List (List (List ℕ))) → Holds file index (getD counts 6 0) table
-      → Ready file index counts groups firsts ends table rs
+      → (firsts : List ℕ) → ((f : ℕ) → f < getD counts 4 0 → getD firsts f 0 ≡ firstNode rs f) → ((f : ℕ) → f < getD counts 4 0 → length (ruleOf rs f) / 4 ≤ getD firsts 256 0) → RowsFor file index rs
+      → Ready file index counts groups firsts ends rs
   unfolding number
-  ready ends-are flags whole groups long fills firsts first-nodes table holds =
+  ready ends-are flags whole groups long fills firsts first-nodes most rows =
       record {
         lens = lens;
         bytes = bytes;
@@ -69,17 +70,18 @@ module _ {file index lens counts : List ℕ} {rs : List Record} (known : Known f
         groups-long = long;
         grouped = subst (λ n. Grouped rs n groups) (sym (known .entries Kind.binding .counted)) (fills rs ok (known .entries Kind.binding) (known .fits Kind.binding));
         firsts-are = λ f h. first-nodes f (let c = known .entries Kind.rule .counted in omega arith);
+        most-are = λ f h. most f (let c = known .entries Kind.rule .counted in omega arith);
         ends-are = ends-are;
-        table-is = holds rs ok (known .entries Kind.transition) (known .fits Kind.transition);
+        rows-are = rows;
       }
 
   -- the promise, from what was made and found
-  is-shrunk : {ends : List ℕ} (groups firsts : List ℕ) (table : List (List (List ℕ))) → Ready file index counts groups firsts ends table rs
+  is-shrunk : {ends : List ℕ} (groups firsts : List ℕ) → Ready file index counts groups firsts ends rs
       → (lent flags marks : List ℕ) (r : Bool) (many rounds total : ℕ) → refuseWhole rs (length lent) ≡ none → total ≡ getD counts 8 0
-      → Shrinks file index counts groups firsts ends table flags many rounds → FindsStart index counts groups flags r → Writes flags total lent marks
+      → Shrinks file index counts groups firsts ends flags many rounds → FindsStart index counts groups flags r → Writes flags total lent marks
       → IsShrunk (shrunk (automatonOf rs) (planOf rs) (bindingsOf rs)) lent marks r many total rounds
   unfolding number shrunk accepts
-  is-shrunk groups firsts table w lent flags marks r many rounds total whole et shrinks starts writes =
+  is-shrunk groups firsts w lent flags marks r many rounds total whole et shrinks starts writes =
       let bs = bindingsOf rs in
       let test = testOf rs in
       let counted = known .entries Kind.binding .counted in
@@ -140,31 +142,40 @@ goals-kept {before} {index} {n} {rs} few same w =
     by g a τ (of-state q small e f) = let z : _≡_ {A = ℕ} 0 1 = cc in absurd (omega arith)
     by g a τ (of-arrow b r inside e f) = omega arith
 
+owns-kept : (before index : List ℕ) (n : ℕ) (rs : List Record) → count Kind.binding rs ≤ 1024 → ((i : ℕ) → i < rowBase → getD index i 0 ≡ getD before i 0) → Owns before n rs → Owns index n rs
+owns-kept before index n rs few same w b h = subst (λ x. Goal rs n x (getD (typesOf rs) (typeOfBinding rs b) (state 0))) (sym (same (6498 + b) (omega arith))) (w b h)
+
 module _ (file before counts ends lent marks : List ℕ) (r : Bool) (many rounds : ℕ) where
-  pub judged : Bytes file → (total : ℕ) → IsPlace counts 8 total → (types : ℕ) → IsPlace counts 7 types → (middle index : List ℕ) → FillsGoals file before types middle → FillsOwns file middle types total index
+  pub judged : Bytes file → 8034 ≤ length before → (total : ℕ) → IsPlace counts 8 total → (types : ℕ) → IsPlace counts 7 types → (second third index : List ℕ) → FillsGoals file before types second → FillsOwns file second types total third
+      → (transitions : ℕ) → IsPlace counts 6 transitions → FillsRows file third transitions index
       → (groups : List ℕ) → length groups ≡ 257 → Fills file index total groups
-      → (rules : ℕ) → IsPlace counts 4 rules → (firsts : List ℕ) → ((rs : List Record) → Passed rs → Indexed file index Kind.rule rules rs → rules ≤ 256 → (f : ℕ) → f < rules → getD firsts f 0 ≡ firstNode rs f)
-      → (transitions : ℕ) → IsPlace counts 6 transitions → (table : List (List (List ℕ))) → Holds file index transitions table
-      → (flags : List ℕ) → Shrinks file index counts groups firsts ends table flags many rounds → FindsStart index counts groups flags r → Writes flags total lent marks
+      → (rules : ℕ) → IsPlace counts 4 rules → (cleared firsts : List ℕ) → length cleared ≡ 257 → FillsFirsts file index rules cleared firsts
+      → (flags : List ℕ) → Shrinks file index counts groups firsts ends flags many rounds → FindsStart index counts groups flags r → Writes flags total lent marks
       → JudgesBindings file before counts ends lent marks r many total rounds
   unfolding number
-  judged bytes total et types ey middle index fills-goals fills-owns groups long fills rules er firsts first-nodes transitions em table holds flags shrinks starts writes =
+  judged bytes enough total et types ey second third index fills-goals fills-owns transitions em fills-rows groups long fills rules er cleared firsts has-room fills-firsts flags shrinks starts writes =
       record {
-        judged = λ lens rs known₀ room ok ends-are whole.
-            let known₁ : Known file middle lens counts rs = known-same (fills-goals .stays) known₀ in
-            let known : Known file index lens counts rs = known-same (λ i h. fills-owns .stays i (omega arith)) known₁ in
+        judged = λ lens rs known₀ ok ends-are whole.
+            let known₁ : Known file second lens counts rs = known-same (fills-goals .stays) known₀ in
+            let known₂ : Known file third lens counts rs = known-same (λ i h. fills-owns .stays i (omega arith)) known₁ in
+            let known : Known file index lens counts rs = known-same (λ i h. fills-rows .stays i (omega arith)) known₂ in
             let listed₀ : Listed file before types rs = subst (λ n. Listed file before n rs) (sym (ey .value)) (listed-known known₀ ok bytes) in
-            let listed₁ : Listed file middle types rs = subst (λ n. Listed file middle n rs) (sym (ey .value)) (listed-known known₁ ok bytes) in
+            let listed₁ : Listed file second types rs = subst (λ n. Listed file second n rs) (sym (ey .value)) (listed-known known₁ ok bytes) in
             let listed : Listed file index types rs = subst (λ n. Listed file index n rs) (sym (ey .value)) (listed-known known ok bytes) in
-            let there : Indexed file middle Kind.binding total rs = subst (λ n. Indexed file middle Kind.binding n rs) (sym (et .value)) (known₁ .entries Kind.binding) in
+            let there : Indexed file second Kind.binding total rs = subst (λ n. Indexed file second Kind.binding n rs) (sym (et .value)) (known₁ .entries Kind.binding) in
             let all-fit = known₀ .fits Kind.binding in
             let te = et .value in
+            let bindings = known₀ .entries Kind.binding .counted in
             let owns = fills-owns .owns rs listed₁ there (omega arith) (omega (arith, fills-goals .long)) in
-            let goals = goals-kept (listed .few) (fills-owns .stays) (fills-goals .goals rs listed₀ (omega arith)) in
-            let typed : Typed file index types rs = record { passed = ok; bytes = listed .bytes; there = listed .there; few = listed .few; goals = goals; owns = owns } in
-            let nodes : (f : ℕ) → f < getD counts 4 0 → getD firsts f 0 ≡ firstNode rs f =
-            λ f h. first-nodes rs ok (subst (λ n. Indexed file index Kind.rule n rs) (sym (er .value)) (known .entries Kind.rule)) (let a = known .fits Kind.rule in let b = er .value in omega arith) f (let b = er .value in omega arith) in
+            let goals₂ : Goals third types rs = goals-kept (listed .few) (fills-owns .stays) (fills-goals .goals rs listed₀ (omega arith)) in
+            let goals : Goals index types rs = goals-kept (listed .few) (λ i h. fills-rows .stays i (omega arith)) goals₂ in
+            let typed : Typed file index types rs = record { passed = ok; bytes = listed .bytes; there = listed .there; few = listed .few; goals = goals; owns = owns-kept third index types rs (omega arith) (fills-rows .stays) owns } in
+            let all-rules : Indexed file index Kind.rule rules rs = subst (λ n. Indexed file index Kind.rule n rs) (sym (er .value)) (known .entries Kind.rule) in
+            let few-rules : rules ≤ 256 = let a = known .fits Kind.rule in let b = er .value in omega arith in
+            let nodes : (f : ℕ) → f < getD counts 4 0 → getD firsts f 0 ≡ firstNode rs f = λ f h. fills-firsts .firsts rs ok all-rules few-rules (omega arith) f (let b = er .value in omega arith) in
+            let most : (f : ℕ) → f < getD counts 4 0 → length (ruleOf rs f) / 4 ≤ getD firsts 256 0 = λ f h. fills-firsts .most rs ok all-rules few-rules (omega arith) f (let b = er .value in omega arith) in
+            let rows = fills-rows .rows rs ok (subst (λ n. Indexed file third Kind.transition n rs) (sym (em .value)) (known₂ .entries Kind.transition)) (let a = known₂ .fits Kind.transition in let b = em .value in omega arith) (omega (arith, fills-owns .long, fills-goals .long)) in
             let here : Typed file index (getD counts 7 0) rs = subst (λ n. Typed file index n rs) (ey .value) typed in
-            let w = ready known ok bytes here ends-are (length lent) whole groups long (subst (λ n. Fills file index n groups) (et .value) fills) firsts nodes table (subst (λ n. Holds file index n table) (em .value) holds) in
-            is-shrunk known ok bytes here groups firsts table w lent flags marks r many rounds total whole (et .value) shrinks starts writes;
+            let w = ready known ok bytes here ends-are (length lent) whole groups long (subst (λ n. Fills file index n groups) (et .value) fills) firsts nodes most rows in
+            is-shrunk known ok bytes here groups firsts w lent flags marks r many rounds total whole (et .value) shrinks starts writes;
       }

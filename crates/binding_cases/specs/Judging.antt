@@ -49,5 +49,5 @@ pub record IsShrunk (s : Shrunk) (lent flags : List ℕ) (accepted : Bool) (kept
 
 -- the promise, for the tables of a file that is not refused
 pub record JudgesBindings (file index counts ends lent flags : List ℕ) (accepted : Bool) (kept total rounds : ℕ) : Type 0 where
-  pub judged : (lens : List ℕ) (rs : List Record) → Known file index lens counts rs → 7522 ≤ length index → Passed rs → EndsAre rs ends → refuseWhole rs (length lent) ≡ none
+  pub judged : (lens : List ℕ) (rs : List Record) → Known file index lens counts rs → Passed rs → EndsAre rs ends → refuseWhole rs (length lent) ≡ none
       → IsShrunk (shrunk (automatonOf rs) (planOf rs) (bindingsOf rs)) lent flags accepted kept total rounds

@@ -5,8 +5,8 @@ use goal_tables::own_of;
 use goals::fill_goals;
 use goals::fill_owns;
 use groups::fill_groups;
-use moves::moves;
 use rounds::shrink;
+use row_places::fill_rows;
 ghost use mathlib.Core.Path.{_≡_};
 ghost use lib.ListN.{length};
 ghost use Rattle.binding_cases.specs.Judging.{StartsAt, FindsStart, Writes, JudgesBindings};
@@ -71,13 +71,14 @@ fn write_flags(from: &[u8; 1024], n: usize, to: &mut [u8])
 }
 
 // What comes of the bindings of a file, with the tables of its records; their flags are written, 1 for a kept binding and
-// 0 for a dropped one. Behind its entries the index gets the goals that its types are. What the memo held before does not
+// 0 for a dropped one. Behind its entries the index gets the goals that its types are, and
+// where its transitions lie. What the memo held before does not
 // matter.
 pub fn judge_bindings(
     file: &[u8],
-    index: &mut [u16],
-    counts: &[u16],
-    ends: &[u16],
+    index: &mut [u16; 8034],
+    counts: &[u16; 10],
+    ends: &[u16; 15000],
     flags: &mut [u8],
     memo: &mut [u8],
 ) -> Shrunken
@@ -87,12 +88,12 @@ pub fn judge_bindings(
     let types = place_at(counts, 7);
     fill_goals(file, index, types);
     fill_owns(file, index, types, total);
+    fill_rows(file, index, place_at(counts, 6));
     let mut groups = [0u16; 257];
     fill_groups(file, index, total, &mut groups);
-    let mut firsts = [0u16; 256];
+    let mut firsts = [0u16; 257];
     fill_firsts(file, index, place_at(counts, 4), &mut firsts);
-    let table = moves(file, index, place_at(counts, 6));
-    let ended = shrink(file, index, counts, &groups, &firsts, ends, table, memo);
+    let ended = shrink(file, index, counts, &groups, &firsts, ends, memo);
     let kept = ended.flags;
     let accepted = start_kept(index, counts, &groups, &kept);
     write_flags(&kept, total, flags);

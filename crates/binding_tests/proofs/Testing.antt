@@ -36,9 +36,10 @@ use Rattle.finals.specs.Finals.{IsFinal}
 use Rattle.memo.specs.Memo.{Under}
 use Rattle.memo.proofs.Remembering.{faithful-none}
 use Rattle.candidates.proofs.Spanning.{binding-made}
-use Rattle.term_check.specs.Checking.{Body, Setting, Right, ChecksTerm}
+use Rattle.term_check.specs.Checking.{Body, Setting, Right, Remembers, ChecksTerm}
+use Rattle.term_check.proofs.Places.{at-inside}
 use Rattle.candidates.specs.Candidates.{noBinding}
-use Rattle.binding_tests.specs.BindingTests.{Ready, entriesFor, TestsBinding}
+use Rattle.binding_tests.specs.BindingTests.{Ready, entriesFor, IsSymbol, TestsBinding}
 
 -- a nonterminal in a body is one of the file's
 head-nonterminal : (c : Cell) (g x y z : ℕ) → headOf c ≡ nt g → c .number < getD (x ∷ y ∷ []) (c .tag) z → g < y
@@ -79,31 +80,45 @@ none-from l i h = sym (drop-of-length-le l {i = i} (omega arith))
 pub all-from : (l : List ℕ) (i : ℕ) → take (length l - i) (drop i l) ≡ drop i l
 all-from l i = take-all (length l - i) (drop i l) (let h = length-drop i l in omega arith)
 
+-- the nonterminal of a binding
+pub symbol-far : {file index : List ℕ} {b : ℕ} → 1023 < b → IsSymbol file index b 0
+symbol-far h = record { symbol = λ n rs ok ix few l. absurd (omega arith); small = omega arith }
+
+pub symbol-read : {file index : List ℕ} {b : ℕ} (place f : ℕ) → place ≡ getD index (2144 + b) 0 → f ≡ word file place → f < 65536 → IsSymbol file index b f
+symbol-read {file} {index} {b} place f ep ef small =
+    record {
+      symbol = λ n rs ok ix few l.
+          let z : place ≡ getD index (2144 + b) 0 + 0 = omega arith in
+          let c : length (payloads Kind.binding rs) ≡ n = sym (count-payloads Kind.binding rs) ∙ ix .counted in
+          ef ∙ ap (word file) z ∙ ix .field-there b l 2 0 (let (four, s, k) = binding-there ok b (omega arith) in omega arith);
+      small = small;
+    }
+
 -- a larger bound
 under-more : (memo : List ℕ) (n a b : ℕ) → a ≤ b → Under memo n a → Under memo n b
 under-more memo n a b h u i l = let v = u i l in omega arith
 
-module _ (file index counts groups firsts ends : List ℕ) (table : List (List (List ℕ))) (kept memo : List ℕ) (stamp b : ℕ) where
+module _ (file index counts groups firsts ends : List ℕ) (kept memo : List ℕ) (stamp b : ℕ) where
   abbrev Tables : List Record → Type 0
-  Tables rs = Ready file index counts groups firsts ends table rs
+  Tables rs = Ready file index counts groups firsts ends rs
 
   bindings-count : (rs : List Record) → Tables rs → (count Kind.binding rs ≡ getD counts 8 0) × (getD counts 8 0 ≤ 1024)
   unfolding number
   bindings-count rs w = (w .known .entries Kind.binding .counted, w .known .fits Kind.binding)
 
   -- no file has so many bindings
-  pub binding-far : 1023 < b → TestsBinding file index counts groups firsts ends table kept memo stamp b memo false
+  pub binding-far : 1023 < b → TestsBinding file index counts groups firsts ends kept memo stamp b memo false
   binding-far h =
       record {
         answer = λ rs w l s t u. absurd (let (c, d) = bindings-count rs w in omega arith);
         under = λ n t u. under-more memo n (stamp * 2) (stamp * 2 + 2) (omega arith) u;
       }
 
-  module _ (types constructors place f own goal first : ℕ) (body here : List ℕ) (is-types : types ≡ getD counts 7 0) (is-constructors : constructors ≡ getD counts 2 0) (is-place : place ≡ getD index (2144 + b) 0)
-      (is-f : f ≡ word file place) (is-own : IsOwn index b own) (near : b < 1024) (is-goal : IsFinal index types own goal) (is-body : body ≡ entryOf file index (352 + f))
+  module _ (types constructors f own goal first : ℕ) (body here : List ℕ) (is-types : types ≡ getD counts 7 0) (is-constructors : constructors ≡ getD counts 2 0)
+      (is-f : IsSymbol file index b f) (is-own : IsOwn index b own) (near : b < 1024) (is-goal : IsFinal index types own goal) (is-body : body ≡ entryOf file index (352 + f))
       (is-first : first ≡ getD firsts f 0) (is-here : here ≡ drop first ends) where
     abbrev x : Body
-    x = record { file = file; index = index; groups = groups; kept = kept; ends = here; body = body; table = table; test = record { types = types; constructors = constructors; own = own; stamp = stamp } }
+    x = record { file = file; index = index; groups = groups; kept = kept; ends = here; body = body; test = record { types = types; constructors = constructors; own = own; stamp = stamp } }
 
     module _ (rs : List Record) (w : Tables rs) (l : b < count Kind.binding rs) where
       abbrev payload : List ℕ
@@ -112,13 +127,10 @@ module _ (file index counts groups firsts ends : List ℕ) (table : List (List (
       inside : b < length (payloads Kind.binding rs)
       inside = let c = count-payloads Kind.binding rs in omega arith
 
-      -- the numbers of the binding
+      -- the nonterminal of the binding
       symbol-is : f ≡ word payload 0
       unfolding number
-      symbol-is =
-          let (c, d) = bindings-count rs w in
-          let z : place ≡ getD index (2144 + b) 0 + 0 = omega arith in
-          is-f ∙ ap (word file) z ∙ w .known .entries Kind.binding .field-there b (omega arith) 2 0 (let (four, s, k) = binding-there (w .passed) b inside in omega arith)
+      symbol-is = let (c, d) = bindings-count rs w in is-f .symbol (getD counts 8 0) rs (w .passed) (w .known .entries Kind.binding) d (omega arith)
 
       rule-there : f < count Kind.rule rs
       unfolding number
@@ -150,7 +162,7 @@ module _ (file index counts groups firsts ends : List ℕ) (table : List (List (
               small = arity-small (w .passed);
             };
             one-states = let c = w .known .entries Kind.states .counted in let k = w .known .fits Kind.states in let p = count-payloads Kind.states rs in omega arith;
-            table-is = w .table-is;
+            rows-are = w .rows-are;
             bindings-there = subst (λ n. Indexed file index Kind.binding n rs) (sym (bindings-count rs w .0)) (w .known .entries Kind.binding);
             bindings-few = let (c, d) = bindings-count rs w in omega arith;
             groups-long = w .groups-long;
@@ -181,13 +193,20 @@ module _ (file index counts groups firsts ends : List ℕ) (table : List (List (
           ap₂ (λ g σ. has same (headTypes (automatonOf rs) (chosen kept (bindingsOf rs)) (domains σ)) (getD (map bodyOf (payloads Kind.rule rs)) g (node (nt g) []ᵗ)) (final σ)) ef et
           ∙ ap (λ z. has same (headTypes (automatonOf rs) (chosen kept (bindingsOf rs)) (domains τ)) z (final τ)) eb
 
-    pub binding-tested : (after : List ℕ) (r : Bool) → ChecksTerm x memo 0 goal after r → TestsBinding file index counts groups firsts ends table kept memo stamp b after r
+    -- the memo holds nothing of this test, and has room for all nodes of the body
+    nothing-known : (rs : List Record) (w : Tables rs) (l : b < count Kind.binding rs) → Under memo (entriesFor counts firsts) (stamp * 2) → Remembers x rs (τ rs w l) memo
+    nothing-known rs w l u =
+        faithful-none (Right x rs (τ rs w l)) memo (types + 16) stamp (getD firsts 256 0)
+        (λ i g v past t a. absurd (let inside = at-inside body i t a in let long = ap (λ z. length z / 4) (body-is rs w l) in let most = w .most-are f (rule-there rs w l) in omega arith))
+        (subst (λ n. Under memo (getD firsts 256 0 * (n + 16)) (stamp * 2)) (sym is-types) u)
+
+    pub binding-tested : (after : List ℕ) (r : Bool) → ChecksTerm x memo 0 goal after r → TestsBinding file index counts groups firsts ends kept memo stamp b after r
     binding-tested after r told =
         record {
           answer = λ rs w l s m u.
               let p = body-is rs w l in
               let whole = w .bodies f (rule-there rs w l) .one-term in
-              told .answer rs (τ rs w l) (setting rs w l) (faithful-none (Right x rs (τ rs w l)) memo (types + 16) stamp (entriesFor counts) (omega arith) u)
+              told .answer rs (τ rs w l) (setting rs w l) (nothing-known rs w l u)
               (bodyOf (ruleOf rs f)) ([], ap nodesOf p ∙ whole ∙ sym (append-nil (flat (bodyOf (ruleOf rs f)))))
               (final (τ rs w l)) (is-goal .is-final rs (typed rs w l) (τ rs w l) (own-type rs w l))
               ∙ sym (holds-is rs w l);

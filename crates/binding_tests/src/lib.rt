@@ -8,7 +8,7 @@ use term_check::Test;
 use term_check::check_term;
 ghost use mathlib.Core.Path.{_≡_};
 ghost use lib.ListN.{drop};
-ghost use Rattle.binding_tests.specs.BindingTests.{TestsBinding};
+ghost use Rattle.binding_tests.specs.BindingTests.{IsSymbol, TestsBinding};
 
 // The table of ends from a node on.
 fn from_node(ends: &[u16], first: usize) -> &[u16]
@@ -20,29 +20,37 @@ fn from_node(ends: &[u16], first: usize) -> &[u16]
     &ends[first..]
 }
 
+// The nonterminal of binding b.
+pub fn symbol_of(file: &[u8], index: &[u16], b: usize) -> usize
+    ensures { λ r. ⌜ IsSymbol (now (file .entry)) (now (index .entry)) b r ⌝ }
+{
+    if 1023 < b {
+        return 0;
+    }
+    word_at(file, place_at(index, 2144 + b))
+}
+
 // Whether binding b holds against those that are kept: its nonterminal's body has the final state of its type.
 pub fn holds(
     file: &[u8],
-    index: &[u16],
+    index: &[u16; 8034],
     counts: &[u16],
-    groups: &[u16],
+    groups: &[u16; 257],
     firsts: &[u16],
     ends: &[u16],
-    table: [[[u8; 4]; 32]; 16],
-    kept: &[u8],
+    kept: &[u8; 1024],
     memo: &mut [u8],
     stamp: usize,
     b: usize,
 ) -> bool
-    ensures { λ r. ⌜ TestsBinding (now (file .entry)) (now (index .entry)) (now (counts .entry)) (now (groups .entry)) (now (firsts .entry)) (now (ends .entry)) table (now (kept .entry)) (now (memo .entry)) stamp b (now (memo .exit)) r ⌝ }
+    ensures { λ r. ⌜ TestsBinding (now (file .entry)) (now (index .entry)) (now (counts .entry)) (now (groups .entry)) (now (firsts .entry)) (now (ends .entry)) (now (kept .entry)) (now (memo .entry)) stamp b (now (memo .exit)) r ⌝ }
 {
     if 1023 < b {
         return false;
     }
     let types = place_at(counts, 7);
     let constructors = place_at(counts, 2);
-    let binding = place_at(index, 2144 + b);
-    let f = word_at(file, binding);
+    let f = symbol_of(file, index, b);
     let own = own_of(index, b);
     let goal = final_of(index, types, own);
     let body = entry(file, index, 352 + f);
@@ -53,17 +61,5 @@ pub fn holds(
         own,
         stamp,
     };
-    check_term(
-        file,
-        index,
-        groups,
-        kept,
-        here,
-        body,
-        table,
-        test,
-        memo,
-        0,
-        goal,
-    )
+    check_term(file, index, groups, kept, here, body, test, memo, 0, goal)
 }

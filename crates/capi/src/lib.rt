@@ -47,7 +47,7 @@ pub extern "C" fn plan_judge_with(
     file: &[u8],
     flags: &mut [u8],
     out: &mut [u64; 4],
-    index: &mut [u16; 7522],
+    index: &mut [u16; 8034],
     ends: &mut [u16; 15000],
     fit: &mut [u8; 66560],
     memo: &mut [u8; 266240],

@@ -7,7 +7,7 @@ use mathlib.Core.List.{List}
 use borrow.Author.Tests.{lt-ltb, le-ltb, eq-eqb, ne-eqb}
 use lib.Dec.{ltb, eqb}
 use lib.ListN.{length, getD, set, length-set}
-use lib.Seq.{set-out}
+use lib.Seq.{set-out, getD-set-same, getD-set-other}
 use Rattle.scheme.specs.Lists.{if_then_else_}
 use Rattle.records.specs.Fields.{word}
 use Rattle.casefile.specs.Kinds.{Kind, sort, constructor, nonterminal, rule, states, transition, type, binding, path, number, kindOf}
@@ -40,6 +40,18 @@ stored-length a i v = by (ltb v 65536)
   where
     by : (b : Bool) → length (if b then set a i v else a) ≡ length a
     by true = length-set a i v
+    by false = refl
+
+-- an entry that was stored, and the others
+pub stored-here : (a : List ℕ) (i v : ℕ) → v < 65536 → i < length a → getD (stored a i v) i 0 ≡ v
+stored-here a i v h l = ap (λ (b : List ℕ). getD b i 0) (stored-set a i v h) ∙ getD-set-same a i v 0 l
+
+pub stored-other : (a : List ℕ) (i v j : ℕ) → (j ≡ i → ⊥) → getD (stored a i v) j 0 ≡ getD a j 0
+unfolding stored
+stored-other a i v j ne = by (ltb v 65536)
+  where
+    by : (b : Bool) → getD (if b then set a i v else a) j 0 ≡ getD a j 0
+    by true = getD-set-other a i j v 0 ne
     by false = refl
 
 -- the argument counts after a sort, and after another record

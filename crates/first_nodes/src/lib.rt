@@ -1,4 +1,5 @@
 // Where the nodes of each rule begin, where the nodes of all rules are numbered one after another.
+use bodies::larger;
 use entries::place_at;
 use records::word_at;
 ghost use Rattle.first_nodes.specs.FirstNodes.{CountsNodes, FillsFirsts};
@@ -21,22 +22,26 @@ fn nodes_of(file: &[u8], index: &[u16], f: usize) -> usize
     len / 4
 }
 
-// Fills a table: entry f gets the number of the first node of rule f. The table stays as it is where there are more
-// than 256 rules, or more rules than entries.
+// Fills a table: entry f gets the number of the first node of rule f, entry 256 how many nodes the largest rule has. The
+// table stays as it is where there are more than 256 rules, or it has fewer than 257 entries.
 pub fn fill_firsts(file: &[u8], index: &[u16], rules: usize, firsts: &mut [u16])
     ensures { λ _. ⌜ FillsFirsts (now (file .entry)) (now (index .entry)) rules (now (firsts .entry)) (now (firsts .exit)) ⌝ }
 {
     if 256 < rules {
         return;
     }
-    if firsts.len() < rules {
+    if firsts.len() < 257 {
         return;
     }
     let mut at: usize = 0;
+    let mut most: usize = 0;
     let mut f: usize = 0;
     while f < rules {
         firsts[f] = at as u16;
-        at = at + nodes_of(file, index, f);
+        let n = nodes_of(file, index, f);
+        at = at + n;
+        most = larger(most, n);
         f = f + 1;
     }
+    firsts[256] = most as u16;
 }

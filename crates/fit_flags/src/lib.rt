@@ -1,7 +1,7 @@
 // The flags of a table of fits, and the fit of an arrow by them.
 use records::word_at;
 ghost use mathlib.Core.Path.{_≡_};
-ghost use Rattle.fit_flags.specs.Fitted.{flag, ArrowFits};
+ghost use Rattle.fit_flags.specs.Fitted.{flag, MembersFit, ArrowFits};
 
 // The flag of type t and sort s in a table of 65 sorts a type; 0 past its end.
 pub fn flag_at(fit: &[u8], t: usize, s: usize) -> u8
@@ -16,9 +16,9 @@ pub fn flag_at(fit: &[u8], t: usize, s: usize) -> u8
     fit[t * 65 + s]
 }
 
-// 1 where an arrow fits the sort from one sort to another, else 0; its payload is the len bytes at place.
-pub fn arrow_fits(file: &[u8], fit: &[u8], place: usize, len: usize, from: usize, to: usize) -> u8
-    ensures { λ r. ⌜ ArrowFits (now (file .entry)) (now (fit .entry)) place len from to r ⌝ }
+// 1 where all members of an arrow fit sort `from`, else 0; its payload is the len bytes at place.
+fn members_fit(file: &[u8], fit: &[u8], place: usize, len: usize, from: usize) -> u8
+    ensures { λ r. ⌜ MembersFit (now (file .entry)) (now (fit .entry)) place len from r ⌝ }
 {
     if 65535 < place {
         return 0;
@@ -27,10 +27,6 @@ pub fn arrow_fits(file: &[u8], fit: &[u8], place: usize, len: usize, from: usize
         return 0;
     }
     if len < 2 {
-        return 0;
-    }
-    let result = word_at(file, place);
-    if flag_at(fit, result, to) == 0 {
         return 0;
     }
     let mut i: usize = 2;
@@ -42,4 +38,32 @@ pub fn arrow_fits(file: &[u8], fit: &[u8], place: usize, len: usize, from: usize
         i = i + 2;
     }
     1
+}
+
+// 1 where an arrow with this result fits the sort from one sort to another, else 0; its payload is the len bytes at place.
+pub fn arrow_fits(
+    file: &[u8],
+    fit: &[u8],
+    result: usize,
+    place: usize,
+    len: usize,
+    from: usize,
+    to: usize,
+) -> u8
+    ensures { λ r. ⌜ ArrowFits (now (file .entry)) (now (fit .entry)) result place len from to r ⌝ }
+{
+    if 65535 < result {
+        return 0;
+    }
+    if 65535 < to {
+        return 0;
+    }
+    let at = result * 65 + to;
+    if fit.len() <= at {
+        return 0;
+    }
+    if fit[at] == 0 {
+        return 0;
+    }
+    members_fit(file, fit, place, len, from)
 }

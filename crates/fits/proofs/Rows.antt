@@ -1,27 +1,32 @@
 -- One row of the table: what a type's record and a sort's record make of the flags of the types before.
-use Prim.Native.Nat.{ℕ, zero, suc, _+_, _-_, _<_, _≤_}
+use Prim.Native.Nat.{ℕ, suc, _+_, _-_, _<_, _≤_}
 use native.Mathlib.Omega.{arith}
-use native.Mathlib.Nat.{zero-add, add-zero}
+use native.Mathlib.Nat.{zero-add}
 use mathlib.Core.Path.{_≡_, refl, sym, ap, ap₂, subst, _∙_}
 use mathlib.Core.Bool.{false, _&&_}
 use mathlib.Core.List.{List, [], _∷_, List·Memᴰ, List·Memᴰ·head, List·Memᴰ·tail}
-use borrow.Author.Tests.{eq-eqb, ne-eqb}
+use borrow.Author.Tests.{eq-eqb}
 use lib.Dec.{eqb}
 use lib.ListN.{length, getD}
 use Rattle.scheme.specs.Lists.{all}
 use Rattle.scheme.specs.Sorts.{o, _⇒_}
 use Rattle.scheme.specs.Types.{Ty, state, arrow, fits, allFit}
 use Rattle.scheme.specs.Flags.{bit}
-use Rattle.records.specs.Fields.{field, byte, word}
+use Rattle.records.specs.Fields.{field, byte, word, IsField}
 use Rattle.records.specs.Records.{Record}
 use Rattle.casefile.specs.Kinds.{sort, type, payloads}
 use Rattle.casefile.specs.Tables.{words, membersAt, arrowFrom, typeFrom, typesOf, sortFrom, sortsOf}
 use Rattle.casefile.proofs.TypeNumbers.{Shape, a-state, an-arrow}
 use Rattle.casefile.proofs.TypeTable.{count-payloads, type-shape, type-made}
 use Rattle.casefile.proofs.SortTable.{sort-zero, sort-below, sort-made}
+use Rattle.entries.specs.Tests.{IsPlace}
 use Rattle.fit_flags.specs.Fitted.{flag, says, arrowSays, Holds, ArrowFits, fitsAt, Fitted}
-use Rattle.fits.specs.Filled.{Listed}
+use Rattle.fits.specs.Filled.{Listed, TypeThere}
 use Rattle.fit_flags.proofs.Arrows.{bit-says}
+
+-- where a type's payload lies, as it was read
+pub type-read : (file index : List ℕ) (t place len : ℕ) → IsPlace index (1120 + t) place → IsField 2 file (place - 4) len → TypeThere file index t place len
+type-read file index t place len p l = record { place-is = p .value; place-fits = p .bound; len-is = l .value; len-fits = l .bound }
 
 -- The flags of the types before t.
 module _ (fit : List ℕ) (t sorts : ℕ) (rs : List Record) (rows : Fitted fit t sorts rs) where
@@ -58,18 +63,18 @@ module _ {file index : List ℕ} {types sorts : ℕ} {rs : List Record} (li : Li
   sort-counted = sym (li .sorts-there .counted) ∙ count-payloads sort rs
 
   -- a listed sort goes from one sort to another, by its record
-  sort-there : (s place from to : ℕ) → 0 < s → s ≤ sorts → place ≡ getD index (s - 1) 0 → from ≡ word file place → to ≡ word file (place + 2)
+  sort-there : (s from to : ℕ) → 0 < s → s ≤ sorts → from ≡ word file (getD index (s - 1) 0 + 0) → to ≡ word file (getD index (s - 1) 0 + 2)
       → (getD (sortsOf rs) s o ≡ getD (sortsOf rs) from o ⇒ getD (sortsOf rs) to o) × (from ≤ sorts) × (to ≤ sorts)
   unfolding sortFrom
-  sort-there s place from to h l ep ef et =
+  sort-there s from to h l ef et =
       let i = s - 1 in
       let hi : i < sorts = omega arith in
       let hc : i < length (payloads sort rs) = omega (arith, sort-counted) in
       let next : suc i ≡ s = omega arith in
       let (four, x, y) = sort-below (li .passed) (li .sort-bytes) i hc in
-      let here : place ≡ getD index (0 + i) 0 = ep ∙ ap (λ k. getD index k 0) (sym (zero-add i)) in
+      let here : getD index i 0 ≡ getD index (0 + i) 0 = ap (λ k. getD index k 0) (sym (zero-add i)) in
       let pay = getD (payloads sort rs) i [] in
-      let from-is : from ≡ word pay 0 = ef ∙ ap (field 2 file) (here ∙ sym (add-zero (getD index (0 + i) 0))) ∙ li .sorts-there .field-there i hi 2 0 (omega arith) in
+      let from-is : from ≡ word pay 0 = ef ∙ ap (λ k. field 2 file (k + 0)) here ∙ li .sorts-there .field-there i hi 2 0 (omega arith) in
       let to-is : to ≡ word pay 2 = et ∙ ap (λ k. field 2 file (k + 2)) here ∙ li .sorts-there .field-there i hi 2 2 (omega arith) in (
         ap (λ k. getD (sortsOf rs) k o) (sym next) ∙ sort-made (li .passed) (li .sort-bytes) i hc
             ∙ ap₂ (λ (a b : ℕ). getD (sortsOf rs) a o ⇒ getD (sortsOf rs) b o) (sym from-is) (sym to-is),
@@ -92,14 +97,16 @@ module _ {file index : List ℕ} {types sorts : ℕ} {rs : List Record} (li : Li
       length-is = let b = type-behind in sym (el ∙ li .types-there .length-there t (place - 4) h (omega (arith, ep)))
 
       -- a state fits sort 0 alone
-      pub state-row : {r : ℕ} (s : ℕ) → s ≤ sorts → len ≡ 1 → r ≡ bit (eqb s 0) → r ≡ bit (fitsAt rs t s)
-      unfolding fits
-      state-row s l one e = e ∙ ap bit (sym (ap₂ fits (made ∙ state-from (typesOf rs) (typePay t) (length-is ∙ one)) refl ∙ by s l))
-        where
-          by : (s : ℕ) → s ≤ sorts → fits (state (byte (typePay t) 0)) (getD (sortsOf rs) s o) ≡ eqb s 0
-          by zero l = ap (fits (state (byte (typePay t) 0))) (sort-zero rs)
-          by (suc s) l = ap (fits (state (byte (typePay t) 0))) (sort-there (suc s) (getD index (suc s - 1) 0) (word file (getD index (suc s - 1) 0)) (word file (getD index (suc s - 1) 0 + 2)) (omega arith) l refl refl refl .0)
-              ∙ sym (ne-eqb (suc s) 0 (λ z. omega arith))
+      state-there : len ≡ 1 → getD (typesOf rs) t (state 0) ≡ state (byte (typePay t) 0)
+      state-there one = made ∙ state-from (typesOf rs) (typePay t) (length-is ∙ one)
+
+      pub state-tree : len ≡ 1 → 1 ≡ bit (fitsAt rs t 0)
+      unfolding fits bit
+      state-tree one = sym (ap bit (ap₂ fits (state-there one) (sort-zero rs)))
+
+      pub state-row : (s : ℕ) → len ≡ 1 → 0 < s → s ≤ sorts → 0 ≡ bit (fitsAt rs t s)
+      unfolding fits bit
+      state-row s one h l = sym (ap bit (ap₂ fits (state-there one) (sort-there s (word file (getD index (s - 1) 0 + 0)) (word file (getD index (s - 1) 0 + 2)) h l refl refl .0)))
 
       -- an arrow is made of earlier types
       pub record Arrow : Type 0 where
@@ -118,17 +125,17 @@ module _ {file index : List ℕ} {types sorts : ℕ} {rs : List Record} (li : Li
           by (an-arrow r ms e f hr hms asc ps) = record { result = r; parts = ms; numbers = f; result-before = hr; parts-before = hms; is-arrow = made ∙ arrow-from (typesOf rs) (typePay t) r ms e f }
 
       -- it does not fit sort 0
-      pub arrow-tree : (s : ℕ) → (len ≡ 1 → ⊥) → s ≡ 0 → 0 ≡ bit (fitsAt rs t s)
+      pub arrow-tree : (len ≡ 1 → ⊥) → 0 ≡ bit (fitsAt rs t 0)
       unfolding fits bit
-      arrow-tree s ne z = let a = arrow-there ne in sym (ap bit (ap₂ fits (a .is-arrow) (ap (λ k. getD (sortsOf rs) k o) z ∙ sort-zero rs)))
+      arrow-tree ne = sym (ap bit (ap₂ fits (arrow-there ne .is-arrow) (sort-zero rs)))
 
       -- it fits another sort as its numbers say
-      pub arrow-row : (fit : List ℕ) {r : ℕ} (s start from to : ℕ) → Fitted fit t sorts rs → s ≤ sorts → (len ≡ 1 → ⊥) → (s ≡ 0 → ⊥)
-          → start ≡ getD index (s - 1) 0 → from ≡ word file start → to ≡ word file (start + 2) → place < 65536 → len < 65536
-          → ArrowFits file fit place len from to r → r ≡ bit (fitsAt rs t s)
-      arrow-row fit s start from to rows l ne nz es ef et hp hl answer =
+      pub arrow-row : (fit : List ℕ) {r : ℕ} (s result from to : ℕ) → Fitted fit t sorts rs → (len ≡ 1 → ⊥) → 0 < s → s ≤ sorts
+          → from ≡ word file (getD index (s - 1) 0 + 0) → to ≡ word file (getD index (s - 1) 0 + 2) → result ≡ word file place
+          → result < 65536 → place < 65536 → len < 65536 → ArrowFits file fit result place len from to r → r ≡ bit (fitsAt rs t s)
+      arrow-row fit s result from to rows ne h l ef et er hr hp hl answer =
           let a = arrow-there ne in
-          let (is-sort, hf, ht) = sort-there s start from to (omega arith) l es ef et in
-          answer hp hl (typePay t) payload-there length-is
+          let (is-sort, hf, ht) = sort-there s from to h l ef et in
+          answer er hr (let few = li .few-sorts in omega arith) hp hl (typePay t) payload-there length-is
           ∙ ap bit (ap (arrowSays fit from to) (a .numbers) ∙ arrow-says fit t sorts rs rows from to (a .result) (a .parts) (a .result-before) (a .parts-before) hf ht
           ∙ sym (ap₂ fits (a .is-arrow) is-sort))

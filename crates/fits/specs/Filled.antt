@@ -3,14 +3,13 @@ use Prim.Native.Nat.{ℕ, _+_, _-_, _<_, _≤_}
 use mathlib.Core.Path.{_≡_}
 use mathlib.Core.List.{List, []}
 use lib.ListN.{getD}
-use Rattle.scheme.specs.Flags.{bit}
 use Rattle.records.specs.Fields.{word}
 use Rattle.records.specs.Records.{Record}
 use Rattle.records.proofs.Fields.{Bytes}
 use Rattle.casefile.specs.Kinds.{sort, type, payloads}
 use Rattle.casefile.proofs.Passed.{Passed}
 use Rattle.entries.specs.Index.{Indexed}
-use Rattle.fit_flags.specs.Fitted.{fitsAt, Fitted}
+use Rattle.fit_flags.specs.Fitted.{Fitted}
 
 -- the records passed their tests, and the index has their types and their sorts, no more than the table has room for
 pub record Listed (file index : List ℕ) (types sorts : ℕ) (rs : List Record) : Type 0 where
@@ -29,17 +28,31 @@ pub record TypeThere (file index : List ℕ) (t place len : ℕ) : Type 0 where
   pub len-is : len ≡ word file (place - 4)
   pub len-fits : len < 65536
 
-module _ (file index : List ℕ) where
-  -- the answer for type t and sort s, by a table that has the types before t
-  abbrev pub TypeFits : List ℕ → ℕ → ℕ → ℕ → Type 0
-  TypeFits fit t s r =
-      (types sorts : ℕ) (rs : List Record) → Listed file index types sorts rs → Fitted fit t sorts rs → t < types → s ≤ sorts → r ≡ bit (fitsAt rs t s)
+-- entry s of a table is the number at byte `at` of the payload of sort s, of so many listed sorts
+abbrev pub SortWords : List ℕ → List ℕ → ℕ → ℕ → List ℕ → Type 0
+SortWords file index at sorts table = (s : ℕ) → 0 < s → s ≤ sorts → getD table s 0 ≡ word file (getD index (s - 1) 0 + at)
 
+module _ (file index : List ℕ) where
   -- the table with the row of type t, where it had the rows before
   abbrev pub FillsRow : ℕ → ℕ → List ℕ → List ℕ → Type 0
   FillsRow sorts t old fit =
       (types : ℕ) (rs : List Record) → Listed file index types sorts rs → t < types → Fitted old t sorts rs → Fitted fit (t + 1) sorts rs
 
+  -- the same, where two tables have the numbers of the sorts that each sort goes from and to
+  abbrev pub ReadsRow : List ℕ → List ℕ → ℕ → ℕ → List ℕ → List ℕ → Type 0
+  ReadsRow froms tos sorts t old fit =
+      SortWords file index 0 sorts froms → SortWords file index 2 sorts tos → FillsRow sorts t old fit
+
   -- the table of all types
   abbrev pub Fills : ℕ → ℕ → List ℕ → Type 0
   Fills types sorts fit = (rs : List Record) → Listed file index types sorts rs → Fitted fit types sorts rs
+
+-- the row of type t, where it is a state
+abbrev pub FillsState : ℕ → ℕ → List ℕ → List ℕ → Type 0
+FillsState sorts t old fit =
+    (file index : List ℕ) (place len : ℕ) → TypeThere file index t place len → len ≡ 1 → FillsRow file index sorts t old fit
+
+-- the row of type t, where it is an arrow
+abbrev pub FillsArrow : List ℕ → List ℕ → List ℕ → ℕ → ℕ → ℕ → ℕ → List ℕ → List ℕ → Type 0
+FillsArrow file froms tos sorts t place len old fit =
+    (index : List ℕ) → TypeThere file index t place len → (len ≡ 1 → ⊥) → ReadsRow file index froms tos sorts t old fit

@@ -3,12 +3,8 @@ use Prim.Native.Nat.{ℕ, _+_, _<_, _≤_}
 use native.Mathlib.Omega.{arith}
 use native.Mathlib.Decide.{ℕ-discrete}
 use mathlib.Core.Path.{_≡_, refl, sym, ap, subst, _∙_}
-use mathlib.Core.Bool.{Bool, true, false}
 use mathlib.Core.List.{List}
-use lib.Dec.{ltb}
-use lib.ListN.{length, getD, set}
-use lib.Seq.{getD-set-same, getD-set-other}
-use Rattle.scheme.specs.Lists.{if_then_else_}
+use lib.ListN.{length, getD}
 use Rattle.scheme.specs.Types.{Ty, state, arrow, Tys}
 use Rattle.records.specs.Fields.{word}
 use Rattle.records.specs.Records.{Record}
@@ -19,21 +15,9 @@ use Rattle.casefile.proofs.TypeTable.{count-payloads}
 use Rattle.entries.specs.Index.{Indexed}
 use Rattle.entries.proofs.Stays.{indexed-same}
 use Rattle.enter.specs.Entering.{stored}
-use Rattle.enter.proofs.Storing.{stored-set, stored-length}
+use Rattle.enter.proofs.Storing.{stored-length, stored-here, stored-other}
 use Rattle.goals.specs.Goals.{Goal, Listed, typeOfBinding, goalBase, ownBase, ReadsGoal, ReadsResult, FillsGoals, FillsOwns}
 use Rattle.goals.proofs.Goals.{goal-below, arrow-record, binding-there}
-
--- an entry that was stored, and the others
-stored-here : (a : List ℕ) (i v : ℕ) → v < 65536 → i < length a → getD (stored a i v) i 0 ≡ v
-stored-here a i v h l = ap (λ (b : List ℕ). getD b i 0) (stored-set a i v h) ∙ getD-set-same a i v 0 l
-
-stored-other : (a : List ℕ) (i v j : ℕ) → (j ≡ i → ⊥) → getD (stored a i v) j 0 ≡ getD a j 0
-unfolding stored
-stored-other a i v j ne = by (ltb v 65536)
-  where
-    by : (b : Bool) → getD (if b then set a i v else a) j 0 ≡ getD a j 0
-    by true = getD-set-other a i j v 0 ne
-    by false = refl
 
 listed-same : {file before index : List ℕ} {n : ℕ} {rs : List Record} → ((i : ℕ) → i < goalBase → getD index i 0 ≡ getD before i 0) → Listed file before n rs → Listed file index n rs
 listed-same same w = record { passed = w .passed; bytes = w .bytes; there = indexed-same (λ i h. same (1120 + i) (omega (arith, w .few))) (w .there); few = w .few }

@@ -35,8 +35,3 @@ Leaves file index lens counts ends Path = Tables file index lens counts ends × 
 pub record Taken (file : List ℕ) (flags : ℕ) (index lens counts ends : List ℕ) (r : Case) : Type 0 where
   pub is-case : caseAs file r ≡ caseOf file flags
   pub tables : Leaves file index lens counts ends r
-
--- the promise of the intake, for tables of the right sizes
-abbrev pub Examines : List ℕ → ℕ → List ℕ → List ℕ → List ℕ → List ℕ → List ℕ → List ℕ → List ℕ → List ℕ → Case → Type 0
-Examines file flags index lens counts ends index′ lens′ counts′ ends′ r =
-    4450 ≤ length index → length lens ≡ 65 → length counts ≡ 10 → 15000 ≤ length ends → Taken file flags index′ lens′ counts′ ends′ r

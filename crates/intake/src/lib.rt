@@ -4,7 +4,7 @@ use whole_file::Case;
 use whole_file::test_whole;
 ghost use mathlib.Core.Path.{_≡_};
 ghost use lib.ListN.{length};
-ghost use Rattle.intake.specs.Intake.{Examines, caseAs};
+ghost use Rattle.intake.specs.Intake.{Taken, caseAs};
 ghost use Rattle.casefile.specs.Cases.{caseOf};
 
 // What a file is, for so many lent flags, with its tables: the index of its entries, the argument counts of its sorts, the
@@ -12,13 +12,13 @@ ghost use Rattle.casefile.specs.Cases.{caseOf};
 pub fn examine(
     file: &[u8],
     flags: usize,
-    index: &mut [u16],
-    lens: &mut [u16],
-    counts: &mut [u16],
-    ends: &mut [u16],
+    index: &mut [u16; 8034],
+    lens: &mut [u16; 65],
+    counts: &mut [u16; 10],
+    ends: &mut [u16; 15000],
     fit: &mut [u8; 66560],
 ) -> Case
-    ensures { λ r. ⌜ Examines (now (file .entry)) flags (now (index .entry)) (now (lens .entry)) (now (counts .entry)) (now (ends .entry)) (now (index .exit)) (now (lens .exit)) (now (counts .exit)) (now (ends .exit)) r ⌝ }
+    ensures { λ r. ⌜ Taken (now (file .entry)) flags (now (index .exit)) (now (lens .exit)) (now (counts .exit)) (now (ends .exit)) r ⌝ }
 {
     if 60000 < file.len() {
         return Case::Refused {
@@ -38,7 +38,7 @@ pub fn case_of(file: &[u8], flags: &mut [u8]) -> Case
     ensures case { λ r. ⌜ caseAs (now (file .entry)) r ≡ caseOf (now (file .entry)) (length (now (flags .entry))) ⌝ }
     ensures flags { λ _. ⌜ now (flags .exit) ≡ now (flags .entry) ⌝ }
 {
-    let mut index = [0u16; 4450];
+    let mut index = [0u16; 8034];
     let mut lens = [0u16; 65];
     let mut counts = [0u16; 10];
     let mut ends = [0u16; 15000];

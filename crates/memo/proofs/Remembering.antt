@@ -46,9 +46,9 @@ module _ (width at goal : ℕ) where
   pub product-small : at < 256 → width ≤ 1040 → at * width ≤ 265200
   product-small h k = mul-le-mul {n₁ = at} {m₁ = width} {n₂ = 255} {m₂ = 1040} (omega arith) k
 
-  pub key-below : at < 256 → goal < width → key width at goal < 256 * width
-  key-below h k =
-      let rows : suc at * width ≤ 256 * width = mul-le-mul-right width h in
+  pub key-below : (nodes : ℕ) → at < nodes → goal < width → key width at goal < nodes * width
+  key-below nodes h k =
+      let rows : suc at * width ≤ nodes * width = mul-le-mul-right width h in
       let more = suc-mul at width in
       omega arith
 
@@ -115,13 +115,17 @@ readied-under memo n stamp u i k = go (ltb stamp 127) refl
     go true e = let h = u (ltb-true stamp 127 e) i k in omega arith
     go false e = let z = cleared-zero n memo i k in omega arith
 
-pub faithful-none : (P : ℕ → ℕ → Bool → Type 0) (memo : List ℕ) (width stamp n : ℕ) → 256 * width ≤ n → Under memo n (stamp * 2) → Faithful P memo width stamp
+-- the entries of the first nodes are of other tests; what is said of a node behind them is so anyway
+pub faithful-none : (P : ℕ → ℕ → Bool → Type 0) (memo : List ℕ) (width stamp nodes : ℕ) → ((at goal : ℕ) (b : Bool) → nodes ≤ at → P at goal b) → Under memo (nodes * width) (stamp * 2) → Faithful P memo width stamp
 unfolding code
-faithful-none P memo width stamp n h u at goal b c e =
-    let p = covered-parts width at goal c in
-    let inside = key-below width at goal (p .node) (p .within) in
-    let low = u (key width at goal) (omega arith) in
-    absurd (omega arith)
+faithful-none P memo width stamp nodes behind u at goal b c e = go (decLt at nodes)
+  where
+    go : Dec (at < nodes) → P at goal b
+    go (yes h) =
+        let p = covered-parts width at goal c in
+        let low = u (key width at goal) (key-below width at goal nodes h (p .within)) in
+        absurd (omega arith)
+    go (no h) = behind at goal b (omega arith)
 
 faithful-known : (P : ℕ → ℕ → Bool → Type 0) (memo : List ℕ) (width stamp at goal : ℕ) (b : Bool) → Faithful P memo width stamp → recalled memo width stamp at goal ≡ suc (bit b) → P at goal b
 unfolding recalled code

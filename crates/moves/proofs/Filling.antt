@@ -4,7 +4,7 @@ use native.Mathlib.Nat.{add-zero}
 use native.Mathlib.Omega.{arith}
 use native.Mathlib.Decide.{ℕ-discrete}
 use mathlib.Core.Path.{_≡_, refl, sym, ap, _∙_}
-use mathlib.Core.Bool.{false, _&&_}
+use mathlib.Core.Bool.{_&&_}
 use mathlib.Core.List.{List, [], _∷_}
 use borrow.Author.Tests.{eq-eqb, ne-eqb, eqb-true, not-false}
 use lib.Dec.{eqb}
@@ -22,7 +22,7 @@ use Rattle.entries.specs.Index.{Indexed}
 use Rattle.moves.specs.Moves.{rowAt, fourAt, rowFor, Shaped, Sofar}
 
 -- a row and a table without transitions
-abbrev no-row : List ℕ
+abbrev pub no-row : List ℕ
 no-row = 255 ∷ 255 ∷ 255 ∷ 255 ∷ []
 
 abbrev pub blank : List (List (List ℕ))
@@ -57,6 +57,13 @@ six {rs} ok i h =
     let e = entry ok Kind.transition i h in
     ap length (e .here) ∙ eqb-true (length (e .payload)) 6 (not-false (eqb (length (e .payload)) 6) (e .passed-tests .fits))
 
+-- a transition of another state, or of another constructor
+pub other-state : (q c x y : ℕ) (four others : List ℕ) → 16 ≤ q → x < 16 → others ≡ (if eqb q x && eqb c y then four else others)
+other-state q c x y four others l h = rw (ne-eqb q x (λ z. omega arith))
+
+pub other-constructor : (q c x y : ℕ) (four others : List ℕ) → 32 ≤ c → y < 32 → others ≡ (if eqb q x && eqb c y then four else others)
+other-constructor q c x y four others l h = rw (ne-eqb c y (λ z. omega arith), and-no (eqb q x))
+
 module _ (file index : List ℕ) (n : ℕ) where
   module _ {rs : List Record} (ok : Passed rs) (ix : Indexed file index Kind.transition n rs) (i : ℕ) (h : i < n) (at : ℕ) (e : at ≡ getD index (608 + i) 0) where
     many : length (payloads Kind.transition rs) ≡ n
@@ -72,18 +79,25 @@ module _ (file index : List ℕ) (n : ℕ) where
         let first : byte file at ≡ byte (getD (payloads Kind.transition rs) i []) 0 = ap (byte file) (sym (add-zero at)) ∙ there 0 (omega arith) in
         rw (drop-cons (payloads Kind.transition rs) i [] (omega (arith, many)), first, there 1 (omega arith), there 2 (omega arith), there 3 (omega arith), there 4 (omega arith), there 5 (omega arith))
 
-  pub sofar-none : n ≤ 512 → Sofar file index n blank n
+  -- behind the last transition there is none
+  pub none-behind : {rs : List Record} → Indexed file index Kind.transition n rs → (q c : ℕ) → rowFor (drop n (payloads Kind.transition rs)) q c ≡ no-row
   unfolding rowFor
-  sofar-none h = record { count = omega arith; few = h; shaped = blank-shaped; rows = λ rs ok ix q c hq hc. blank-row q c hq hc ∙ sym (ap (λ l. rowFor l q c) (ap (λ m. drop m (payloads Kind.transition rs)) (sym (sym (count-payloads Kind.transition rs) ∙ ix .counted)) ∙ drop-length (payloads Kind.transition rs))) }
+  none-behind {rs} ix q c = ap (λ l. rowFor l q c) (ap (λ m. drop m (payloads Kind.transition rs)) (sym (ix .counted) ∙ count-payloads Kind.transition rs) ∙ drop-length (payloads Kind.transition rs))
+
+  -- the rows from a transition on, by those behind it
+  pub row-back : {rs : List Record} → Passed rs → Indexed file index Kind.transition n rs → (k : ℕ) → 0 < k → k ≤ n → (at : ℕ) → at ≡ getD index (608 + (k - 1)) 0 → (q c : ℕ) → q ≡ byte file at → c ≡ byte file (at + 1)
+      → (x y : ℕ) (others : List ℕ) → others ≡ rowFor (drop k (payloads Kind.transition rs)) x y → rowFor (drop (k - 1) (payloads Kind.transition rs)) x y ≡ (if eqb q x && eqb c y then fourAt file at else others)
+  row-back {rs} ok ix k h few at e q c hq hc x y others same =
+      let back : suc (k - 1) ≡ k = omega arith in
+      rw (hq, hc) (row-here ok ix (k - 1) (omega arith) at e x y
+      ∙ ap (λ l. if eqb (byte file at) x && eqb (byte file (at + 1)) y then fourAt file at else l) (ap (λ m. rowFor (drop m (payloads Kind.transition rs)) x y) back ∙ sym same))
+
+  pub sofar-none : n ≤ 512 → Sofar file index n blank n
+  sofar-none h = record { count = omega arith; few = h; shaped = blank-shaped; rows = λ rs ok ix q c hq hc. blank-row q c hq hc ∙ sym (none-behind ix q c) }
 
   module _ (t : List (List (List ℕ))) (k : ℕ) (so : Sofar file index n t k) (h : 0 < k) (at : ℕ) (e : at ≡ getD index (608 + (k - 1)) 0) (q c : ℕ) (hq : q ≡ byte file at) (hc : c ≡ byte file (at + 1)) where
-    back : suc (k - 1) ≡ k
-    back = omega arith
-
     here : {rs : List Record} → Passed rs → Indexed file index Kind.transition n rs → (x y : ℕ) → x < 16 → y < 32 → rowFor (drop (k - 1) (payloads Kind.transition rs)) x y ≡ (if eqb q x && eqb c y then fourAt file at else rowAt t x y)
-    here {rs} ok ix x y hx hy =
-        rw (hq, hc) (row-here ok ix (k - 1) (omega (arith, so .count)) at e x y
-        ∙ ap (λ l. if eqb (byte file at) x && eqb (byte file (at + 1)) y then fourAt file at else l) (ap (λ m. rowFor (drop m (payloads Kind.transition rs)) x y) back ∙ sym (so .rows rs ok ix x y hx hy)))
+    here {rs} ok ix x y hx hy = row-back ok ix k h (so .count) at e q c hq hc x y (rowAt t x y) (so .rows rs ok ix x y hx hy)
 
     pub sofar-put : q < 16 → c < 32 → (a b d f : ℕ) → a ≡ byte file (at + 2) → b ≡ byte file (at + 3) → d ≡ byte file (at + 4) → f ≡ byte file (at + 5)
         → Sofar file index n (set t q (set (getD t q []) c (a ∷ b ∷ d ∷ f ∷ []))) (k - 1)
@@ -97,16 +111,13 @@ module _ (file index : List ℕ) (n : ℕ) where
           rows = λ rs ok ix x y hx hy. put-row t (so .shaped) q c r lq lc x y ∙ ap (λ l. if eqb q x && eqb c y then l else rowAt t x y) same ∙ sym (here ok ix x y hx hy);
         }
 
-    skip : (x y : ℕ) → (eqb q x && eqb c y) ≡ false → rowAt t x y ≡ (if eqb q x && eqb c y then fourAt file at else rowAt t x y)
-    skip x y f = rw f
-
     pub sofar-state : 16 ≤ q → Sofar file index n t (k - 1)
     sofar-state l =
         record {
           count = omega (arith, so .count);
           few = so .few;
           shaped = so .shaped;
-          rows = λ rs ok ix x y hx hy. skip x y (rw (ne-eqb q x (λ z. omega arith))) ∙ sym (here ok ix x y hx hy);
+          rows = λ rs ok ix x y hx hy. other-state q c x y (fourAt file at) (rowAt t x y) l hx ∙ sym (here ok ix x y hx hy);
         }
 
     pub sofar-constructor : 32 ≤ c → Sofar file index n t (k - 1)
@@ -115,5 +126,5 @@ module _ (file index : List ℕ) (n : ℕ) where
           count = omega (arith, so .count);
           few = so .few;
           shaped = so .shaped;
-          rows = λ rs ok ix x y hx hy. skip x y (rw (ne-eqb c y (λ z. omega arith)) (and-no (eqb q x))) ∙ sym (here ok ix x y hx hy);
+          rows = λ rs ok ix x y hx hy. other-constructor q c x y (fourAt file at) (rowAt t x y) l hy ∙ sym (here ok ix x y hx hy);
         }

@@ -87,6 +87,11 @@ module _ (arities : List ℕ) (q c : ℕ) where
       go true false e others = others
       go false b e others = others
 
+-- the rows of all transitions are the targets of the definitions
+pub row-means : {rs : List Record} → Passed rs → (q c : ℕ) → targetsIn (getD (aritiesOf rs) c 0) (rowFor (payloads Kind.transition rs) q c) ≡ targetsAt (transitionsOf rs) q c
+unfolding transitionsOf
+row-means {rs} ok q c = row-targets (aritiesOf rs) q c (payloads Kind.transition rs) (λ i l. (six ok i l, target-small ok i l))
+
 -- a row has four places
 row-four : (ps : List (List ℕ)) (q c : ℕ) → length (rowFor ps q c) ≡ 4
 unfolding rowFor
@@ -99,12 +104,11 @@ row-four (p ∷ ps) q c = go (eqb (byte p 0) q && eqb (byte p 1) c) (row-four ps
 
 -- the promise of the table
 pub all-rows : (file index : List ℕ) (n : ℕ) (t : List (List (List ℕ))) (k : ℕ) → Sofar file index n t k → k ≤ 0 → Holds file index n t
-unfolding transitionsOf
 all-rows file index n t k so h rs ok ix few =
     let none-left : k ≡ 0 = omega arith in
     let row : (q c : ℕ) → q < 16 → c < 32 → rowAt t q c ≡ rowFor (payloads Kind.transition rs) q c = λ q c hq hc. so .rows rs ok ix q c hq hc ∙ ap (λ m. rowFor (drop m (payloads Kind.transition rs)) q c) none-left in
     record {
-      targets = λ q c hq hc. ap (targetsIn (getD (aritiesOf rs) c 0)) (row q c hq hc) ∙ row-targets (aritiesOf rs) q c (payloads Kind.transition rs) (λ i l. (six ok i l, target-small ok i l));
+      targets = λ q c hq hc. ap (targetsIn (getD (aritiesOf rs) c 0)) (row q c hq hc) ∙ row-means ok q c;
       four = λ q c hq hc. ap length (row q c hq hc) ∙ row-four (payloads Kind.transition rs) q c;
     }
 

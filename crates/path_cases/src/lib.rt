@@ -46,7 +46,7 @@ pub fn path_case(file: &[u8], flags: &mut [u8]) -> Answer
     ensures refuted { λ r. ⌜ RefutedExactly (now (file .entry)) (length (now (flags .entry))) r ⌝ }
     ensures flags { λ _. ⌜ now (flags .exit) ≡ now (flags .entry) ⌝ }
 {
-    let mut index = [0u16; 4450];
+    let mut index = [0u16; 8034];
     let mut lens = [0u16; 65];
     let mut counts = [0u16; 10];
     let mut ends = [0u16; 15000];

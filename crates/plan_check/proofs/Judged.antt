@@ -79,15 +79,15 @@ module _ (file lent : List ℕ) where
     unfolding caseAs outcomeOf refusal answerAs
     judged-refused n p e = meets1 (refusedCase (record { number = n; place = p })) (sym (w .is-case) ∙ ap (caseAs file) e) (refused n p) lent refl refl
 
-    pub judged-bindings : r ≡ BindingCase → 7522 ≤ length index → {marks : List ℕ} {b : Bool} {k t m : ℕ} → JudgesBindings file index counts ends lent marks b k t m → (v : Verdict) → v ≡ ofBindings b k t m → Demand1 file lent (answerAs v) marks
+    pub judged-bindings : r ≡ BindingCase → {marks : List ℕ} {b : Bool} {k t m : ℕ} → JudgesBindings file index counts ends lent marks b k t m → (v : Verdict) → v ≡ ofBindings b k t m → Demand1 file lent (answerAs v) marks
     unfolding caseAs outcomeOf Leaves bindingOutcome
-    judged-bindings e room {marks} {b} {k} {t} {m} judges v ev =
+    judged-bindings e {marks} {b} {k} {t} {m} judges v ev =
         let rs = listed (recordsOf file) in
         let is : caseOf file (length lent) ≡ bindingCase rs = sym (w .is-case) ∙ ap (caseAs file) e in
         let tables = subst (Leaves file index lens counts ends) e (w .tables) in
         let accepted = binding-case (length lent) file rs is .0 in
         let s = shrunk (automatonOf rs) (planOf rs) (bindingsOf rs) in
-        let found = judges .judged lens rs (tables .known) room (tables .passed) (tables .ends-are) (accepted .whole-file) in
+        let found = judges .judged lens rs (tables .known) (tables .passed) (tables .ends-are) (accepted .whole-file) in
         meets1 (bindingCase rs) is (answerAs v) marks (ap answerAs ev ∙ answer-bindings s lent marks b k t m found) (found .flags-are)
 
     pub judged-path : r ≡ Path → (p : Replayed) → ReplaysPath file index counts p → (v : Verdict) → v ≡ ofPath p → Demand1 file lent (answerAs v) lent

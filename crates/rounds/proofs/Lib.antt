@@ -1,3 +1,4 @@
 pub mod Flagged
 pub mod Counted
+pub mod Settling
 pub mod Turning

@@ -1,11 +1,14 @@
 -- From the test of one binding to a round, and from a round to the rounds: what each step leaves, for a file that is ready.
 use Prim.Native.Nat.{ℕ, zero, suc, _+_, _*_, _<_, _≤_}
 use native.Mathlib.Omega.{arith}
-use mathlib.Core.Path.{_≡_, refl, sym, ap, subst, _∙_}
+use native.Mathlib.Decide.{ℕ-discrete}
+use native.Mathlib.Nat.{mul-le-mul}
+use mathlib.Core.Path.{_≡_, refl, sym, ap, ap₂, subst, _∙_}
 use mathlib.Core.Bool.{Bool, true, false, _&&_}
 use mathlib.Core.List.{List}
 use mir.Val.{boolByte}
-use lib.ListN.{length, getD, set, take, replicate, length-set, length-map, length-replicate}
+use lib.ListN.{length, getD, set, take, replicate, length-set, length-map, length-replicate, getD-replicate}
+use lib.Seq.{getD-take}
 use Rattle.scheme.specs.Rounds
 use Rattle.scheme.specs.Flags.{bit, isKept, chosen, roundFlags}
 use Rattle.scheme.proofs.Flags.{chosen-round}
@@ -17,15 +20,25 @@ use Rattle.entries.specs.Tests.{IsPlace}
 use Rattle.memo.specs.Memo.{nextStamp, readied, Under}
 use Rattle.memo.proofs.Remembering.{stamp-range, readied-under}
 use Rattle.candidates.specs.Candidates.{noBinding}
-use Rattle.binding_tests.specs.BindingTests.{Ready, entriesFor, TestsBinding}
-use Rattle.rounds.specs.Shrinking.{testOf, Numbered, Retests, Turns, Shrinks}
+use Rattle.lookup.specs.Lookup.{entryOf}
+use Rattle.lookup.proofs.Found.{entry-there}
+use Rattle.rule_bodies.specs.RuleBodies.{ruleOf}
+use Rattle.touched.specs.Touched.{touches}
+use Rattle.touched.proofs.Touching.{untouched}
+use Rattle.binding_tests.specs.BindingTests.{Ready, entriesFor, symbolOf, IsSymbol, TestsBinding}
+use Rattle.rounds.specs.Shrinking.{testOf, Numbered, Settled, Retests, Marks, Turns, Shrinks}
+use Rattle.rounds.proofs.Settling.{kept-byte, rule-there, settle}
 use Rattle.rounds.proofs.Flagged.{bit-small, round-length, round-at}
 use Rattle.rounds.proofs.Counted.{Sofar, sofar-none, sofar-more, sofar-flags, sofar-kept, Left, left-start, left-turn, left-rounds, left-flags, left-kept}
 
-kept-byte : (v : ℕ) → (v ≡ 0 → ⊥) → isKept v ≡ true
-unfolding isKept
-kept-byte zero h = absurd (h refl)
-kept-byte (suc v) h = refl
+-- the number of entries of a memo is no large number
+pub entries-few : (nodes types : ℕ) → nodes < 65536 → types < 65536 → nodes * (types + 16) ≤ 4295884785
+entries-few nodes types h k = mul-le-mul {n₁ = nodes} {m₁ = types + 16} {n₂ = 65535} {m₂ = 65551} (omega arith) (omega arith)
+
+-- a flag that was 0 is 0 after a test
+none-kept : {was : ℕ} → was ≡ 0 → (v : Bool) → bit (isKept was && v) ≡ 0
+unfolding bit isKept
+none-kept e v = ap (λ x. bit (isKept x && v)) e
 
 -- a test's answer as a number
 pub flag-of : (r : Bool) → boolByte r ≡ bit r
@@ -37,63 +50,111 @@ pub bindings-many : (rs : List Record) → length (bindingsOf rs) ≡ count Kind
 unfolding bindingsOf
 bindings-many rs = length-map (payloads Kind.binding rs) _ ∙ sym (count-payloads Kind.binding rs)
 
-module _ (file index counts groups firsts ends : List ℕ) (table : List (List (List ℕ))) where
+module _ (file index counts groups firsts ends : List ℕ) where
   -- how many bindings a file has, by its counts
-  pub counted : (rs : List Record) → Ready file index counts groups firsts ends table rs → (length (bindingsOf rs) ≡ getD counts 8 0) × (getD counts 8 0 ≤ 1024)
+  pub counted : (rs : List Record) → Ready file index counts groups firsts ends rs → (length (bindingsOf rs) ≡ getD counts 8 0) × (getD counts 8 0 ≤ 1024)
   unfolding number
   counted rs w = (bindings-many rs ∙ w .known .entries Kind.binding .counted, w .known .fits Kind.binding)
 
   -- The test of one binding.
-  module _ (old memo : List ℕ) (stamp b was : ℕ) where
-    pub retest-dropped : was ≡ 0 → Retests file index counts groups firsts ends table old memo stamp b was memo 0 stamp
+  module _ (old lost memo : List ℕ) (stamp b was : ℕ) where
+    pub retest-dropped : was ≡ 0 → Retests file index counts groups firsts ends old lost memo stamp b was memo 0 stamp
     unfolding isKept bit
     retest-dropped z =
         record {
           small = omega arith;
           numbered = λ u. u;
-          flag-is = λ rs w h u. sym (ap (λ x. bit (isKept x && testOf rs (chosen old (bindingsOf rs)) (getD (bindingsOf rs) b noBinding))) z);
+          flag-is = λ rs w h u is s. sym (ap (λ x. bit (isKept x && testOf rs (chosen old (bindingsOf rs)) (getD (bindingsOf rs) b noBinding))) z);
         }
 
-    pub retest-tested : (was ≡ 0 → ⊥) → (types : ℕ) → IsPlace counts 7 types → (fresh : ℕ) (ready : List ℕ) → (fresh ≡ nextStamp stamp) × (ready ≡ readied memo (256 * (types + 16)) stamp)
-        → (memo′ : List ℕ) (r : Bool) → TestsBinding file index counts groups firsts ends table old ready fresh b memo′ r → (flag : ℕ) → flag ≡ bit r
-        → Retests file index counts groups firsts ends table old memo stamp b was memo′ flag fresh
+    -- a binding that held in the round before, and whose body names nothing that was lost there
+    pub retest-settled : (was ≡ 0 → ⊥) → (f : ℕ) → IsSymbol file index b f → (body : List ℕ) → body ≡ entryOf file index (352 + f) → (r : Bool) → r ≡ touches lost body → r ≡ false
+        → Retests file index counts groups firsts ends old lost memo stamp b was memo 1 stamp
+    unfolding bit number
+    retest-settled nz f is-f body is-body r touch e =
+        record {
+          small = omega arith;
+          numbered = λ u. u;
+          flag-is = λ rs w h u is s.
+              let c = w .known .entries Kind.binding .counted in
+              let ef : f ≡ symbolOf rs b = is-f .symbol (getD counts 8 0) rs (w .passed) (w .known .entries Kind.binding) (w .known .fits Kind.binding) (omega arith) in
+              let d = w .known .entries Kind.rule .counted in
+              let here : body ≡ ruleOf rs (symbolOf rs b) = is-body ∙ ap (λ g. entryOf file index (352 + g)) ef ∙ entry-there (w .known .entries Kind.rule) (symbolOf rs b) (let r = rule-there w b h in omega arith) in
+              let on : isKept was ≡ true = kept-byte was nz in
+              let held = s b h (ap isKept (sym is) ∙ on) (ap (touches lost) (sym here) ∙ sym touch ∙ e) in
+              sym (rw (on, held));
+        }
+
+    pub retest-tested : (was ≡ 0 → ⊥) → (nodes types : ℕ) → IsPlace firsts 256 nodes → IsPlace counts 7 types → (fresh : ℕ) (ready : List ℕ) → (fresh ≡ nextStamp stamp) × (ready ≡ readied memo (nodes * (types + 16)) stamp)
+        → (memo′ : List ℕ) (r : Bool) → TestsBinding file index counts groups firsts ends old ready fresh b memo′ r → (flag : ℕ) → flag ≡ bit r
+        → Retests file index counts groups firsts ends old lost memo stamp b was memo′ flag fresh
     unfolding isKept bit
-    retest-tested nz types at fresh ready (ef, er) memo′ r tests flag e =
-        let same : 256 * (types + 16) ≡ entriesFor counts = ap (λ n. 256 * (n + 16)) (at .value) in
+    retest-tested nz nodes types an at fresh ready (ef, er) memo′ r tests flag e =
+        let many = entriesFor counts firsts in
+        let same : nodes * (types + 16) ≡ many = ap₂ (λ m n. m * (n + 16)) (an .value) (at .value) in
         let (low, high) = stamp-range stamp in
-        let under : Numbered counts memo stamp → Under ready (entriesFor counts) (fresh * 2) =
-        λ u. subst (λ l. Under l (entriesFor counts) (fresh * 2)) (sym (er ∙ ap (λ n. readied memo n stamp) same))
-        (subst (λ s. Under (readied memo (entriesFor counts) stamp) (entriesFor counts) (s * 2)) (sym ef) (readied-under memo (entriesFor counts) stamp u)) in
+        let under : Numbered counts firsts memo stamp → Under ready many (fresh * 2) =
+        λ u. subst (λ l. Under l many (fresh * 2)) (sym (er ∙ ap (λ n. readied memo n stamp) same))
+        (subst (λ s. Under (readied memo many stamp) many (s * 2)) (sym ef) (readied-under memo many stamp u)) in
         record {
           small = let s = bit-small r in omega arith;
-          numbered = λ u k. tests .under (entriesFor counts) (omega arith) (under u);
-          flag-is = λ rs w h u.
+          numbered = λ u k. tests .under many (omega arith) (under u);
+          flag-is = λ rs w h u is s.
               let on : isKept was ≡ true = kept-byte was nz in
               let a = tests .answer rs w h (omega arith) (omega arith) (under u) in
               e ∙ ap bit a ∙ sym (ap (λ x. bit (x && testOf rs (chosen old (bindingsOf rs)) (getD (bindingsOf rs) b noBinding))) on);
         }
 
-  -- While a round goes on: the flags of the bindings before b are in `new`, and `kept` of them say kept.
-  pub record Rounding (old memo : List ℕ) (stamp : ℕ) (memo′ new : List ℕ) (last kept b : ℕ) : Type 0 where
-    pub long : length new ≡ 1024
+  -- While a round goes on: the flags of the bindings before b are in `new`, `kept` of them say kept, and a nonterminal that lost
+  -- one of them has a flag in `lost`.
+  pub record Rounding (old gone memo flags cleared : List ℕ) (stamp : ℕ) (memo′ new lost : List ℕ) (last kept b : ℕ) : Type 0 where
+    pub long : length new ≡ length flags
+    pub lost-long : length lost ≡ length cleared
     pub few : kept ≤ b
-    pub numbered : Numbered counts memo stamp → Numbered counts memo′ last
-    pub sofar : (rs : List Record) → Ready file index counts groups firsts ends table rs → Numbered counts memo stamp → length old ≡ 1024
+    pub numbered : Numbered counts firsts memo stamp → Numbered counts firsts memo′ last
+    pub sofar : (rs : List Record) → Ready file index counts groups firsts ends rs → Numbered counts firsts memo stamp → length old ≡ 1024 → length flags ≡ 1024 → length cleared ≡ 257 → Settled rs gone old
         → Sofar (roundFlags (testOf rs) (bindingsOf rs) old) (bindingsOf rs) new b kept
+    pub losing : (rs : List Record) → Ready file index counts groups firsts ends rs → Numbered counts firsts memo stamp → length old ≡ 1024 → length flags ≡ 1024 → length cleared ≡ 257 → Settled rs gone old
+        → (i : ℕ) → i < b → i < count Kind.binding rs → getD lost (symbolOf rs i) 0 ≡ 0 → isKept (getD (roundFlags (testOf rs) (bindingsOf rs) old) i 0) ≡ isKept (getD old i 0)
 
-  module _ (old memo : List ℕ) (stamp : ℕ) where
-    pub round-none : Rounding old memo stamp memo (replicate 1024 0) stamp 0 0
-    round-none = record { long = length-replicate {A = ℕ} 1024 0; few = omega arith; numbered = λ u. u; sofar = λ rs w u lo. sofar-none (roundFlags (testOf rs) (bindingsOf rs) old) (bindingsOf rs) (replicate 1024 0) }
+  module _ (old gone memo flags cleared : List ℕ) (stamp : ℕ) where
+    pub round-none : Rounding old gone memo flags cleared stamp memo flags cleared stamp 0 0
+    round-none =
+        record {
+          long = refl;
+          lost-long = refl;
+          few = omega arith;
+          numbered = λ u. u;
+          sofar = λ rs w u lo lf lc s. sofar-none (roundFlags (testOf rs) (bindingsOf rs) old) (bindingsOf rs) flags;
+          losing = λ rs w u lo lf lc s i h k z. absurd (omega arith);
+        }
 
-    pub round-more : (bindings : ℕ) → IsPlace counts 8 bindings → (memo′ new : List ℕ) (last kept b : ℕ) → Rounding old memo stamp memo′ new last kept b → b < bindings
-        → (memo″ : List ℕ) (flag next : ℕ) → Retests file index counts groups firsts ends table old memo′ last b (getD old b 0) memo″ flag next
-        → Rounding old memo stamp memo″ (set new b flag) next (kept + flag) (b + 1)
-    round-more bindings at memo′ new last kept b g h memo″ flag next t =
+    -- the new flag of a binding says kept as the old one does, unless its nonterminal is marked
+    flag-stays : (was flag : ℕ) (lost lost′ : List ℕ) (b : ℕ) → Marks file index lost b was flag lost′ → length lost ≡ 257 → (rs : List Record) → Ready file index counts groups firsts ends rs → b < count Kind.binding rs
+        → getD lost′ (symbolOf rs b) 0 ≡ 0 → (was ≡ 0 → flag ≡ 0) → isKept flag ≡ isKept was
+    unfolding number
+    flag-stays was flag lost lost′ b m long rs w h z none = go (ℕ-discrete was 0) (ℕ-discrete flag 0)
+      where
+        go : Dec (was ≡ 0) → Dec (flag ≡ 0) → isKept flag ≡ isKept was
+        go (yes e) d = ap isKept (none e ∙ sym e)
+        go (no e) (yes d) =
+            let c = w .known .entries Kind.binding .counted in
+            let n = w .known .entries Kind.nonterminal .counted in
+            let f = w .known .fits Kind.nonterminal in
+            absurd (m .marked (getD counts 8 0) rs (w .passed) (w .known .entries Kind.binding) (w .known .fits Kind.binding) (omega arith) (omega arith) (omega arith) z e d)
+        go (no e) (no d) = kept-byte flag d ∙ sym (kept-byte was e)
+
+    pub round-more : (bindings : ℕ) → IsPlace counts 8 bindings → (memo′ new lost : List ℕ) (last kept b : ℕ) → Rounding old gone memo flags cleared stamp memo′ new lost last kept b → b < bindings
+        → (memo″ : List ℕ) (flag next : ℕ) → Retests file index counts groups firsts ends old gone memo′ last b (getD old b 0) memo″ flag next
+        → (lost′ : List ℕ) → Marks file index lost b (getD old b 0) flag lost′
+        → Rounding old gone memo flags cleared stamp memo″ (set new b flag) lost′ next (kept + flag) (b + 1)
+    round-more bindings at memo′ new lost last kept b g h memo″ flag next t lost′ m =
         record {
           long = length-set new b flag ∙ g .long;
+          lost-long = m .long ∙ g .lost-long;
           few = let x = g .few in let y = t .small in omega arith;
           numbered = λ u. t .numbered (g .numbered u);
-          sofar = λ rs w u lo.
+          sofar = λ rs w u lo lf lc s.
               let (many, most) = counted rs w in
               let bs = bindingsOf rs in
               let all = bindings-many rs in
@@ -101,72 +162,111 @@ module _ (file index counts groups firsts ends : List ℕ) (table : List (List (
               let l = g .long in
               let inside : length bs ≤ length old = omega arith in
               let k : b < length bs = omega arith in
-              sofar-more (roundFlags (testOf rs) bs old) bs noBinding (round-length (testOf rs) bs old inside) new b kept flag (g .sofar rs w u lo) k (omega arith)
-              (t .flag-is rs w (omega arith) (g .numbered u) ∙ sym (round-at (testOf rs) bs old b noBinding k inside)) (t .small);
-        }
-
-    pub round-all : (bindings : ℕ) → IsPlace counts 8 bindings → (memo′ new : List ℕ) (last kept b : ℕ) → Rounding old memo stamp memo′ new last kept b → b ≤ bindings → bindings ≤ b
-        → Turns file index counts groups firsts ends table old memo stamp memo′ new kept last
-    round-all bindings at memo′ new last kept b g h k =
-        record {
-          long = g .long;
-          numbered = g .numbered;
-          flags-are = λ rs w u lo.
-              ap (λ n. take n new) (sym (bindings-many rs)) ∙ sofar-flags (roundFlags (testOf rs) (bindingsOf rs) old) (bindingsOf rs) noBinding (as-long rs w lo) new b kept (g .sofar rs w u lo) (reached rs w);
-          kept-are = λ rs w u lo.
-              sofar-kept (roundFlags (testOf rs) (bindingsOf rs) old) (bindingsOf rs) noBinding (as-long rs w lo) new b kept (g .sofar rs w u lo) (reached rs w) ∙ ap length (chosen-round (testOf rs) (bindingsOf rs) old);
+              sofar-more (roundFlags (testOf rs) bs old) bs noBinding (round-length (testOf rs) bs old inside) new b kept flag (g .sofar rs w u lo lf lc s) k (omega arith) (flag-is rs w u lo lf lc s) (t .small);
+          losing = λ rs w u lo lf lc s i l k z. go rs w u lo lf lc s i l k z (ℕ-discrete i b);
         }
       where
-        as-long : (rs : List Record) → Ready file index counts groups firsts ends table rs → length old ≡ 1024 → length (roundFlags (testOf rs) (bindingsOf rs) old) ≡ length (bindingsOf rs)
+        flag-is : (rs : List Record) → Ready file index counts groups firsts ends rs → Numbered counts firsts memo stamp → length old ≡ 1024 → length flags ≡ 1024 → length cleared ≡ 257 → Settled rs gone old → flag ≡ getD (roundFlags (testOf rs) (bindingsOf rs) old) b 0
+        flag-is rs w u lo lf lc s =
+            let (many, most) = counted rs w in
+            let bs = bindingsOf rs in
+            let all = bindings-many rs in
+            let is = at .value in
+            t .flag-is rs w (omega arith) (g .numbered u) refl s ∙ sym (round-at (testOf rs) bs old b noBinding (omega arith) (omega arith))
+
+        go : (rs : List Record) → Ready file index counts groups firsts ends rs → Numbered counts firsts memo stamp → length old ≡ 1024 → length flags ≡ 1024 → length cleared ≡ 257 → Settled rs gone old
+            → (i : ℕ) → i < b + 1 → i < count Kind.binding rs → getD lost′ (symbolOf rs i) 0 ≡ 0 → Dec (i ≡ b) → isKept (getD (roundFlags (testOf rs) (bindingsOf rs) old) i 0) ≡ isKept (getD old i 0)
+        go rs w u lo lf lc s i l k z (no ne) = g .losing rs w u lo lf lc s i (let x = ne in omega arith) k (m .stays (symbolOf rs i) z)
+        go rs w u lo lf lc s i l k z (yes e) =
+            subst (λ j. isKept (getD (roundFlags (testOf rs) (bindingsOf rs) old) j 0) ≡ isKept (getD old j 0)) (sym e)
+            (ap isKept (sym (flag-is rs w u lo lf lc s))
+            ∙ flag-stays (getD old b 0) flag lost lost′ b m (g .lost-long ∙ lc) rs w (omega arith) (ap (λ j. getD lost′ (symbolOf rs j) 0) (sym e) ∙ z)
+            (λ y. t .flag-is rs w (omega arith) (g .numbered u) refl s ∙ none-kept y (testOf rs (chosen old (bindingsOf rs)) (getD (bindingsOf rs) b noBinding))))
+
+    pub round-all : (bindings : ℕ) → IsPlace counts 8 bindings → (memo′ new lost : List ℕ) (last kept b : ℕ) → Rounding old gone memo flags cleared stamp memo′ new lost last kept b → b ≤ bindings → bindings ≤ b
+        → Turns file index counts groups firsts ends old gone memo flags cleared stamp memo′ new lost kept last
+    round-all bindings at memo′ new lost last kept b g h k =
+        record {
+          long = g .long;
+          lost-long = g .lost-long;
+          numbered = g .numbered;
+          flags-are = λ rs w u lo lf lc s. ap (λ n. take n new) (sym (bindings-many rs)) ∙ made rs w u lo lf lc s;
+          kept-are = λ rs w u lo lf lc s.
+              sofar-kept (roundFlags (testOf rs) (bindingsOf rs) old) (bindingsOf rs) noBinding (as-long rs w lo) new b kept (g .sofar rs w u lo lf lc s) (reached rs w) ∙ ap length (chosen-round (testOf rs) (bindingsOf rs) old);
+          settled = λ rs w u lo lf lc s.
+              let (many, most) = counted rs w in
+              let all = bindings-many rs in
+              let l = g .long in
+              settle w lost old new (omega arith) (omega arith) all
+              (λ i x z. ap isKept (here rs w u lo lf lc s i x) ∙ g .losing rs w u lo lf lc s i (let r = reached rs w in omega arith) x z)
+              (λ i x. here rs w u lo lf lc s i x ∙ round-at (testOf rs) (bindingsOf rs) old i noBinding (omega arith) (omega arith));
+        }
+      where
+        as-long : (rs : List Record) → Ready file index counts groups firsts ends rs → length old ≡ 1024 → length (roundFlags (testOf rs) (bindingsOf rs) old) ≡ length (bindingsOf rs)
         as-long rs w lo = let (many, most) = counted rs w in round-length (testOf rs) (bindingsOf rs) old (omega arith)
 
-        reached : (rs : List Record) → Ready file index counts groups firsts ends table rs → b ≡ length (bindingsOf rs)
+        reached : (rs : List Record) → Ready file index counts groups firsts ends rs → b ≡ length (bindingsOf rs)
         reached rs w = let (many, most) = counted rs w in let is = at .value in omega arith
 
+        made : (rs : List Record) → Ready file index counts groups firsts ends rs → Numbered counts firsts memo stamp → length old ≡ 1024 → length flags ≡ 1024 → length cleared ≡ 257 → Settled rs gone old → take (length (bindingsOf rs)) new ≡ roundFlags (testOf rs) (bindingsOf rs) old
+        made rs w u lo lf lc s = sofar-flags (roundFlags (testOf rs) (bindingsOf rs) old) (bindingsOf rs) noBinding (as-long rs w lo) new b kept (g .sofar rs w u lo lf lc s) (reached rs w)
+
+        here : (rs : List Record) → Ready file index counts groups firsts ends rs → Numbered counts firsts memo stamp → length old ≡ 1024 → length flags ≡ 1024 → length cleared ≡ 257 → Settled rs gone old
+            → (i : ℕ) → i < count Kind.binding rs → getD new i 0 ≡ getD (roundFlags (testOf rs) (bindingsOf rs) old) i 0
+        here rs w u lo lf lc s i x = let all = bindings-many rs in sym (getD-take (length (bindingsOf rs)) new i 0 (omega arith)) ∙ ap (λ l. getD l i 0) (made rs w u lo lf lc s)
+
     -- a file has no more bindings
-    pub round-refused : (bindings : ℕ) → IsPlace counts 8 bindings → 1024 < bindings → Turns file index counts groups firsts ends table old memo stamp memo (replicate 1024 0) 0 stamp
+    pub round-refused : (bindings : ℕ) → IsPlace counts 8 bindings → 1024 < bindings → Turns file index counts groups firsts ends old gone memo flags cleared stamp memo flags cleared 0 stamp
     round-refused bindings at h =
         record {
-          long = length-replicate {A = ℕ} 1024 0;
+          long = refl;
+          lost-long = refl;
           numbered = λ u. u;
-          flags-are = λ rs w u lo. absurd (let (many, most) = counted rs w in let is = at .value in omega arith);
-          kept-are = λ rs w u lo. absurd (let (many, most) = counted rs w in let is = at .value in omega arith);
+          flags-are = λ rs w u lo lf lc s. absurd (too-many rs w);
+          kept-are = λ rs w u lo lf lc s. absurd (too-many rs w);
+          settled = λ rs w u lo lf lc s. absurd (too-many rs w);
         }
+      where
+        too-many : (rs : List Record) → Ready file index counts groups firsts ends rs → ⊥
+        too-many rs w = let (many, most) = counted rs w in let is = at .value in omega arith
 
   -- Between rounds.
-  pub record Going (memo old : List ℕ) (stamp kept rounds : ℕ) : Type 0 where
+  pub record Going (memo old lost : List ℕ) (stamp kept rounds : ℕ) : Type 0 where
     pub long : length old ≡ 1024
-    pub numbered : Numbered counts memo stamp
-    pub left : (rs : List Record) → Ready file index counts groups firsts ends table rs → Left (testOf rs) (bindingsOf rs) old kept rounds
+    pub settled : (rs : List Record) → Ready file index counts groups firsts ends rs → Settled rs lost old
+    pub numbered : Numbered counts firsts memo stamp
+    pub left : (rs : List Record) → Ready file index counts groups firsts ends rs → Left (testOf rs) (bindingsOf rs) old kept rounds
 
-  pub going-none : (memo old : List ℕ) (bindings : ℕ) → IsPlace counts 8 bindings → old ≡ replicate 1024 1 → Going memo old 127 bindings 0
-  going-none memo old bindings at e =
+  pub going-none : (memo old lost : List ℕ) (bindings : ℕ) → IsPlace counts 8 bindings → old ≡ replicate 1024 1 → lost ≡ replicate 257 1 → Going memo old lost 127 bindings 0
+  going-none memo old lost bindings at e f =
       record {
         long = ap length e ∙ length-replicate {A = ℕ} 1024 1;
+        settled = λ rs w b h k u. absurd (let z = untouched lost (ruleOf rs (symbolOf rs b)) u .0 in let one = ap (λ l. getD l 256 0) f ∙ getD-replicate 257 256 1 0 (omega arith) in omega arith);
         numbered = λ k. absurd (omega arith);
         left = λ rs w. let (many, most) = counted rs w in left-start (testOf rs) (bindingsOf rs) old bindings e (omega arith) (at .value ∙ sym many);
       }
 
-  module _ (memo old : List ℕ) (stamp kept rounds : ℕ) (g : Going memo old stamp kept rounds) (memo′ new : List ℕ) (more next : ℕ)
-      (t : Turns file index counts groups firsts ends table old memo stamp memo′ new more next) where
-    pub going-more : more < kept → Going memo′ new next more (rounds + 1)
+  module _ (memo old lost : List ℕ) (stamp kept rounds : ℕ) (g : Going memo old lost stamp kept rounds) (flags marks : List ℕ) (many : length flags ≡ 1024) (all : length marks ≡ 257) (memo′ new lost′ : List ℕ) (more next : ℕ)
+      (t : Turns file index counts groups firsts ends old lost memo flags marks stamp memo′ new lost′ more next) where
+    pub going-more : more < kept → Going memo′ new lost′ next more (rounds + 1)
     going-more h =
         record {
-          long = t .long;
+          long = t .long ∙ many;
+          settled = λ rs w. t .settled rs w (g .numbered) (g .long) many all (g .settled rs w);
           numbered = t .numbered (g .numbered);
           left = λ rs w.
               left-turn (testOf rs) (bindingsOf rs) old kept rounds (g .left rs w) new more
-              (ap (λ n. take n new) (bindings-many rs) ∙ t .flags-are rs w (g .numbered) (g .long)) (t .kept-are rs w (g .numbered) (g .long)) h;
+              (ap (λ n. take n new) (bindings-many rs) ∙ t .flags-are rs w (g .numbered) (g .long) many all (g .settled rs w)) (t .kept-are rs w (g .numbered) (g .long) many all (g .settled rs w)) h;
         }
 
-    pub going-all : kept ≤ more → Shrinks file index counts groups firsts ends table old kept rounds
+    pub going-all : kept ≤ more → Shrinks file index counts groups firsts ends old kept rounds
     going-all h =
         record {
           long = g .long;
-          flags-are = λ rs w. ap (λ n. take n old) (sym (bindings-many rs)) ∙ left-flags (testOf rs) (bindingsOf rs) old kept rounds (g .left rs w) more (inside rs w) (t .kept-are rs w (g .numbered) (g .long)) h;
-          kept-are = λ rs w. left-kept (testOf rs) (bindingsOf rs) old kept rounds (g .left rs w) more (inside rs w) (t .kept-are rs w (g .numbered) (g .long)) h;
-          rounds-are = λ rs w. left-rounds (testOf rs) (bindingsOf rs) old kept rounds (g .left rs w) more (inside rs w) (t .kept-are rs w (g .numbered) (g .long)) h;
+          flags-are = λ rs w. ap (λ n. take n old) (sym (bindings-many rs)) ∙ left-flags (testOf rs) (bindingsOf rs) old kept rounds (g .left rs w) more (inside rs w) (t .kept-are rs w (g .numbered) (g .long) many all (g .settled rs w)) h;
+          kept-are = λ rs w. left-kept (testOf rs) (bindingsOf rs) old kept rounds (g .left rs w) more (inside rs w) (t .kept-are rs w (g .numbered) (g .long) many all (g .settled rs w)) h;
+          rounds-are = λ rs w. left-rounds (testOf rs) (bindingsOf rs) old kept rounds (g .left rs w) more (inside rs w) (t .kept-are rs w (g .numbered) (g .long) many all (g .settled rs w)) h;
         }
       where
-        inside : (rs : List Record) → Ready file index counts groups firsts ends table rs → length (bindingsOf rs) ≤ length old
+        inside : (rs : List Record) → Ready file index counts groups firsts ends rs → length (bindingsOf rs) ≤ length old
         inside rs w = let (many, most) = counted rs w in let l = g .long in omega arith

@@ -2,7 +2,7 @@
 -- round began, then drops those that failed".
 use Prim.Native.Nat.{ℕ, _+_, _*_, _<_, _≤_}
 use mathlib.Core.Path.{_≡_}
-use mathlib.Core.Bool.{Bool, _&&_}
+use mathlib.Core.Bool.{Bool, true, false, _&&_}
 use mathlib.Core.List.{List}
 use lib.ListN.{length, getD, take}
 use Rattle.scheme.specs.Typing.{Binding}
@@ -14,33 +14,54 @@ use Rattle.casefile.specs.Kinds.{Kind, count}
 use Rattle.casefile.specs.Tables.{planOf, automatonOf, bindingsOf}
 use Rattle.memo.specs.Memo.{Under}
 use Rattle.candidates.specs.Candidates.{noBinding}
-use Rattle.binding_tests.specs.BindingTests.{Ready, entriesFor}
+use Rattle.casefile.proofs.Passed.{Passed}
+use Rattle.entries.specs.Index.{Indexed}
+use Rattle.rule_bodies.specs.RuleBodies.{ruleOf}
+use Rattle.touched.specs.Touched.{touches}
+use Rattle.binding_tests.specs.BindingTests.{Ready, entriesFor, symbolOf}
 
 -- the test of a binding against a set, for the plan and the automaton of a file
 abbrev pub testOf : List Record → List Binding → Binding → Bool
 testOf rs = holdsExactly (automatonOf rs) (planOf rs)
 
 -- the memo is ready for the test behind test number `stamp`: unless the numbers begin again, it holds answers up to that test's
-abbrev pub Numbered : List ℕ → List ℕ → ℕ → Type 0
-Numbered counts memo stamp = stamp < 127 → Under memo (entriesFor counts) (stamp * 2 + 2)
+abbrev pub Numbered : List ℕ → List ℕ → List ℕ → ℕ → Type 0
+Numbered counts firsts memo stamp = stamp < 127 → Under memo (entriesFor counts firsts) (stamp * 2 + 2)
+
+-- `lost` has a flag for each nonterminal that lost a binding in the round before: a binding that is kept, and whose body names
+-- none of them, holds
+abbrev pub Settled : List Record → List ℕ → List ℕ → Type 0
+Settled rs lost old =
+    (b : ℕ) → b < count Kind.binding rs → isKept (getD old b 0) ≡ true → touches lost (ruleOf rs (symbolOf rs b)) ≡ false → testOf rs (chosen old (bindingsOf rs)) (getD (bindingsOf rs) b noBinding) ≡ true
+
+-- the table of such flags after binding b, which was `was`, got its new flag
+pub record Marks (file index lost : List ℕ) (b was flag : ℕ) (lost′ : List ℕ) : Type 0 where
+  pub long : length lost′ ≡ length lost
+  pub stays : (g : ℕ) → getD lost′ g 0 ≡ 0 → getD lost g 0 ≡ 0
+  pub marked : (n : ℕ) (rs : List Record) → Passed rs → Indexed file index Kind.binding n rs → n ≤ 1024 → b < n → count Kind.nonterminal rs ≤ 256 → 257 ≤ length lost → getD lost′ (symbolOf rs b) 0 ≡ 0 → (was ≡ 0 → ⊥) → flag ≡ 0 → ⊥
 
 -- the flag of binding b, which was `was`, after its test against the old flags, and the number of the last test
-pub record Retests (file index counts groups firsts ends : List ℕ) (table : List (List (List ℕ))) (old memo : List ℕ) (stamp b was : ℕ) (memo′ : List ℕ) (flag stamp′ : ℕ) : Type 0 where
+pub record Retests (file index counts groups firsts ends : List ℕ) (old lost memo : List ℕ) (stamp b was : ℕ) (memo′ : List ℕ) (flag stamp′ : ℕ) : Type 0 where
   pub small : flag ≤ 1
-  pub numbered : Numbered counts memo stamp → Numbered counts memo′ stamp′
-  pub flag-is : (rs : List Record) → Ready file index counts groups firsts ends table rs → b < count Kind.binding rs → Numbered counts memo stamp
+  pub numbered : Numbered counts firsts memo stamp → Numbered counts firsts memo′ stamp′
+  pub flag-is : (rs : List Record) → Ready file index counts groups firsts ends rs → b < count Kind.binding rs → Numbered counts firsts memo stamp → was ≡ getD old b 0 → Settled rs lost old
       → flag ≡ bit (isKept was && testOf rs (chosen old (bindingsOf rs)) (getD (bindingsOf rs) b noBinding))
 
--- the flags after a round, how many bindings it keeps, and the number of its last test
-pub record Turns (file index counts groups firsts ends : List ℕ) (table : List (List (List ℕ))) (old memo : List ℕ) (stamp : ℕ) (memo′ new : List ℕ) (kept stamp′ : ℕ) : Type 0 where
-  pub long : length new ≡ 1024
-  pub numbered : Numbered counts memo stamp → Numbered counts memo′ stamp′
-  pub flags-are : (rs : List Record) → Ready file index counts groups firsts ends table rs → Numbered counts memo stamp → length old ≡ 1024 → take (count Kind.binding rs) new ≡ roundFlags (testOf rs) (bindingsOf rs) old
-  pub kept-are : (rs : List Record) → Ready file index counts groups firsts ends table rs → Numbered counts memo stamp → length old ≡ 1024 → kept ≡ length (Rounds.round (testOf rs) (chosen old (bindingsOf rs)))
+-- the flags after a round, with those of the nonterminals that lost a binding in it, how many bindings it keeps, and the number of its last test
+pub record Turns (file index counts groups firsts ends : List ℕ) (old gone memo flags lost : List ℕ) (stamp : ℕ) (memo′ flags′ lost′ : List ℕ) (kept stamp′ : ℕ) : Type 0 where
+  pub long : length flags′ ≡ length flags
+  pub lost-long : length lost′ ≡ length lost
+  pub numbered : Numbered counts firsts memo stamp → Numbered counts firsts memo′ stamp′
+  pub flags-are : (rs : List Record) → Ready file index counts groups firsts ends rs → Numbered counts firsts memo stamp → length old ≡ 1024 → length flags ≡ 1024 → length lost ≡ 257 → Settled rs gone old
+      → take (count Kind.binding rs) flags′ ≡ roundFlags (testOf rs) (bindingsOf rs) old
+  pub kept-are : (rs : List Record) → Ready file index counts groups firsts ends rs → Numbered counts firsts memo stamp → length old ≡ 1024 → length flags ≡ 1024 → length lost ≡ 257 → Settled rs gone old
+      → kept ≡ length (Rounds.round (testOf rs) (chosen old (bindingsOf rs)))
+  pub settled : (rs : List Record) → Ready file index counts groups firsts ends rs → Numbered counts firsts memo stamp → length old ≡ 1024 → length flags ≡ 1024 → length lost ≡ 257 → Settled rs gone old
+      → Settled rs lost′ flags′
 
 -- what the rounds leave: the flags, how many bindings are kept, and how many rounds dropped something
-pub record Shrinks (file index counts groups firsts ends : List ℕ) (table : List (List (List ℕ))) (flags : List ℕ) (kept rounds : ℕ) : Type 0 where
+pub record Shrinks (file index counts groups firsts ends : List ℕ) (flags : List ℕ) (kept rounds : ℕ) : Type 0 where
   pub long : length flags ≡ 1024
-  pub flags-are : (rs : List Record) → Ready file index counts groups firsts ends table rs → take (count Kind.binding rs) flags ≡ keptFlags (testOf rs) (bindingsOf rs)
-  pub kept-are : (rs : List Record) → Ready file index counts groups firsts ends table rs → kept ≡ length (Rounds.kept (testOf rs) (bindingsOf rs))
-  pub rounds-are : (rs : List Record) → Ready file index counts groups firsts ends table rs → rounds ≡ Rounds.rounds (testOf rs) (bindingsOf rs)
+  pub flags-are : (rs : List Record) → Ready file index counts groups firsts ends rs → take (count Kind.binding rs) flags ≡ keptFlags (testOf rs) (bindingsOf rs)
+  pub kept-are : (rs : List Record) → Ready file index counts groups firsts ends rs → kept ≡ length (Rounds.kept (testOf rs) (bindingsOf rs))
+  pub rounds-are : (rs : List Record) → Ready file index counts groups firsts ends rs → rounds ≡ Rounds.rounds (testOf rs) (bindingsOf rs)

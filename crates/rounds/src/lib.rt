@@ -1,10 +1,14 @@
 // Shrinking by rounds: each round tests every binding that is kept against the set as the round began, and drops those
-// that fail; the rounds end with one that drops nothing.
+// that fail; the rounds end with one that drops nothing. A binding that held in the round before holds still where its body
+// names no nonterminal that lost a binding there, and is not tested again.
 use binding_tests::holds;
+use binding_tests::symbol_of;
 use entries::place_at;
+use lookup::entry;
 use memo::ready;
+use touched::touched;
 ghost use mathlib.Core.Path.{_≡_};
-ghost use Rattle.rounds.specs.Shrinking.{Retests, Turns, Shrinks};
+ghost use Rattle.rounds.specs.Shrinking.{Retests, Marks, Turns, Shrinks};
 
 // The flag of a binding after its test, and the number of the last test.
 struct Tested {
@@ -12,9 +16,8 @@ struct Tested {
     stamp: usize,
 }
 
-// What a round leaves: the flags, how many bindings are kept, and the number of the last test.
+// What a round leaves beside the flags: how many bindings are kept, and the number of the last test.
 struct Turn {
-    flags: [u8; 1024],
     kept: usize,
     stamp: usize,
 }
@@ -26,27 +29,33 @@ pub struct Ended {
     pub rounds: usize,
 }
 
-// Tests binding b against the flags as the round began, where its own flag says kept.
+// Tests binding b against the flags as the round began, where its own flag says kept and its body names a nonterminal that
+// lost a binding in the round before.
 fn retest(
     file: &[u8],
-    index: &[u16],
+    index: &[u16; 8034],
     counts: &[u16],
-    groups: &[u16],
+    groups: &[u16; 257],
     firsts: &[u16],
     ends: &[u16],
-    table: [[[u8; 4]; 32]; 16],
     old: &[u8; 1024],
+    lost: &[u8; 257],
     memo: &mut [u8],
     stamp: usize,
     b: usize,
     was: u8,
 ) -> Tested
-    ensures { λ r. ⌜ Retests (now (file .entry)) (now (index .entry)) (now (counts .entry)) (now (groups .entry)) (now (firsts .entry)) (now (ends .entry)) table (now (old .entry)) (now (memo .entry)) stamp b was (now (memo .exit)) (r .flag) (r .stamp) ⌝ }
+    ensures { λ r. ⌜ Retests (now (file .entry)) (now (index .entry)) (now (counts .entry)) (now (groups .entry)) (now (firsts .entry)) (now (ends .entry)) (now (old .entry)) (now (lost .entry)) (now (memo .entry)) stamp b was (now (memo .exit)) (r .flag) (r .stamp) ⌝ }
 {
     if was == 0 {
         return Tested { flag: 0, stamp };
     }
-    let fresh = ready(memo, 256 * (place_at(counts, 7) + 16), stamp);
+    let f = symbol_of(file, index, b);
+    if !touched(lost, entry(file, index, 352 + f)) {
+        return Tested { flag: 1, stamp };
+    }
+    let nodes = place_at(firsts, 256);
+    let fresh = ready(memo, nodes * (place_at(counts, 7) + 16), stamp);
     let kept = holds(
         file,
         index,
@@ -54,7 +63,6 @@ fn retest(
         groups,
         firsts,
         ends,
-        table,
         old,
         memo,
         fresh,
@@ -64,29 +72,45 @@ fn retest(
     Tested { flag, stamp: fresh }
 }
 
-// One round: the new flags of the bindings, each tested against the old ones.
+// Marks the nonterminal of binding b, which was kept or not, where its new flag says dropped.
+fn mark(file: &[u8], index: &[u16], lost: &mut [u8], b: usize, was: u8, flag: usize)
+    ensures { λ _. ⌜ Marks (now (file .entry)) (now (index .entry)) (now (lost .entry)) b was flag (now (lost .exit)) ⌝ }
+{
+    if was == 0 {
+        return;
+    }
+    if flag != 0 {
+        return;
+    }
+    let f = symbol_of(file, index, b);
+    if 256 <= f {
+        return;
+    }
+    if f < lost.len() {
+        lost[f] = 1;
+    }
+}
+
+// One round: the new flags of the bindings, each tested against the old ones; the nonterminals that lost one are marked.
 fn round(
     file: &[u8],
-    index: &[u16],
+    index: &[u16; 8034],
     counts: &[u16],
-    groups: &[u16],
+    groups: &[u16; 257],
     firsts: &[u16],
     ends: &[u16],
-    table: [[[u8; 4]; 32]; 16],
-    old: [u8; 1024],
+    old: &[u8; 1024],
+    gone: &[u8; 257],
+    flags: &mut [u8; 1024],
+    lost: &mut [u8; 257],
     memo: &mut [u8],
     stamp: usize,
 ) -> Turn
-    ensures { λ r. ⌜ Turns (now (file .entry)) (now (index .entry)) (now (counts .entry)) (now (groups .entry)) (now (firsts .entry)) (now (ends .entry)) table old (now (memo .entry)) stamp (now (memo .exit)) (r .flags) (r .kept) (r .stamp) ⌝ }
+    ensures { λ r. ⌜ Turns (now (file .entry)) (now (index .entry)) (now (counts .entry)) (now (groups .entry)) (now (firsts .entry)) (now (ends .entry)) (now (old .entry)) (now (gone .entry)) (now (memo .entry)) (now (flags .entry)) (now (lost .entry)) stamp (now (memo .exit)) (now (flags .exit)) (now (lost .exit)) (r .kept) (r .stamp) ⌝ }
 {
-    let mut flags = [0u8; 1024];
     let bindings = place_at(counts, 8);
     if 1024 < bindings {
-        return Turn {
-            flags,
-            kept: 0,
-            stamp,
-        };
+        return Turn { kept: 0, stamp };
     }
     let mut last = stamp;
     let mut kept: usize = 0;
@@ -100,43 +124,42 @@ fn round(
             groups,
             firsts,
             ends,
-            table,
-            &old,
+            old,
+            gone,
             memo,
             last,
             b,
             was,
         );
         flags[b] = tested.flag as u8;
+        mark(file, index, lost, b, was, tested.flag);
         last = tested.stamp;
         kept = kept + tested.flag;
         b = b + 1;
     }
-    Turn {
-        flags,
-        kept,
-        stamp: last,
-    }
+    Turn { kept, stamp: last }
 }
 
 // The bindings that are left when the rounds have ended; all start kept. What the memo held before does not matter.
 pub fn shrink(
     file: &[u8],
-    index: &[u16],
+    index: &[u16; 8034],
     counts: &[u16],
-    groups: &[u16],
+    groups: &[u16; 257],
     firsts: &[u16],
     ends: &[u16],
-    table: [[[u8; 4]; 32]; 16],
     memo: &mut [u8],
 ) -> Ended
-    ensures { λ r. ⌜ Shrinks (now (file .entry)) (now (index .entry)) (now (counts .entry)) (now (groups .entry)) (now (firsts .entry)) (now (ends .entry)) table (r .flags) (r .kept) (r .rounds) ⌝ }
+    ensures { λ r. ⌜ Shrinks (now (file .entry)) (now (index .entry)) (now (counts .entry)) (now (groups .entry)) (now (firsts .entry)) (now (ends .entry)) (r .flags) (r .kept) (r .rounds) ⌝ }
 {
     let mut flags = [1u8; 1024];
+    let mut gone = [1u8; 257];
+    let mut next = [0u8; 1024];
     let mut kept = place_at(counts, 8);
     let mut rounds: usize = 0;
     let mut stamp: usize = 127;
     loop {
+        let mut lost = [0u8; 257];
         let turn = round(
             file,
             index,
@@ -144,8 +167,10 @@ pub fn shrink(
             groups,
             firsts,
             ends,
-            table,
-            flags,
+            &flags,
+            &gone,
+            &mut next,
+            &mut lost,
             memo,
             stamp,
         );
@@ -156,7 +181,8 @@ pub fn shrink(
                 rounds,
             };
         }
-        flags = turn.flags;
+        flags = next;
+        gone = lost;
         kept = turn.kept;
         rounds = rounds + 1;
         stamp = turn.stamp;

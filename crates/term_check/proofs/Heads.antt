@@ -22,7 +22,8 @@ use Rattle.casefile.specs.Tables.{aritiesOf, headOf, stateCount, transitionsOf,
 use Rattle.casefile.proofs.Cells.{cellAt}
 use Rattle.goals.specs.Goals.{Goal}
 use Rattle.arrows.specs.Arrows.{off}
-use Rattle.moves.specs.Moves.{rowAt, targetsIn}
+use Rattle.moves.specs.Moves.{targetsIn}
+use Rattle.row_places.specs.RowPlaces.{IsRowIn}
 use Rattle.moves.proofs.Meaning.{states-few, no-constructor}
 use Rattle.moves.proofs.Targets.{targets-some}
 use Rattle.rows.proofs.Rows.{constructor-count}
@@ -139,7 +140,7 @@ module _ (x : Body) (rs : List Record) (τ : Ty) (s : Setting x rs τ) (c : ℕ)
   unfolding found
   con-unknown h = sym (con-has ∙ con-none targets c (λ υ. leads same heads ts υ σ) (stateCount rs) (λ q l. ap (λ o. found o (λ qs. leads same heads ts (takes qs q) σ)) (no-constructor (s .given .typed .passed) q c h)))
 
-  -- The row of the table for that state.
+  -- The row for that state.
   module _ (q : ℕ) (row : List ℕ) (fits : countᵗ ts ≤ arityIn rs c) (here : hasIn x rs τ (node (con c) ts) σ ≡ byState q) (is : targetsIn (arityIn rs c) row ≡ targets q c) where
     -- its targets do not give the goal
     pub row-fails : found (targets q c) (λ qs. same (takes (drop (countᵗ ts) qs) q) σ) ≡ false → false ≡ hasIn x rs τ (node (con c) ts) σ
@@ -230,7 +231,7 @@ module _ (x : Body) (memo : List ℕ) (i goal tag number count : ℕ) (is-tag : 
           answer = λ rs τ s r. constructed rs τ false (λ ts al c σ g. con-unknown x rs τ s number ts σ (let e = constructor-count rs (s .given .there) in let f = s .given .few in omega arith));
         }
 
-    module _ (few : q < 16) (known : number < 32) (row : List ℕ) (is-row : row ≡ rowAt (x .table) q number) (served : Bool) (serves : Serves (x .file) (x .index) (x .test .types) (x .test .constructors) row number count q goal served) where
+    module _ (few : q < 16) (known : number < 32) (row : List ℕ) (is-row : IsRowIn (x .file) (x .index) q number row) (served : Bool) (serves : Serves (x .file) (x .index) (x .test .types) (x .test .constructors) row number count q goal served) where
       module _ (rs : List Record) (τ : Ty) (s : Setting x rs τ) (ts : Terms) (c : countᵗ ts ≡ count) (σ : Ty) (g : Goal rs (x .test .types) goal σ) where
         fits : countᵗ ts ≤ arityIn rs number
         fits = let e = ends .ends rs (s .given) σ g few in let f = e .0 in omega arith
@@ -239,10 +240,10 @@ module _ (x : Body) (memo : List ℕ) (i goal tag number count : ℕ) (is-tag : 
         by-state = con-state x rs τ s number ts σ q (λ p l k e. ends .only rs (s .given) σ g p l (omega arith) (ap (λ m. off (arityIn rs number - m) σ) (sym c) ∙ e))
 
         row-targets : targetsIn (arityIn rs number) row ≡ targetsAt (transitionsOf rs) q number
-        row-targets = ap (targetsIn (arityIn rs number)) is-row ∙ s .table-is .targets q number few known
+        row-targets = ap (targetsIn (arityIn rs number)) (is-row .row few known) ∙ s .rows-are .targets q number few known
 
         four : length row ≡ 4
-        four = ap length is-row ∙ s .table-is .four q number few known
+        four = is-row .four
 
         served-is : served ≡ found (targetsAt (transitionsOf rs) q number) (λ qs. same (takes (drop (countᵗ ts) qs) q) σ)
         served-is =

@@ -6,7 +6,7 @@ use mathlib.Core.Bool.{Bool, true, false}
 use mathlib.Core.List.{List}
 use lib.ListN.{getD}
 use Rattle.records.specs.Fields.{byte, word}
-use Rattle.moves.specs.Moves.{rowAt}
+use Rattle.row_places.specs.RowPlaces.{IsRowIn}
 use Rattle.serving.specs.Serving.{EndsIn, Serves}
 use Rattle.wants.specs.Wants.{Wants, IsTarget}
 use Rattle.wants.proofs.Wanting.{want-target, want-second, follow-row}
@@ -21,8 +21,8 @@ module _ (x : Body) (memo₀ : List ℕ) (i goal q c count : ℕ) (is-c : c ≡ 
   pub targets-no-constructor : 32 ≤ c → ChecksTerm x memo₀ i goal memo₀ false
   targets-no-constructor h = no-constructor-there x memo₀ i goal tag c count is-tag is-c is-count e q ends h
 
-  -- the row of the table at the state
-  module _ (few : q < 16) (known : c < 32) (row : List ℕ) (is-row : row ≡ rowAt (x .table) q c) (served : Bool) (serves : Serves (x .file) (x .index) (x .test .types) (x .test .constructors) row c count q goal served) where
+  -- the row at the state
+  module _ (few : q < 16) (known : c < 32) (row : List ℕ) (is-row : IsRowIn (x .file) (x .index) q c row) (served : Bool) (serves : Serves (x .file) (x .index) (x .test .types) (x .test .constructors) row c count q goal served) where
     pub targets-not-served : served ≡ false → ChecksTerm x memo₀ i goal memo₀ false
     targets-not-served z = row-not-served x memo₀ i goal tag c count is-tag is-c is-count e q ends few known row is-row served serves z
 

@@ -18,7 +18,7 @@ use Rattle.casefile.specs.Tables.{headOf, nodesOf, firstTerm, automatonOf, bind
 use Rattle.casefile.proofs.Cells.{cellAt}
 use Rattle.entries.specs.Index.{Indexed}
 use Rattle.groups.specs.Groups.{Grouped}
-use Rattle.moves.specs.Moves.{TableFor}
+use Rattle.row_places.specs.RowPlaces.{RowsFor}
 use Rattle.goals.specs.Goals.{Goal}
 use Rattle.arrows.specs.Arrows.{off}
 use Rattle.serving.specs.Serving.{Given}
@@ -36,7 +36,7 @@ abbrev pub AllAt : List Node → ℕ → Terms → Type 0
 AllAt ns i ts = (rest : List Node) × (drop i ns ≡ flats ts ++ rest)
 
 -- what a check is given beside a node and a goal: the file with its index, the groups of its bindings, those that are
--- kept, the body with the ends of its subterms, the transitions, and the numbers of the test
+-- kept, the body with the ends of its subterms, and the numbers of the test
 pub record Body : Type 0 where
   pub file : List ℕ
   pub index : List ℕ
@@ -44,7 +44,6 @@ pub record Body : Type 0 where
   pub kept : List ℕ
   pub ends : List ℕ
   pub body : List ℕ
-  pub table : List (List (List ℕ))
   pub test : Test
 
 abbrev pub ns : Body → List Node
@@ -58,7 +57,7 @@ width x = x .test .types + 16
 pub record Setting (x : Body) (rs : List Record) (τ : Ty) : Type 0 where
   pub given : Given (x .file) (x .index) (x .test .types) (x .test .constructors) rs
   pub one-states : length (payloads Kind.states rs) ≤ 1
-  pub table-is : TableFor rs (x .table)
+  pub rows-are : RowsFor (x .file) (x .index) rs
   pub bindings-there : Indexed (x .file) (x .index) Kind.binding (count Kind.binding rs) rs
   pub bindings-few : count Kind.binding rs ≤ 1024
   pub groups-long : length (x .groups) ≡ 257

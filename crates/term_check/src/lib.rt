@@ -3,11 +3,13 @@ use bare_heads::bare_has;
 use candidates::candidate;
 use candidates::span_of;
 use entries::place_at;
+use goal_tables::members_of;
 use goal_tables::result_of;
 use memo::known;
 use memo::learn;
 use records::byte_at;
 use records::word_at;
+use row_places::row_in;
 use serving::row_serves;
 use serving::state_at;
 use wants::target_of;
@@ -25,21 +27,21 @@ pub struct Test {
     pub stamp: usize,
 }
 
-// Whether the term at a node has a type, a goal by its number. What is found of a term with arguments is remembered.
+// Whether the term at a node has a type, a goal by its number. What is found of a term with arguments is remembered; what
+// is remembered already the callers know.
 pub fn check_term(
     file: &[u8],
-    index: &[u16],
-    groups: &[u16],
-    kept: &[u8],
+    index: &[u16; 8034],
+    groups: &[u16; 257],
+    kept: &[u8; 1024],
     ends: &[u16],
     body: &[u8],
-    table: [[[u8; 4]; 32]; 16],
     test: Test,
     memo: &mut [u8],
     at: usize,
     goal: usize,
 ) -> bool
-    ensures { λ r. ⌜ ChecksTerm (record { file = now (file .entry); index = now (index .entry); groups = now (groups .entry); kept = now (kept .entry); ends = now (ends .entry); body = now (body .entry); table = table; test = test }) (now (memo .entry)) at goal (now (memo .exit)) r ⌝ }
+    ensures { λ r. ⌜ ChecksTerm (record { file = now (file .entry); index = now (index .entry); groups = now (groups .entry); kept = now (kept .entry); ends = now (ends .entry); body = now (body .entry); test = test }) (now (memo .entry)) at goal (now (memo .exit)) r ⌝ }
 {
     let types = test.types;
     if 1024 < types {
@@ -67,26 +69,7 @@ pub fn check_term(
             );
         }
     }
-    let old = known(memo, types + 16, test.stamp, at, goal);
-    if old == 2 {
-        return true;
-    }
-    if old == 1 {
-        return false;
-    }
-    let yes = check_head(
-        file,
-        index,
-        groups,
-        kept,
-        ends,
-        body,
-        table,
-        test,
-        memo,
-        at,
-        goal,
-    );
+    let yes = check_head(file, index, groups, kept, ends, body, test, memo, at, goal);
     learn(memo, types + 16, test.stamp, at, goal, yes);
     yes
 }
@@ -95,38 +78,28 @@ pub fn check_term(
 // state in which the goal ends, give the goal, and each argument has its target.
 fn check_head(
     file: &[u8],
-    index: &[u16],
-    groups: &[u16],
-    kept: &[u8],
+    index: &[u16; 8034],
+    groups: &[u16; 257],
+    kept: &[u8; 1024],
     ends: &[u16],
     body: &[u8],
-    table: [[[u8; 4]; 32]; 16],
     test: Test,
     memo: &mut [u8],
     at: usize,
     goal: usize,
 ) -> bool
-    ensures { λ r. ⌜ ChecksTerm (record { file = now (file .entry); index = now (index .entry); groups = now (groups .entry); kept = now (kept .entry); ends = now (ends .entry); body = now (body .entry); table = table; test = test }) (now (memo .entry)) at goal (now (memo .exit)) r ⌝ }
+    ensures { λ r. ⌜ ChecksTerm (record { file = now (file .entry); index = now (index .entry); groups = now (groups .entry); kept = now (kept .entry); ends = now (ends .entry); body = now (body .entry); test = test }) (now (memo .entry)) at goal (now (memo .exit)) r ⌝ }
 {
     if body.len() / 4 <= at {
         return false;
     }
     if byte_at(body, at * 4) != 0 {
-        return check_choices(
-            file,
-            index,
-            groups,
-            kept,
-            ends,
-            body,
-            table,
-            test,
-            memo,
-            at,
-            goal,
-        );
+        return check_choices(file, index, groups, kept, ends, body, test, memo, at, goal);
     }
     let types = test.types;
+    if 1024 < types {
+        return false;
+    }
     let constructors = test.constructors;
     let c = word_at(body, at * 4 + 1);
     let count = byte_at(body, at * 4 + 3);
@@ -138,7 +111,7 @@ fn check_head(
     if 32 <= c {
         return false;
     }
-    let row = table[q][c];
+    let row = row_in(file, index, q, c);
     if !row_serves(file, index, types, constructors, row, c, count, q, goal) {
         return false;
     }
@@ -153,20 +126,25 @@ fn check_head(
             return false;
         }
         i = i + 1;
-        if !check_term(
-            file,
-            index,
-            groups,
-            kept,
-            ends,
-            body,
-            table,
-            test,
-            memo,
-            next,
-            target,
-        ) {
+        let old = known(memo, types + 16, test.stamp, next, target);
+        if old == 1 {
             return false;
+        }
+        if old != 2 {
+            if !check_term(
+                file,
+                index,
+                groups,
+                kept,
+                ends,
+                body,
+                test,
+                memo,
+                next,
+                target,
+            ) {
+                return false;
+            }
         }
         next = end;
     }
@@ -177,18 +155,17 @@ fn check_head(
 // asks for.
 fn check_choices(
     file: &[u8],
-    index: &[u16],
-    groups: &[u16],
-    kept: &[u8],
+    index: &[u16; 8034],
+    groups: &[u16; 257],
+    kept: &[u8; 1024],
     ends: &[u16],
     body: &[u8],
-    table: [[[u8; 4]; 32]; 16],
     test: Test,
     memo: &mut [u8],
     at: usize,
     goal: usize,
 ) -> bool
-    ensures { λ r. ⌜ ChecksChoices (record { file = now (file .entry); index = now (index .entry); groups = now (groups .entry); kept = now (kept .entry); ends = now (ends .entry); body = now (body .entry); table = table; test = test }) (now (memo .entry)) at goal (now (memo .exit)) r ⌝ }
+    ensures { λ r. ⌜ ChecksChoices (record { file = now (file .entry); index = now (index .entry); groups = now (groups .entry); kept = now (kept .entry); ends = now (ends .entry); body = now (body .entry); test = test }) (now (memo .entry)) at goal (now (memo .exit)) r ⌝ }
 {
     if body.len() / 4 <= at {
         return false;
@@ -212,7 +189,6 @@ fn check_choices(
                 kept,
                 ends,
                 body,
-                table,
                 test,
                 memo,
                 first,
@@ -229,52 +205,61 @@ fn check_choices(
 // Whether the `count` arguments from node `first` on have what the type of their head asks for.
 fn check_args(
     file: &[u8],
-    index: &[u16],
-    groups: &[u16],
-    kept: &[u8],
+    index: &[u16; 8034],
+    groups: &[u16; 257],
+    kept: &[u8; 1024],
     ends: &[u16],
     body: &[u8],
-    table: [[[u8; 4]; 32]; 16],
     test: Test,
     memo: &mut [u8],
     first: usize,
     count: usize,
     head: usize,
 ) -> bool
-    ensures { λ r. ⌜ ChecksArgs (record { file = now (file .entry); index = now (index .entry); groups = now (groups .entry); kept = now (kept .entry); ends = now (ends .entry); body = now (body .entry); table = table; test = test }) (now (memo .entry)) first count false head [] (now (memo .exit)) r ⌝ }
+    ensures { λ r. ⌜ ChecksArgs (record { file = now (file .entry); index = now (index .entry); groups = now (groups .entry); kept = now (kept .entry); ends = now (ends .entry); body = now (body .entry); test = test }) (now (memo .entry)) first count false head [] (now (memo .exit)) r ⌝ }
 {
     let types = test.types;
+    if 1024 < types {
+        return false;
+    }
     let mut at = first;
     let mut i: usize = 0;
     let mut j: usize = 0;
     let mut asked = head;
+    let mut many = members_of(file, index, types, head);
     while i < count {
-        let member = wanted(file, index, types, asked, j);
+        let member = wanted(file, index, types, asked, many, j);
         if member == 65535 {
             let next = place_at(ends, at);
             if next <= at {
                 return false;
             }
             asked = result_of(index, types, asked);
+            many = members_of(file, index, types, asked);
             at = next;
             i = i + 1;
             j = 0;
         } else {
             j = j + 1;
-            if !check_term(
-                file,
-                index,
-                groups,
-                kept,
-                ends,
-                body,
-                table,
-                test,
-                memo,
-                at,
-                member,
-            ) {
+            let old = known(memo, types + 16, test.stamp, at, member);
+            if old == 1 {
                 return false;
+            }
+            if old != 2 {
+                if !check_term(
+                    file,
+                    index,
+                    groups,
+                    kept,
+                    ends,
+                    body,
+                    test,
+                    memo,
+                    at,
+                    member,
+                ) {
+                    return false;
+                }
             }
         }
     }

@@ -1,19 +1,20 @@
 // What the arguments of a head must have.
 use goal_tables::member_of;
-use goal_tables::members_of;
 ghost use mathlib.Core.Bool.{false};
 ghost use mathlib.Core.List.{List};
 ghost use Prim.Native.Nat.{ℕ};
+ghost use Rattle.goals.specs.Goals.{CountsMembers};
 ghost use Rattle.wants.specs.Wants.{Wants, IsTarget};
 
-// Member j of the set that the next argument must have, by the head's type; 65,535 behind the last.
-pub fn wanted(file: &[u8], index: &[u16], types: usize, head: usize, j: usize) -> usize
-    ensures { λ r. ⌜ ((row : List ℕ) (i : ℕ) → Wants (now (file .entry)) (now (index .entry)) types false head row i j r) ⌝ }
+// Member j of the set that the next argument must have, by the head's type, an arrow of so many members; 65,535 behind the
+// last.
+pub fn wanted(file: &[u8], index: &[u16], types: usize, head: usize, many: usize, j: usize) -> usize
+    ensures { λ r. ⌜ (CountsMembers (now (file .entry)) (now (index .entry)) types head many → (row : List ℕ) (i : ℕ) → Wants (now (file .entry)) (now (index .entry)) types false head row i j r) ⌝ }
 {
     if 15 < j {
         return 65535;
     }
-    if members_of(file, index, types, head) <= j {
+    if many <= j {
         return 65535;
     }
     member_of(file, index, types, head, j)

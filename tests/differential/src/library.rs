@@ -20,7 +20,7 @@ mod archive {
             flags: *mut u8,
             flags_length: usize,
             out: *mut [u64; 4],
-            index: *mut [u16; 7_522],
+            index: *mut [u16; 8_034],
             ends: *mut [u16; 15_000],
             fit: *mut [u8; 66_560],
             memo: *mut [u8; 266_240],
@@ -57,7 +57,7 @@ mod archive {
 
 /// Working memory that is lent to the library; its contents do not matter.
 pub struct Memory {
-    index: [u16; 7_522],
+    index: [u16; 8_034],
     ends: [u16; 15_000],
     fit: [u8; 66_560],
     memo: [u8; 266_240],
@@ -65,7 +65,7 @@ pub struct Memory {
 
 impl Memory {
     pub fn new() -> Box<Memory> {
-        Box::new(Memory { index: [0; 7_522], ends: [0; 15_000], fit: [0; 66_560], memo: [0; 266_240] })
+        Box::new(Memory { index: [0; 8_034], ends: [0; 15_000], fit: [0; 66_560], memo: [0; 266_240] })
     }
 }
 

@@ -1,8 +1,8 @@
 -- `bare_has` meets its contract. The invariant: none of the types before number j is the goal.
 use Prim.Native.Nat.{_-_}
 use native.Mathlib.Omega.{arith}
-use borrow.Author.Needs.{needs}
 use Rattle.bare_heads.proofs.Trying.{Tried, tried-start, tried-end, tried-there, tried-next}
+use borrow.Author.Needs.{needs}
 use Rattle.bare_heads.proofs.bare_has.Statement.{statement}
 use Rattle.bare_heads.proofs.bare_has.Tie as tie
 
@@ -12,35 +12,27 @@ Inv-loop file index types groups kept own nonterminal number goal span given j�
 abbrev μ-loop : tie.MeasureT-loop
 μ-loop file index types groups kept own nonterminal number goal span given j₀ j = span .high - j
 
--- src/lib.rt:20:9
 span-of-requires : tie.Need-span-of-requires Inv-loop μ-loop
 span-of-requires c κs = search needs
 
--- src/lib.rt:23:5
 loop-holds : tie.Need-loop-holds Inv-loop μ-loop
 loop-holds c = tried-start _ _ _ _ _ _ _ _ _ _ (c .span-of .ensures)
 
--- src/lib.rt:24:13
 candidate-requires : tie.Need-candidate-requires Inv-loop μ-loop
 candidate-requires c κs = search needs
 
--- src/lib.rt:26:13
 returns : tie.Need-returns Inv-loop μ-loop
-returns c = tried-there _ _ _ _ _ _ _ _ _ _ (c .before .before .before .before .before .span-of .ensures) (c .before .before .before .before .loop .inv) (c .before .before .if1 .taken) _ (c .before .candidate .ensures) (c .if2 .taken)
+returns c = tried-there _ _ _ _ _ _ _ _ _ _ (c .before .before .before .before .before .before .before .span-of .ensures) (c .before .before .before .before .before .before .loop .inv) (c .before .before .before .before .if1 .taken) _ (c .before .candidate .ensures) (c .if2 .taken)
 
--- src/lib.rt:28:13
 add-j : tie.Need-add-j Inv-loop μ-loop
 add-j c = search needs
 
--- src/lib.rt:23:5
 loop-less : tie.Need-loop-less Inv-loop μ-loop
-loop-less c = let h = c .before .before .if1 .taken in omega arith
+loop-less c = let h = c .before .before .before .before .if1 .taken in omega arith
 
--- src/lib.rt:23:5
 loop-again : tie.Need-loop-again Inv-loop μ-loop
-loop-again c = tried-next _ _ _ _ _ _ _ _ _ _ (c .before .before .before .before .before .span-of .ensures) (c .before .before .before .before .loop .inv) (c .before .before .if1 .taken) _ (c .before .candidate .ensures) (c .if2 .left) _ (omega arith)
+loop-again c = tried-next _ _ _ _ _ _ _ _ _ _ (c .before .before .before .before .before .before .before .span-of .ensures) (c .before .before .before .before .before .before .loop .inv) (c .before .before .before .before .if1 .taken) _ (c .before .candidate .ensures) (c .if2 .left) _ (omega arith)
 
--- src/lib.rt:7:1
 returns-2 : tie.Need-returns-2 Inv-loop μ-loop
 returns-2 c = tried-end _ _ _ _ _ _ _ _ _ _ (c .before .before .before .span-of .ensures) (c .before .before .loop .inv) (c .if1 .left)
 

@@ -5,65 +5,44 @@ use borrow.Author.Needs.{needs}
 use Rattle.binding_tests.proofs.holds.Statement.{statement}
 use Rattle.binding_tests.proofs.holds.Tie as tie
 
--- src/lib.rt:40:9
 returns : tie.Need-returns
-returns c = binding-far _ _ _ _ _ _ _ _ _ _ _ (c .if1 .taken)
+returns c = binding-far _ _ _ _ _ _ _ _ _ _ (c .if1 .taken)
 
--- src/lib.rt:42:9
 place-at-requires : tie.Need-place-at-requires
 place-at-requires c κs = search needs
 
--- src/lib.rt:43:9
 place-at-requires-2 : tie.Need-place-at-requires-2
 place-at-requires-2 c κs = search needs
 
--- src/lib.rt:44:35
-add-place-at : tie.Need-add-place-at
-add-place-at c = search needs
+symbol-of-requires : tie.Need-symbol-of-requires
+symbol-of-requires c κs = search needs
 
--- src/lib.rt:44:9
-place-at-requires-3 : tie.Need-place-at-requires-3
-place-at-requires-3 c κs = search needs
-
--- src/lib.rt:45:9
-word-at-requires : tie.Need-word-at-requires
-word-at-requires c κs = search needs
-
--- src/lib.rt:46:9
 own-of-requires : tie.Need-own-of-requires
 own-of-requires c κs = search needs
 
--- src/lib.rt:47:9
 final-of-requires : tie.Need-final-of-requires
 final-of-requires c κs = search needs
 
--- src/lib.rt:48:35
 add-entry : tie.Need-add-entry
-add-entry c = search needs
+add-entry c = omega (arith, c .before .before .before .before .before .symbol-of .ensures .small)
 
--- src/lib.rt:48:9
 entry-requires : tie.Need-entry-requires
 entry-requires c κs = search needs
 
--- src/lib.rt:49:32
-place-at-requires-4 : tie.Need-place-at-requires-4
-place-at-requires-4 c κs = search needs
+place-at-requires-3 : tie.Need-place-at-requires-3
+place-at-requires-3 c κs = search needs
 
--- src/lib.rt:49:9
 from-node-requires : tie.Need-from-node-requires
 from-node-requires c κs = search needs
 
--- src/lib.rt:56:5
 check-term-requires : tie.Need-check-term-requires
 check-term-requires c κs = search needs
 
--- src/lib.rt:24:1
 same-length : tie.Need-same-length
 same-length c = search needs
 
--- src/lib.rt:24:1
 returns-2 : tie.Need-returns-2
-returns-2 c = binding-tested _ _ _ _ _ _ _ _ _ _ _ _ _ _ _ _ _ _ _ _ (c .before .before .before .before .before .before .before .before .before .before .before .before .place-at .ensures .value) (c .before .before .before .before .before .before .before .before .before .before .before .place-at2 .ensures .value) (c .before .before .before .before .before .before .before .before .before .before .place-at3 .ensures .value) (c .before .before .before .before .before .before .before .before .before .word-at .ensures .value) (c .before .before .before .before .before .before .before .before .own-of .ensures) (let h = c .before .before .before .before .before .before .before .before .before .before .before .before .before .if1 .left in omega arith) (c .before .before .before .before .before .before .before .final-of .ensures) (c .before .before .before .before .before .before .entry .ensures) (c .before .before .before .before .before .place-at4 .ensures .value) (c .before .before .before .before .from-node .ensures) _ _ (c .before .before .check-term .ensures)
+returns-2 c = binding-tested _ _ _ _ _ _ _ _ _ _ _ _ _ _ _ _ _ _ (c .before .before .before .before .before .before .before .before .before .before .before .before .before .before .before .place-at .ensures .value) (c .before .before .before .before .before .before .before .before .before .before .before .before .before .before .place-at2 .ensures .value) (c .before .before .before .before .before .before .before .before .before .before .before .before .symbol-of .ensures) (c .before .before .before .before .before .before .before .before .before .before .own-of .ensures) (let h = c .before .before .before .before .before .before .before .before .before .before .before .before .before .before .before .before .if1 .left in omega arith) (c .before .before .before .before .before .before .before .before .final-of .ensures) (c .before .before .before .before .before .before .entry .ensures) (c .before .before .before .before .before .place-at3 .ensures .value) (c .before .before .before .before .from-node .ensures) _ _ (c .before .before .check-term .ensures)
 
 pub holds-spec : {M : Type 1} → statement M
 holds-spec =
@@ -72,14 +51,12 @@ holds-spec =
     returns
     place-at-requires
     place-at-requires-2
-    add-place-at
-    place-at-requires-3
-    word-at-requires
+    symbol-of-requires
     own-of-requires
     final-of-requires
     add-entry
     entry-requires
-    place-at-requires-4
+    place-at-requires-3
     from-node-requires
     check-term-requires
     same-length

@@ -1,84 +1,48 @@
--- `arrow_fits` meets its contract. The invariant: the members from byte i on decide.
-use Prim.Native.Nat.{_-_, _≤_}
-use native.Mathlib.Omega.{arith}
+-- `arrow_fits` meets its contract: the result's flag decides, and then the members do.
+use mathlib.Core.Path.{refl, sym}
+use lib.ListN.{List·getD-eq-default}
 use borrow.Author.Needs.{needs}
-use Rattle.fit_flags.proofs.Arrows.{Left, no-result, result-no, result-yes, member-no, member-yes, all-fit}
+use Rattle.fit_flags.proofs.Arrows.{result-no, result-yes}
 use Rattle.fit_flags.proofs.arrow_fits.Statement.{statement}
 use Rattle.fit_flags.proofs.arrow_fits.Tie as tie
 
-abbrev Inv-loop : tie.InvT-loop
-Inv-loop file fit place len from to result i₀ i = (i ≤ len) × Left file fit place len from to i
+returns : tie.Need-returns
+returns c = search needs
 
-abbrev μ-loop : tie.MeasureT-loop
-μ-loop file fit place len from to result i₀ i = len - i
+returns-2 : tie.Need-returns-2
+returns-2 c = search needs
 
-returns : tie.Need-returns Inv-loop μ-loop
-returns c h = absurd (omega arith)
+mul-at : tie.Need-mul-at
+mul-at c = search needs
 
-returns-2 : tie.Need-returns-2 Inv-loop μ-loop
-returns-2 c h k = absurd (omega arith)
+add-at : tie.Need-add-at
+add-at c = search needs
 
-returns-3 : tie.Need-returns-3 Inv-loop μ-loop
-returns-3 c h k = no-result _ _ _ _ _ _ (c .if3 .taken)
+returns-3 : tie.Need-returns-3
+returns-3 c e hr ht hp hl = result-no _ _ _ _ _ _ _ _ e (sym (List·getD-eq-default (c .before .before .before .before .before .args .fit .now) 0 (c .if3 .taken))) refl
 
-word-at-requires : tie.Need-word-at-requires Inv-loop μ-loop
-word-at-requires c κs = search needs
+shared-slice-read-if4 : tie.Need-shared-slice-read-if4
+shared-slice-read-if4 c = search needs
 
-flag-at-requires : tie.Need-flag-at-requires Inv-loop μ-loop
-flag-at-requires c κs = search needs
+returns-4 : tie.Need-returns-4
+returns-4 c e hr ht hp hl = result-no _ _ _ _ _ _ _ _ e refl (c .if4 .taken)
 
-returns-4 : tie.Need-returns-4 Inv-loop μ-loop
-returns-4 c h k = result-no _ _ _ _ _ _ (c .before .before .before .if3 .left) _ _ (c .before .before .word-at .ensures .value) (c .before .flag-at .ensures) (c .if4 .taken)
+members-fit-requires : tie.Need-members-fit-requires
+members-fit-requires c κs = search needs
 
-loop-holds : tie.Need-loop-holds Inv-loop μ-loop
-loop-holds c = (omega arith, result-yes _ _ _ _ _ _ (c .before .before .before .if3 .left) _ _ (c .before .before .word-at .ensures .value) (c .before .flag-at .ensures) (c .if4 .left))
-
-sub-loop : tie.Need-sub-loop Inv-loop μ-loop
-sub-loop c = omega arith
-
-add-word-at : tie.Need-add-word-at Inv-loop μ-loop
-add-word-at c = omega arith
-
-word-at-requires-2 : tie.Need-word-at-requires-2 Inv-loop μ-loop
-word-at-requires-2 c κs = search needs
-
-flag-at-requires-2 : tie.Need-flag-at-requires-2 Inv-loop μ-loop
-flag-at-requires-2 c κs = search needs
-
-returns-5 : tie.Need-returns-5 Inv-loop μ-loop
-returns-5 c h k = member-no _ _ _ _ _ _ _ _ _ (c .before .before .before .before .loop .inv .1) (omega arith) (c .before .before .word-at2 .ensures .value) (c .before .flag-at2 .ensures) (c .if5 .taken)
-
-add-i : tie.Need-add-i Inv-loop μ-loop
-add-i c = omega arith
-
-loop-less : tie.Need-loop-less Inv-loop μ-loop
-loop-less c = omega arith
-
-loop-again : tie.Need-loop-again Inv-loop μ-loop
-loop-again c = (omega arith, member-yes _ _ _ _ _ _ _ _ _ (c .before .before .before .before .loop .inv .1) (omega arith) (c .before .before .word-at2 .ensures .value) (c .before .flag-at2 .ensures) (c .if5 .left))
-
-returns-6 : tie.Need-returns-6 Inv-loop μ-loop
-returns-6 c h k = all-fit _ _ _ _ _ _ (c .before .loop .i) (c .before .loop .inv .1) (omega arith)
+returns-5 : tie.Need-returns-5
+returns-5 c e hr ht hp hl = result-yes _ _ _ _ _ _ _ _ e refl _ (c .before .if4 .left) (c .members-fit .ensures hp hl)
 
 pub arrow-fits-spec : {M : Type 1} → statement M
 arrow-fits-spec =
     tie.close
     (tie.spec
-    Inv-loop
-    μ-loop
     returns
     returns-2
+    mul-at
+    add-at
     returns-3
-    word-at-requires
-    flag-at-requires
+    shared-slice-read-if4
     returns-4
-    loop-holds
-    sub-loop
-    add-word-at
-    word-at-requires-2
-    flag-at-requires-2
-    returns-5
-    add-i
-    loop-less
-    loop-again
-    returns-6)
+    members-fit-requires
+    returns-5)

@@ -10,16 +10,28 @@ use Rattle.fits.proofs.fill_fits.Statement.{statement}
 use Rattle.fits.proofs.fill_fits.Tie as tie
 
 abbrev Inv-loop : tie.InvT-loop
-Inv-loop file index types sorts fit₀ t₀ fit t = (t ≤ types) × ((rs : List Record) → Listed file index types sorts rs → Fitted fit t sorts rs)
+Inv-loop file index types sorts fit₀ froms tos t₀ fit t = (t ≤ types) × ((rs : List Record) → Listed file index types sorts rs → Fitted fit t sorts rs)
 
 abbrev μ-loop : tie.MeasureT-loop
-μ-loop file index types sorts fit₀ t₀ fit t = types - t
+μ-loop file index types sorts fit₀ froms tos t₀ fit t = types - t
 
 returns : tie.Need-returns Inv-loop μ-loop
 returns c rs li = absurd (omega arith)
 
 returns-2 : tie.Need-returns-2 Inv-loop μ-loop
 returns-2 c rs li = absurd (omega arith)
+
+slice-aggregate-read-sorts : tie.Need-slice-aggregate-read-sorts Inv-loop μ-loop
+slice-aggregate-read-sorts c = search needs
+
+read-sorts-requires : tie.Need-read-sorts-requires Inv-loop μ-loop
+read-sorts-requires c κs = search needs
+
+slice-aggregate-read-sorts-2 : tie.Need-slice-aggregate-read-sorts-2 Inv-loop μ-loop
+slice-aggregate-read-sorts-2 c = search needs
+
+read-sorts-requires-2 : tie.Need-read-sorts-requires-2 Inv-loop μ-loop
+read-sorts-requires-2 c κs = search needs
 
 loop-holds : tie.Need-loop-holds Inv-loop μ-loop
 loop-holds c = (omega arith, λ rs li u s hu hs. absurd (omega arith))
@@ -34,7 +46,10 @@ loop-less : tie.Need-loop-less Inv-loop μ-loop
 loop-less c = omega arith
 
 loop-again : tie.Need-loop-again Inv-loop μ-loop
-loop-again c = (omega arith, λ rs li. c .fill-row .ensures _ rs li (omega arith) (c .before .before .before .loop .inv .1 rs li))
+loop-again c =
+    let b = c .before .before .before .before .before in
+    let r = b .before .before in
+    (omega arith, λ rs li. c .fill-row .ensures (r .before .before .before .read-sorts .ensures) (r .read-sorts2 .ensures) _ rs li (omega arith) (b .loop .inv .1 rs li))
 
 returns-3 : tie.Need-returns-3 Inv-loop μ-loop
 returns-3 c rs li u s hu hs = c .before .loop .inv .1 rs li u s (omega arith) hs
@@ -47,6 +62,10 @@ fill-fits-spec =
     μ-loop
     returns
     returns-2
+    slice-aggregate-read-sorts
+    read-sorts-requires
+    slice-aggregate-read-sorts-2
+    read-sorts-requires-2
     loop-holds
     fill-row-requires
     add-t

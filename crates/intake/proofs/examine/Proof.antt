@@ -1,11 +1,15 @@
-use Prim.Native.Nat.{_-_}
+-- `examine` meets its contract.
+use Prim.Native.Nat.{ℕ, _-_}
+use native.Mathlib.Omega.{arith}
+use mathlib.Core.Path.{_≡_, sym}
+use lib.ListN.{length}
 use Rattle.intake.proofs.Taking.{taken-long, taken-refused, taken-whole}
 use borrow.Author.Needs.{needs}
 use Rattle.intake.proofs.examine.Statement.{statement}
 use Rattle.intake.proofs.examine.Tie as tie
 
 returns : tie.Need-returns
-returns c = λ hi hl hc he. taken-long _ _ _ _ _ _ (c .if1 .taken)
+returns c = taken-long _ _ _ _ _ _ (c .if1 .taken)
 
 walk-requires : tie.Need-walk-requires
 walk-requires c κs = search needs
@@ -19,32 +23,11 @@ enum-told c = search needs
 test-whole-requires : tie.Need-test-whole-requires
 test-whole-requires c κs = search needs
 
-same-length : tie.Need-same-length
-same-length c = search needs
-
-same-length-2 : tie.Need-same-length-2
-same-length-2 c = search needs
-
-same-length-3 : tie.Need-same-length-3
-same-length-3 c = search needs
-
 returns-2 : tie.Need-returns-2
-returns-2 c = λ hi hl hc he. taken-refused _ _ _ _ _ _ (c .before .before .before .before .before .before .before .before .before .before .before .before .before .if1 .left) _ _ _ (c .before .walked .given .1) (c .before .before .before .before .before .before .before .before .before .walk .ensures hi hl hc (c .before .before .before .before .before .before .before .before .before .before .before .before .before .if1 .left))
-
-same-length-4 : tie.Need-same-length-4
-same-length-4 c = search needs
-
-same-length-5 : tie.Need-same-length-5
-same-length-5 c = search needs
-
-same-length-6 : tie.Need-same-length-6
-same-length-6 c = search needs
-
-same-length-7 : tie.Need-same-length-7
-same-length-7 c = search needs
+returns-2 c = let i : _≡_ {A = ℕ} 8034 (length (c .before .before .before .before .before .before .before .before .before .args .index .now)) = search needs in let l : _≡_ {A = ℕ} 65 (length (c .before .before .before .before .before .before .before .before .before .args .lens .now)) = search needs in let k : _≡_ {A = ℕ} 10 (length (c .before .before .before .before .before .before .before .before .before .args .counts .now)) = search needs in taken-refused _ _ _ _ _ _ (c .before .before .before .before .before .before .before .if1 .left) _ _ _ (c .before .walked .given .1) (c .before .before .before .walk .ensures (omega arith) (sym l) (sym k) (c .before .before .before .before .before .before .before .if1 .left))
 
 returns-3 : tie.Need-returns-3
-returns-3 c = λ hi hl hc he. taken-whole _ _ _ _ _ _ (c .before .before .before .before .before .before .before .before .before .before .before .before .before .before .before .before .before .before .before .if1 .left) _ (c .before .before .before .before .before .before .before .enum-told .given .1) (c .before .before .before .before .before .before .before .before .before .before .before .before .before .before .before .walk .ensures hi hl hc (c .before .before .before .before .before .before .before .before .before .before .before .before .before .before .before .before .before .before .before .if1 .left)) (c .before .before .before .before .before .before .before .before .before .before .before .before .before .before .before .before .before .before .before .before .before .before .before .before .before .args .ends .now) he _ (c .before .before .test-whole .ensures)
+returns-3 c = let i : _≡_ {A = ℕ} 8034 (length (c .before .before .before .before .before .before .before .before .before .before .before .before .before .before .before .args .index .now)) = search needs in let l : _≡_ {A = ℕ} 65 (length (c .before .before .before .before .before .before .before .before .before .before .before .before .before .before .before .args .lens .now)) = search needs in let k : _≡_ {A = ℕ} 10 (length (c .before .before .before .before .before .before .before .before .before .before .before .before .before .before .before .args .counts .now)) = search needs in let e : _≡_ {A = ℕ} 15000 (length (c .before .before .before .before .before .before .before .before .before .before .before .before .before .before .before .args .ends .now)) = search needs in taken-whole _ _ _ _ _ _ (c .before .before .before .before .before .before .before .before .before .before .before .before .before .if1 .left) _ (c .before .before .before .before .before .before .before .enum-told .given .1) (c .before .before .before .before .before .before .before .before .before .walk .ensures (omega arith) (sym l) (sym k) (c .before .before .before .before .before .before .before .before .before .before .before .before .before .if1 .left)) (c .before .before .before .before .before .before .before .before .before .before .before .before .before .before .before .args .ends .now) (omega arith) _ (c .test-whole .ensures)
 
 pub examine-spec : {M : Type 1} → statement M
 examine-spec =
@@ -55,12 +38,5 @@ examine-spec =
     enum-known-walked
     enum-told
     test-whole-requires
-    same-length
-    same-length-2
-    same-length-3
     returns-2
-    same-length-4
-    same-length-5
-    same-length-6
-    same-length-7
     returns-3)

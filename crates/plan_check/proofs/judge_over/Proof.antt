@@ -1,96 +1,59 @@
--- `judge_over` meets the three demands: it is shown to meet the first, from which the others follow.
-use Prim.Native.Nat.{ℕ}
-use native.Mathlib.Omega.{arith}
-use mathlib.Core.Path.{_≡_, refl}
-use lib.ListN.{length}
+-- `judge_over` meets the three demands.
 use Rattle.demands.proofs.Demands.{demand2, demand3}
 use Rattle.plan_check.proofs.Judged.{judged-refused, judged-bindings, judged-path}
 use borrow.Author.Needs.{needs}
 use Rattle.plan_check.proofs.judge_over.Statement.{statement}
 use Rattle.plan_check.proofs.judge_over.Tie as tie
 
--- src/lib.rt:88:51
-slice-aggregate-examine : tie.Need-slice-aggregate-examine
-slice-aggregate-examine c = search needs
-
--- src/lib.rt:88:63
-slice-aggregate-examine-2 : tie.Need-slice-aggregate-examine-2
-slice-aggregate-examine-2 c = search needs
-
--- src/lib.rt:88:9
 examine-requires : tie.Need-examine-requires
 examine-requires c κs = search needs
 
--- src/lib.rt:91:21
 enum-known-found : tie.Need-enum-known-found
 enum-known-found c = search needs
 
--- src/lib.rt:97:60
 enum-told : tie.Need-enum-told
 enum-told c = search needs
 
--- src/lib.rt:97:67
-slice-aggregate-judge-bindings : tie.Need-slice-aggregate-judge-bindings
-slice-aggregate-judge-bindings c = search needs
-
--- src/lib.rt:97:39
 judge-bindings-requires : tie.Need-judge-bindings-requires
 judge-bindings-requires c κs = search needs
 
--- src/lib.rt:97:27
 of-bindings-requires : tie.Need-of-bindings-requires
 of-bindings-requires c κs = search needs
 
--- src/lib.rt:98:49
 enum-told-2 : tie.Need-enum-told-2
 enum-told-2 c = search needs
 
--- src/lib.rt:98:56
-slice-aggregate-replay-path : tie.Need-slice-aggregate-replay-path
-slice-aggregate-replay-path c = search needs
-
--- src/lib.rt:98:31
 replay-path-requires : tie.Need-replay-path-requires
 replay-path-requires c κs = search needs
 
--- src/lib.rt:98:23
 of-path-requires : tie.Need-of-path-requires
 of-path-requires c κs = search needs
 
--- src/lib.rt:74:1
 returns : tie.Need-returns
-returns c = let i : _≡_ {A = ℕ} 7522 (length (c .before .before .before .before .before .before .before .before .before .before .before .before .before .before .args .index .now)) = search needs in let e : _≡_ {A = ℕ} 15000 (length (c .before .before .before .before .before .before .before .before .before .before .before .before .before .before .args .ends .now)) = search needs in let d = judged-refused _ _ (c .before .before .before .before .before .examine .ensures (omega arith) refl refl (omega arith)) _ _ (c .before .found .given .1) in (d, (demand2 _ _ _ _ d, demand3 _ _ _ _ d))
+returns c = let d = judged-refused _ _ (c .before .before .before .examine .ensures) _ _ (c .before .found .given .1) in (d, (demand2 _ _ _ _ d, demand3 _ _ _ _ d))
 
--- src/lib.rt:74:1
 same-length : tie.Need-same-length
 same-length c = search needs
 
--- src/lib.rt:74:1
 same-length-2 : tie.Need-same-length-2
 same-length-2 c = search needs
 
--- src/lib.rt:74:1
 returns-2 : tie.Need-returns-2
-returns-2 c = let i : _≡_ {A = ℕ} 7522 (length (c .before .before .before .before .before .before .before .before .before .before .before .before .before .before .before .before .before .before .before .before .before .before .before .before .before .args .index .now)) = search needs in let e : _≡_ {A = ℕ} 15000 (length (c .before .before .before .before .before .before .before .before .before .before .before .before .before .before .before .before .before .before .before .before .before .before .before .before .before .args .ends .now)) = search needs in let d = judged-bindings _ _ (c .before .before .before .before .before .before .before .before .before .before .before .before .before .before .before .before .examine .ensures (omega arith) refl refl (omega arith)) (c .before .before .before .before .before .before .before .before .before .before .before .before .enum-told .given .1) (omega arith) (c .before .before .before .before .before .judge-bindings .ensures) _ (c .of-bindings .ensures) in (d, (demand2 _ _ _ _ d, demand3 _ _ _ _ d))
+returns-2 c = let d = judged-bindings _ _ (c .before .before .before .before .before .before .before .before .before .before .before .before .before .examine .ensures) (c .before .before .before .before .before .before .before .before .before .before .before .enum-told .given .1) (c .before .before .before .before .before .judge-bindings .ensures) _ (c .of-bindings .ensures) in (d, (demand2 _ _ _ _ d, demand3 _ _ _ _ d))
 
--- src/lib.rt:74:1
 returns-3 : tie.Need-returns-3
-returns-3 c = let i : _≡_ {A = ℕ} 7522 (length (c .before .before .before .before .before .before .before .before .before .before .before .before .before .before .before .before .before .before .args .index .now)) = search needs in let e : _≡_ {A = ℕ} 15000 (length (c .before .before .before .before .before .before .before .before .before .before .before .before .before .before .before .before .before .before .args .ends .now)) = search needs in let d = judged-path _ _ (c .before .before .before .before .before .before .before .before .before .examine .ensures (omega arith) refl refl (omega arith)) (c .before .before .before .before .before .enum-told2 .given .1) _ (c .before .replay-path .ensures) _ (c .of-path .ensures) in (d, (demand2 _ _ _ _ d, demand3 _ _ _ _ d))
+returns-3 c = let d = judged-path _ _ (c .before .before .before .before .before .before .examine .ensures) (c .before .before .before .before .enum-told2 .given .1) _ (c .before .replay-path .ensures) _ (c .of-path .ensures) in (d, (demand2 _ _ _ _ d, demand3 _ _ _ _ d))
 
 pub judge-over-spec : {M : Type 1} → statement M
 judge-over-spec =
     tie.close
     (tie.spec
-    slice-aggregate-examine
-    slice-aggregate-examine-2
     examine-requires
     enum-known-found
     enum-told
-    slice-aggregate-judge-bindings
     judge-bindings-requires
     of-bindings-requires
     enum-told-2
-    slice-aggregate-replay-path
     replay-path-requires
     of-path-requires
     returns

@@ -7,7 +7,8 @@ use native.Mathlib.Omega.{arith}
 use borrow.Author.Needs.{needs}
 use borrow.Author.Tests.{not-true, not-false}
 use lib.ListN.{length}
-use Rattle.term_check.proofs.Arguments.{Args, member-few, args-start, args-end, args-stuck, args-next, args-lacks, args-has}
+use Rattle.goals.specs.Goals.{CountsMembers}
+use Rattle.term_check.proofs.Arguments.{Args, member-few, args-start, args-many, args-end, args-stuck, args-next, args-lacks, args-has}
 use Rattle.term_check.proofs.Heads.{types-many, term-past, known-yes, known-no, term-learnt, other-head}
 use Rattle.term_check.proofs.Targets.{targets-no-state, targets-no-constructor, targets-not-served, targets-told, target-past, target-stuck, target-lacks, target-has}
 use Rattle.term_check.proofs.Choices.{bare-checked, Tried, tried-start, tried-end, tried-miss, tried-fails, tried-leads}
@@ -31,11 +32,13 @@ use Rattle.bare_heads.proofs.bare_has.Reads as bare-has-reads
 use Rattle.candidates.proofs.candidate.Reads as candidate-reads
 use Rattle.candidates.proofs.span_of.Reads as span-of-reads
 use Rattle.entries.proofs.place_at.Reads as place-at-reads
+use Rattle.goal_tables.proofs.members_of.Reads as members-of-reads
 use Rattle.goal_tables.proofs.result_of.Reads as result-of-reads
 use Rattle.memo.proofs.known.Reads as known-reads
 use Rattle.memo.proofs.learn.Reads as learn-reads
 use Rattle.records.proofs.byte_at.Reads as byte-at-reads
 use Rattle.records.proofs.word_at.Reads as word-at-reads
+use Rattle.row_places.proofs.row_in.Reads as row-in-reads
 use Rattle.serving.proofs.row_serves.Reads as row-serves-reads
 use Rattle.serving.proofs.state_at.Reads as state-at-reads
 use Rattle.wants.proofs.target_of.Reads as target-of-reads
@@ -44,16 +47,16 @@ use Rattle.term_check.proofs.+check_args+check_choices+check_head+check
 use Rattle.term_check.proofs.+check_args+check_choices+check_head+check_term.Tie.{close}
 
 abbrev μ-check-args : Measures 7 check-args-kinds.ps ℕ
-μ-check-args κs a = (length (a .1 .1 .1 .1 .1 .0 .now) / 4 - a .1 .1 .1 .1 .1 .1 .1 .1 .1 .0) * 4 + 4
+μ-check-args κs a = (length (a .1 .1 .1 .1 .1 .0 .now) / 4 - a .1 .1 .1 .1 .1 .1 .1 .1 .0) * 4 + 4
 
 abbrev μ-check-choices : Measures 7 check-choices-kinds.ps ℕ
-μ-check-choices κs a = (length (a .1 .1 .1 .1 .1 .0 .now) / 4 - a .1 .1 .1 .1 .1 .1 .1 .1 .1 .0) * 4 + 1
+μ-check-choices κs a = (length (a .1 .1 .1 .1 .1 .0 .now) / 4 - a .1 .1 .1 .1 .1 .1 .1 .1 .0) * 4 + 1
 
 abbrev μ-check-head : Measures 7 check-head-kinds.ps ℕ
-μ-check-head κs a = (length (a .1 .1 .1 .1 .1 .0 .now) / 4 - a .1 .1 .1 .1 .1 .1 .1 .1 .1 .0) * 4 + 2
+μ-check-head κs a = (length (a .1 .1 .1 .1 .1 .0 .now) / 4 - a .1 .1 .1 .1 .1 .1 .1 .1 .0) * 4 + 2
 
 abbrev μ-check-term : Measures 7 check-term-kinds.ps ℕ
-μ-check-term κs a = (length (a .1 .1 .1 .1 .1 .0 .now) / 4 - a .1 .1 .1 .1 .1 .1 .1 .1 .1 .0) * 4 + 3
+μ-check-term κs a = (length (a .1 .1 .1 .1 .1 .0 .now) / 4 - a .1 .1 .1 .1 .1 .1 .1 .1 .0) * 4 + 3
 
 abbrev check-args-at : ℕ → In 7 check-args-kinds.ps
 check-args-at t =
@@ -92,239 +95,433 @@ check-term-below t =
     and 7 check-term-kinds.ps (falls 7 check-term-kinds.ps _<_ μ-check-term t) check-term.Pre
 
 abbrev check-args-Inv-loop : check-args-lts.InvT-loop
-check-args-Inv-loop file index groups kept ends body table test memo₀ first count head types at₀ i₀ j₀ asked₀ memo at i j asked = Args (record { file = file; index = index; groups = groups; kept = kept; ends = ends; body = body; table = table; test = test }) memo₀ first count false head [] memo at i j asked
+check-args-Inv-loop file index groups kept ends body test memo₀ first count head types at₀ i₀ j₀ asked₀ many₀ memo at i j asked many = (Args (record { file = file; index = index; groups = groups; kept = kept; ends = ends; body = body; test = test }) memo₀ first count false head [] memo at i j asked) × CountsMembers file index types asked many
 
 abbrev check-args-μ-loop : check-args-lts.MeasureT-loop
-check-args-μ-loop file index groups kept ends body table test memo₀ first count head types at₀ i₀ j₀ asked₀ memo at i j asked = (count - i) * 17 + (16 - j)
+check-args-μ-loop file index groups kept ends body test memo₀ first count head types at₀ i₀ j₀ asked₀ many₀ memo at i j asked many = (count - i) * 17 + (16 - j)
 
--- src/lib.rt:241:5
-check-args-loop-holds : (t : ℕ) → check-args-lts.Need-loop-holds (
+check-args-returns : (t : ℕ) → check-args-lts.Need-returns (
+  members-of-reads.Asked,
+  members-of-reads.Learnt,
   wanted-reads.Asked,
   wanted-reads.Learnt,
   place-at-reads.Asked,
   place-at-reads.Learnt,
   result-of-reads.Asked,
   result-of-reads.Learnt,
+  known-reads.Asked,
+  known-reads.Learnt,
   check-term-below t,
   check-term.Post,
 ) (check-args-at t) check-args.Post check-args-Inv-loop check-args-μ-loop
-check-args-loop-holds t c = args-start _ _ _ _ _ _ _
+check-args-returns t c = args-many _ _ _ _ _ _ _ (c .if1 .taken)
 
--- src/lib.rt:242:13
-check-args-wanted-requires : (t : ℕ) → check-args-lts.Need-wanted-requires (
+check-args-members-of-requires : (t : ℕ) → check-args-lts.Need-members-of-requires (
+  members-of-reads.Asked,
+  members-of-reads.Learnt,
   wanted-reads.Asked,
   wanted-reads.Learnt,
   place-at-reads.Asked,
   place-at-reads.Learnt,
   result-of-reads.Asked,
   result-of-reads.Learnt,
+  known-reads.Asked,
+  known-reads.Learnt,
+  check-term-below t,
+  check-term.Post,
+) (check-args-at t) check-args.Post check-args-Inv-loop check-args-μ-loop
+check-args-members-of-requires t c κs = search needs
+
+check-args-loop-holds : (t : ℕ) → check-args-lts.Need-loop-holds (
+  members-of-reads.Asked,
+  members-of-reads.Learnt,
+  wanted-reads.Asked,
+  wanted-reads.Learnt,
+  place-at-reads.Asked,
+  place-at-reads.Learnt,
+  result-of-reads.Asked,
+  result-of-reads.Learnt,
+  known-reads.Asked,
+  known-reads.Learnt,
+  check-term-below t,
+  check-term.Post,
+) (check-args-at t) check-args.Post check-args-Inv-loop check-args-μ-loop
+check-args-loop-holds t c = (args-start _ _ _ _ _ _ _, c .members-of .ensures)
+
+check-args-wanted-requires : (t : ℕ) → check-args-lts.Need-wanted-requires (
+  members-of-reads.Asked,
+  members-of-reads.Learnt,
+  wanted-reads.Asked,
+  wanted-reads.Learnt,
+  place-at-reads.Asked,
+  place-at-reads.Learnt,
+  result-of-reads.Asked,
+  result-of-reads.Learnt,
+  known-reads.Asked,
+  known-reads.Learnt,
   check-term-below t,
   check-term.Post,
 ) (check-args-at t) check-args.Post check-args-Inv-loop check-args-μ-loop
 check-args-wanted-requires t c κs = search needs
 
--- src/lib.rt:244:17
 check-args-place-at-requires : (t : ℕ) → check-args-lts.Need-place-at-requires (
+  members-of-reads.Asked,
+  members-of-reads.Learnt,
   wanted-reads.Asked,
   wanted-reads.Learnt,
   place-at-reads.Asked,
   place-at-reads.Learnt,
   result-of-reads.Asked,
   result-of-reads.Learnt,
+  known-reads.Asked,
+  known-reads.Learnt,
   check-term-below t,
   check-term.Post,
 ) (check-args-at t) check-args.Post check-args-Inv-loop check-args-μ-loop
 check-args-place-at-requires t c κs = search needs
 
--- src/lib.rt:246:17
 check-args-same-length : (t : ℕ) → check-args-lts.Need-same-length (
+  members-of-reads.Asked,
+  members-of-reads.Learnt,
   wanted-reads.Asked,
   wanted-reads.Learnt,
   place-at-reads.Asked,
   place-at-reads.Learnt,
   result-of-reads.Asked,
   result-of-reads.Learnt,
+  known-reads.Asked,
+  known-reads.Learnt,
   check-term-below t,
   check-term.Post,
 ) (check-args-at t) check-args.Post check-args-Inv-loop check-args-μ-loop
-check-args-same-length t c = c .before .before .before .before .before .loop .inv .keeps .long
+check-args-same-length t c = c .before .before .before .before .before .before .loop .inv .0 .keeps .long
 
--- src/lib.rt:246:17
-check-args-returns : (t : ℕ) → check-args-lts.Need-returns (
+check-args-returns-2 : (t : ℕ) → check-args-lts.Need-returns-2 (
+  members-of-reads.Asked,
+  members-of-reads.Learnt,
   wanted-reads.Asked,
   wanted-reads.Learnt,
   place-at-reads.Asked,
   place-at-reads.Learnt,
   result-of-reads.Asked,
   result-of-reads.Learnt,
+  known-reads.Asked,
+  known-reads.Learnt,
   check-term-below t,
   check-term.Post,
 ) (check-args-at t) check-args.Post check-args-Inv-loop check-args-μ-loop
-check-args-returns t c = args-stuck _ (c .before .before .before .before .before .loop .inv) (c .before .before .before .before .loop-test .taken) _ (c .before .before .before .wanted .ensures _ _) _ (c .before .place-at .ensures .value) (c .if2 .taken)
+check-args-returns-2 t c = args-stuck _ (c .before .before .before .before .before .before .loop .inv .0) (c .before .before .before .before .before .loop-test .taken) _ (c .before .before .before .wanted .ensures (c .before .before .before .before .before .before .loop .inv .1) _ _) _ (c .before .place-at .ensures .value) (c .if3 .taken)
 
--- src/lib.rt:248:13
 check-args-result-of-requires : (t : ℕ) → check-args-lts.Need-result-of-requires (
+  members-of-reads.Asked,
+  members-of-reads.Learnt,
   wanted-reads.Asked,
   wanted-reads.Learnt,
   place-at-reads.Asked,
   place-at-reads.Learnt,
   result-of-reads.Asked,
   result-of-reads.Learnt,
+  known-reads.Asked,
+  known-reads.Learnt,
   check-term-below t,
   check-term.Post,
 ) (check-args-at t) check-args.Post check-args-Inv-loop check-args-μ-loop
 check-args-result-of-requires t c κs = search needs
 
--- src/lib.rt:250:17
+check-args-members-of-requires-2 : (t : ℕ) → check-args-lts.Need-members-of-requires-2 (
+  members-of-reads.Asked,
+  members-of-reads.Learnt,
+  wanted-reads.Asked,
+  wanted-reads.Learnt,
+  place-at-reads.Asked,
+  place-at-reads.Learnt,
+  result-of-reads.Asked,
+  result-of-reads.Learnt,
+  known-reads.Asked,
+  known-reads.Learnt,
+  check-term-below t,
+  check-term.Post,
+) (check-args-at t) check-args.Post check-args-Inv-loop check-args-μ-loop
+check-args-members-of-requires-2 t c κs = search needs
+
 check-args-add-i : (t : ℕ) → check-args-lts.Need-add-i (
+  members-of-reads.Asked,
+  members-of-reads.Learnt,
   wanted-reads.Asked,
   wanted-reads.Learnt,
   place-at-reads.Asked,
   place-at-reads.Learnt,
   result-of-reads.Asked,
   result-of-reads.Learnt,
+  known-reads.Asked,
+  known-reads.Learnt,
   check-term-below t,
   check-term.Post,
 ) (check-args-at t) check-args.Post check-args-Inv-loop check-args-μ-loop
-check-args-add-i t c = let h = c .before .before .before .before .before .loop-test .taken in omega arith
+check-args-add-i t c = let h = c .before .before .before .before .before .before .before .before .before .loop-test .taken in omega arith
 
--- src/lib.rt:241:5
 check-args-loop-less : (t : ℕ) → check-args-lts.Need-loop-less (
+  members-of-reads.Asked,
+  members-of-reads.Learnt,
   wanted-reads.Asked,
   wanted-reads.Learnt,
   place-at-reads.Asked,
   place-at-reads.Learnt,
   result-of-reads.Asked,
   result-of-reads.Learnt,
+  known-reads.Asked,
+  known-reads.Learnt,
   check-term-below t,
   check-term.Post,
 ) (check-args-at t) check-args.Post check-args-Inv-loop check-args-μ-loop
-check-args-loop-less t c = let h = c .before .before .before .before .before .loop-test .taken in let f = c .before .before .before .before .before .before .loop .inv .few in omega arith
+check-args-loop-less t c = let h = c .before .before .before .before .before .before .before .before .before .loop-test .taken in let f = c .before .before .before .before .before .before .before .before .before .before .loop .inv .0 .few in omega arith
 
--- src/lib.rt:241:5
 check-args-loop-again : (t : ℕ) → check-args-lts.Need-loop-again (
+  members-of-reads.Asked,
+  members-of-reads.Learnt,
   wanted-reads.Asked,
   wanted-reads.Learnt,
   place-at-reads.Asked,
   place-at-reads.Learnt,
   result-of-reads.Asked,
   result-of-reads.Learnt,
+  known-reads.Asked,
+  known-reads.Learnt,
   check-term-below t,
   check-term.Post,
 ) (check-args-at t) check-args.Post check-args-Inv-loop check-args-μ-loop
-check-args-loop-again t c = args-next _ (c .before .before .before .before .before .before .loop .inv) (c .before .before .before .before .before .loop-test .taken) _ (c .before .before .before .before .wanted .ensures _ _) (c .before .before .before .if1 .taken) _ _ _ (c .before .before .place-at .ensures .value) (let h = c .before .if2 .left in omega arith) (follow-result _ (c .result-of .ensures)) (omega arith)
+check-args-loop-again t c = (args-next _ (c .before .before .before .before .before .before .before .before .before .before .loop .inv .0) (c .before .before .before .before .before .before .before .before .before .loop-test .taken) _ (c .before .before .before .before .before .before .before .wanted .ensures (c .before .before .before .before .before .before .before .before .before .before .loop .inv .1) _ _) (c .before .before .before .before .before .before .if2 .taken) _ _ _ (c .before .before .before .before .before .place-at .ensures .value) (let h = c .before .before .before .before .if3 .left in omega arith) (follow-result _ (c .before .before .result-of .ensures)) (omega arith), c .members-of2 .ensures)
 
--- src/lib.rt:253:17
 check-args-add-j : (t : ℕ) → check-args-lts.Need-add-j (
+  members-of-reads.Asked,
+  members-of-reads.Learnt,
   wanted-reads.Asked,
   wanted-reads.Learnt,
   place-at-reads.Asked,
   place-at-reads.Learnt,
   result-of-reads.Asked,
   result-of-reads.Learnt,
+  known-reads.Asked,
+  known-reads.Learnt,
   check-term-below t,
   check-term.Post,
 ) (check-args-at t) check-args.Post check-args-Inv-loop check-args-μ-loop
-check-args-add-j t c = let f = c .before .before .before .loop .inv .few in omega arith
+check-args-add-j t c = let f = c .before .before .before .before .loop .inv .0 .few in omega arith
 
--- src/lib.rt:254:17
-check-args-check-term-requires : (t : ℕ) → check-args-lts.Need-check-term-requires (
+check-args-add-known : (t : ℕ) → check-args-lts.Need-add-known (
+  members-of-reads.Asked,
+  members-of-reads.Learnt,
   wanted-reads.Asked,
   wanted-reads.Learnt,
   place-at-reads.Asked,
   place-at-reads.Learnt,
   result-of-reads.Asked,
   result-of-reads.Learnt,
+  known-reads.Asked,
+  known-reads.Learnt,
   check-term-below t,
   check-term.Post,
 ) (check-args-at t) check-args.Post check-args-Inv-loop check-args-μ-loop
-check-args-check-term-requires t c κs = let p = c .before .before .before .before .before .before .before .before .before .before .before .before .pre .0 in let f = c .before .before .before .before .loop .inv .forward in (omega arith, Prim.tt)
+check-args-add-known t c = let h = c .before .before .before .before .before .before .before .before .if1 .left in omega arith
 
--- src/lib.rt:267:17
+check-args-known-requires : (t : ℕ) → check-args-lts.Need-known-requires (
+  members-of-reads.Asked,
+  members-of-reads.Learnt,
+  wanted-reads.Asked,
+  wanted-reads.Learnt,
+  place-at-reads.Asked,
+  place-at-reads.Learnt,
+  result-of-reads.Asked,
+  result-of-reads.Learnt,
+  known-reads.Asked,
+  known-reads.Learnt,
+  check-term-below t,
+  check-term.Post,
+) (check-args-at t) check-args.Post check-args-Inv-loop check-args-μ-loop
+check-args-known-requires t c κs = search needs
+
 check-args-same-length-2 : (t : ℕ) → check-args-lts.Need-same-length-2 (
+  members-of-reads.Asked,
+  members-of-reads.Learnt,
   wanted-reads.Asked,
   wanted-reads.Learnt,
   place-at-reads.Asked,
   place-at-reads.Learnt,
   result-of-reads.Asked,
   result-of-reads.Learnt,
+  known-reads.Asked,
+  known-reads.Learnt,
   check-term-below t,
   check-term.Post,
 ) (check-args-at t) check-args.Post check-args-Inv-loop check-args-μ-loop
-check-args-same-length-2 t c = (args-lacks _ (c .before .before .before .before .before .before .before .before .loop .inv) (c .before .before .before .before .before .before .before .loop-test .taken) _ (c .before .before .before .before .before .before .wanted .ensures _ _) (c .before .before .before .before .before .if1 .left) _ _ (c .before .before .before .check-term .ensures) (not-true _ (c .if3 .taken))) .keeps .long
+check-args-same-length-2 t c = c .before .before .before .before .before .before .before .loop .inv .0 .keeps .long
 
--- src/lib.rt:267:17
-check-args-returns-2 : (t : ℕ) → check-args-lts.Need-returns-2 (
-  wanted-reads.Asked,
-  wanted-reads.Learnt,
-  place-at-reads.Asked,
-  place-at-reads.Learnt,
-  result-of-reads.Asked,
-  result-of-reads.Learnt,
-  check-term-below t,
-  check-term.Post,
-) (check-args-at t) check-args.Post check-args-Inv-loop check-args-μ-loop
-check-args-returns-2 t c = args-lacks _ (c .before .before .before .before .before .before .before .before .loop .inv) (c .before .before .before .before .before .before .before .loop-test .taken) _ (c .before .before .before .before .before .before .wanted .ensures _ _) (c .before .before .before .before .before .if1 .left) _ _ (c .before .before .before .check-term .ensures) (not-true _ (c .if3 .taken))
-
--- src/lib.rt:241:5
-check-args-loop-less-2 : (t : ℕ) → check-args-lts.Need-loop-less-2 (
-  wanted-reads.Asked,
-  wanted-reads.Learnt,
-  place-at-reads.Asked,
-  place-at-reads.Learnt,
-  result-of-reads.Asked,
-  result-of-reads.Learnt,
-  check-term-below t,
-  check-term.Post,
-) (check-args-at t) check-args.Post check-args-Inv-loop check-args-μ-loop
-check-args-loop-less-2 t c = let h = c .before .before .before .before .before .before .before .loop-test .taken in let f = member-few _ _ (c .before .before .before .before .before .before .wanted .ensures [] 0 .few) (c .before .before .before .before .before .if1 .left) in omega arith
-
--- src/lib.rt:241:5
-check-args-loop-again-2 : (t : ℕ) → check-args-lts.Need-loop-again-2 (
-  wanted-reads.Asked,
-  wanted-reads.Learnt,
-  place-at-reads.Asked,
-  place-at-reads.Learnt,
-  result-of-reads.Asked,
-  result-of-reads.Learnt,
-  check-term-below t,
-  check-term.Post,
-) (check-args-at t) check-args.Post check-args-Inv-loop check-args-μ-loop
-check-args-loop-again-2 t c = args-has _ (c .before .before .before .before .before .before .before .before .loop .inv) (c .before .before .before .before .before .before .before .loop-test .taken) _ (c .before .before .before .before .before .before .wanted .ensures _ _) (c .before .before .before .before .before .if1 .left) _ _ (c .before .before .before .check-term .ensures) (not-false _ (c .if3 .left)) _ (omega arith)
-
--- src/lib.rt:220:1
-check-args-same-length-3 : (t : ℕ) → check-args-lts.Need-same-length-3 (
-  wanted-reads.Asked,
-  wanted-reads.Learnt,
-  place-at-reads.Asked,
-  place-at-reads.Learnt,
-  result-of-reads.Asked,
-  result-of-reads.Learnt,
-  check-term-below t,
-  check-term.Post,
-) (check-args-at t) check-args.Post check-args-Inv-loop check-args-μ-loop
-check-args-same-length-3 t c = c .before .loop .inv .keeps .long
-
--- src/lib.rt:220:1
 check-args-returns-3 : (t : ℕ) → check-args-lts.Need-returns-3 (
+  members-of-reads.Asked,
+  members-of-reads.Learnt,
   wanted-reads.Asked,
   wanted-reads.Learnt,
   place-at-reads.Asked,
   place-at-reads.Learnt,
   result-of-reads.Asked,
   result-of-reads.Learnt,
+  known-reads.Asked,
+  known-reads.Learnt,
   check-term-below t,
   check-term.Post,
 ) (check-args-at t) check-args.Post check-args-Inv-loop check-args-μ-loop
-check-args-returns-3 t c = args-end _ (c .before .loop .inv) (omega arith)
+check-args-returns-3 t c = args-lacks _ (c .before .before .before .before .before .before .before .loop .inv .0) (c .before .before .before .before .before .before .loop-test .taken) _ (c .before .before .before .before .wanted .ensures (c .before .before .before .before .before .before .before .loop .inv .1) _ _) (c .before .before .before .if2 .left) _ _ (known-no _ _ _ _ _ (c .before .known .ensures) (c .if4 .taken)) refl
+
+check-args-check-term-requires : (t : ℕ) → check-args-lts.Need-check-term-requires (
+  members-of-reads.Asked,
+  members-of-reads.Learnt,
+  wanted-reads.Asked,
+  wanted-reads.Learnt,
+  place-at-reads.Asked,
+  place-at-reads.Learnt,
+  result-of-reads.Asked,
+  result-of-reads.Learnt,
+  known-reads.Asked,
+  known-reads.Learnt,
+  check-term-below t,
+  check-term.Post,
+) (check-args-at t) check-args.Post check-args-Inv-loop check-args-μ-loop
+check-args-check-term-requires t c κs = let p = c .before .before .before .before .before .before .before .before .before .before .before .before .before .before .before .before .before .pre .0 in let f = c .before .before .before .before .before .before .before .before .before .loop .inv .0 .forward in (omega arith, Prim.tt)
+
+check-args-same-length-3 : (t : ℕ) → check-args-lts.Need-same-length-3 (
+  members-of-reads.Asked,
+  members-of-reads.Learnt,
+  wanted-reads.Asked,
+  wanted-reads.Learnt,
+  place-at-reads.Asked,
+  place-at-reads.Learnt,
+  result-of-reads.Asked,
+  result-of-reads.Learnt,
+  known-reads.Asked,
+  known-reads.Learnt,
+  check-term-below t,
+  check-term.Post,
+) (check-args-at t) check-args.Post check-args-Inv-loop check-args-μ-loop
+check-args-same-length-3 t c = (args-lacks _ (c .before .before .before .before .before .before .before .before .before .before .before .before .before .loop .inv .0) (c .before .before .before .before .before .before .before .before .before .before .before .before .loop-test .taken) _ (c .before .before .before .before .before .before .before .before .before .before .wanted .ensures (c .before .before .before .before .before .before .before .before .before .before .before .before .before .loop .inv .1) _ _) (c .before .before .before .before .before .before .before .before .before .if2 .left) _ _ (c .before .before .before .check-term .ensures) (not-true _ (c .if6 .taken))) .keeps .long
+
+check-args-returns-4 : (t : ℕ) → check-args-lts.Need-returns-4 (
+  members-of-reads.Asked,
+  members-of-reads.Learnt,
+  wanted-reads.Asked,
+  wanted-reads.Learnt,
+  place-at-reads.Asked,
+  place-at-reads.Learnt,
+  result-of-reads.Asked,
+  result-of-reads.Learnt,
+  known-reads.Asked,
+  known-reads.Learnt,
+  check-term-below t,
+  check-term.Post,
+) (check-args-at t) check-args.Post check-args-Inv-loop check-args-μ-loop
+check-args-returns-4 t c = args-lacks _ (c .before .before .before .before .before .before .before .before .before .before .before .before .before .loop .inv .0) (c .before .before .before .before .before .before .before .before .before .before .before .before .loop-test .taken) _ (c .before .before .before .before .before .before .before .before .before .before .wanted .ensures (c .before .before .before .before .before .before .before .before .before .before .before .before .before .loop .inv .1) _ _) (c .before .before .before .before .before .before .before .before .before .if2 .left) _ _ (c .before .before .before .check-term .ensures) (not-true _ (c .if6 .taken))
+
+check-args-loop-less-2 : (t : ℕ) → check-args-lts.Need-loop-less-2 (
+  members-of-reads.Asked,
+  members-of-reads.Learnt,
+  wanted-reads.Asked,
+  wanted-reads.Learnt,
+  place-at-reads.Asked,
+  place-at-reads.Learnt,
+  result-of-reads.Asked,
+  result-of-reads.Learnt,
+  known-reads.Asked,
+  known-reads.Learnt,
+  check-term-below t,
+  check-term.Post,
+) (check-args-at t) check-args.Post check-args-Inv-loop check-args-μ-loop
+check-args-loop-less-2 t c = let h = c .before .before .before .before .before .before .before .before .before .before .before .before .loop-test .taken in let f = member-few _ _ (c .before .before .before .before .before .before .before .before .before .before .wanted .ensures (c .before .before .before .before .before .before .before .before .before .before .before .before .before .loop .inv .1) [] 0 .few) (c .before .before .before .before .before .before .before .before .before .if2 .left) in omega arith
+
+check-args-loop-again-2 : (t : ℕ) → check-args-lts.Need-loop-again-2 (
+  members-of-reads.Asked,
+  members-of-reads.Learnt,
+  wanted-reads.Asked,
+  wanted-reads.Learnt,
+  place-at-reads.Asked,
+  place-at-reads.Learnt,
+  result-of-reads.Asked,
+  result-of-reads.Learnt,
+  known-reads.Asked,
+  known-reads.Learnt,
+  check-term-below t,
+  check-term.Post,
+) (check-args-at t) check-args.Post check-args-Inv-loop check-args-μ-loop
+check-args-loop-again-2 t c = (args-has _ (c .before .before .before .before .before .before .before .before .before .before .before .before .before .loop .inv .0) (c .before .before .before .before .before .before .before .before .before .before .before .before .loop-test .taken) _ (c .before .before .before .before .before .before .before .before .before .before .wanted .ensures (c .before .before .before .before .before .before .before .before .before .before .before .before .before .loop .inv .1) _ _) (c .before .before .before .before .before .before .before .before .before .if2 .left) _ _ (c .before .before .before .check-term .ensures) (not-false _ (c .if6 .left)) _ (omega arith), c .before .before .before .before .before .before .before .before .before .before .before .before .before .loop .inv .1)
+
+check-args-loop-less-3 : (t : ℕ) → check-args-lts.Need-loop-less-3 (
+  members-of-reads.Asked,
+  members-of-reads.Learnt,
+  wanted-reads.Asked,
+  wanted-reads.Learnt,
+  place-at-reads.Asked,
+  place-at-reads.Learnt,
+  result-of-reads.Asked,
+  result-of-reads.Learnt,
+  known-reads.Asked,
+  known-reads.Learnt,
+  check-term-below t,
+  check-term.Post,
+) (check-args-at t) check-args.Post check-args-Inv-loop check-args-μ-loop
+check-args-loop-less-3 t c = let h = c .before .before .before .before .before .before .before .loop-test .taken in let f = member-few _ _ (c .before .before .before .before .before .wanted .ensures (c .before .before .before .before .before .before .before .before .loop .inv .1) [] 0 .few) (c .before .before .before .before .if2 .left) in omega arith
+
+check-args-loop-again-3 : (t : ℕ) → check-args-lts.Need-loop-again-3 (
+  members-of-reads.Asked,
+  members-of-reads.Learnt,
+  wanted-reads.Asked,
+  wanted-reads.Learnt,
+  place-at-reads.Asked,
+  place-at-reads.Learnt,
+  result-of-reads.Asked,
+  result-of-reads.Learnt,
+  known-reads.Asked,
+  known-reads.Learnt,
+  check-term-below t,
+  check-term.Post,
+) (check-args-at t) check-args.Post check-args-Inv-loop check-args-μ-loop
+check-args-loop-again-3 t c = (args-has _ (c .before .before .before .before .before .before .before .before .loop .inv .0) (c .before .before .before .before .before .before .before .loop-test .taken) _ (c .before .before .before .before .before .wanted .ensures (c .before .before .before .before .before .before .before .before .loop .inv .1) _ _) (c .before .before .before .before .if2 .left) _ _ (known-yes _ _ _ _ _ (c .before .before .known .ensures) (c .if5 .left)) refl _ (omega arith), c .before .before .before .before .before .before .before .before .loop .inv .1)
+
+check-args-same-length-4 : (t : ℕ) → check-args-lts.Need-same-length-4 (
+  members-of-reads.Asked,
+  members-of-reads.Learnt,
+  wanted-reads.Asked,
+  wanted-reads.Learnt,
+  place-at-reads.Asked,
+  place-at-reads.Learnt,
+  result-of-reads.Asked,
+  result-of-reads.Learnt,
+  known-reads.Asked,
+  known-reads.Learnt,
+  check-term-below t,
+  check-term.Post,
+) (check-args-at t) check-args.Post check-args-Inv-loop check-args-μ-loop
+check-args-same-length-4 t c = c .before .loop .inv .0 .keeps .long
+
+check-args-returns-5 : (t : ℕ) → check-args-lts.Need-returns-5 (
+  members-of-reads.Asked,
+  members-of-reads.Learnt,
+  wanted-reads.Asked,
+  wanted-reads.Learnt,
+  place-at-reads.Asked,
+  place-at-reads.Learnt,
+  result-of-reads.Asked,
+  result-of-reads.Learnt,
+  known-reads.Asked,
+  known-reads.Learnt,
+  check-term-below t,
+  check-term.Post,
+) (check-args-at t) check-args.Post check-args-Inv-loop check-args-μ-loop
+check-args-returns-5 t c = args-end _ (c .before .loop .inv .0) (omega arith)
 
 abbrev check-choices-Inv-loop : check-choices-lts.InvT-loop
-check-choices-Inv-loop file index groups kept ends body table test memo₀ at goal first nonterminal number count types span given j₀ memo j = Tried (record { file = file; index = index; groups = groups; kept = kept; ends = ends; body = body; table = table; test = test }) at goal nonterminal number count span memo₀ memo j
+check-choices-Inv-loop file index groups kept ends body test memo₀ at goal first nonterminal number count types span given j₀ memo j = Tried (record { file = file; index = index; groups = groups; kept = kept; ends = ends; body = body; test = test }) at goal nonterminal number count span memo₀ memo j
 
 abbrev check-choices-μ-loop : check-choices-lts.MeasureT-loop
-check-choices-μ-loop file index groups kept ends body table test memo₀ at goal first nonterminal number count types span given j₀ memo j = span .high - j
+check-choices-μ-loop file index groups kept ends body test memo₀ at goal first nonterminal number count types span given j₀ memo j = span .high - j
 
--- src/lib.rt:184:9
 check-choices-returns : (t : ℕ) → check-choices-lts.Need-returns (
   byte-at-reads.Asked,
   byte-at-reads.Learnt,
@@ -339,7 +536,6 @@ check-choices-returns : (t : ℕ) → check-choices-lts.Need-returns (
 ) (check-choices-at t) check-choices.Post check-choices-Inv-loop check-choices-μ-loop
 check-choices-returns t c = λ other. term-past _ _ _ _ (c .if1 .taken)
 
--- src/lib.rt:186:17
 check-choices-add-first : (t : ℕ) → check-choices-lts.Need-add-first (
   byte-at-reads.Asked,
   byte-at-reads.Learnt,
@@ -354,7 +550,6 @@ check-choices-add-first : (t : ℕ) → check-choices-lts.Need-add-first (
 ) (check-choices-at t) check-choices.Post check-choices-Inv-loop check-choices-μ-loop
 check-choices-add-first t c = search needs
 
--- src/lib.rt:187:37
 check-choices-mul-byte-at : (t : ℕ) → check-choices-lts.Need-mul-byte-at (
   byte-at-reads.Asked,
   byte-at-reads.Learnt,
@@ -369,7 +564,6 @@ check-choices-mul-byte-at : (t : ℕ) → check-choices-lts.Need-mul-byte-at (
 ) (check-choices-at t) check-choices.Post check-choices-Inv-loop check-choices-μ-loop
 check-choices-mul-byte-at t c = search needs
 
--- src/lib.rt:187:23
 check-choices-byte-at-requires : (t : ℕ) → check-choices-lts.Need-byte-at-requires (
   byte-at-reads.Asked,
   byte-at-reads.Learnt,
@@ -384,7 +578,6 @@ check-choices-byte-at-requires : (t : ℕ) → check-choices-lts.Need-byte-at-re
 ) (check-choices-at t) check-choices.Post check-choices-Inv-loop check-choices-μ-loop
 check-choices-byte-at-requires t c κs = search needs
 
--- src/lib.rt:188:32
 check-choices-mul-word-at : (t : ℕ) → check-choices-lts.Need-mul-word-at (
   byte-at-reads.Asked,
   byte-at-reads.Learnt,
@@ -399,7 +592,6 @@ check-choices-mul-word-at : (t : ℕ) → check-choices-lts.Need-mul-word-at (
 ) (check-choices-at t) check-choices.Post check-choices-Inv-loop check-choices-μ-loop
 check-choices-mul-word-at t c = search needs
 
--- src/lib.rt:188:32
 check-choices-add-word-at : (t : ℕ) → check-choices-lts.Need-add-word-at (
   byte-at-reads.Asked,
   byte-at-reads.Learnt,
@@ -414,7 +606,6 @@ check-choices-add-word-at : (t : ℕ) → check-choices-lts.Need-add-word-at (
 ) (check-choices-at t) check-choices.Post check-choices-Inv-loop check-choices-μ-loop
 check-choices-add-word-at t c = search needs
 
--- src/lib.rt:188:9
 check-choices-word-at-requires : (t : ℕ) → check-choices-lts.Need-word-at-requires (
   byte-at-reads.Asked,
   byte-at-reads.Learnt,
@@ -429,7 +620,6 @@ check-choices-word-at-requires : (t : ℕ) → check-choices-lts.Need-word-at-re
 ) (check-choices-at t) check-choices.Post check-choices-Inv-loop check-choices-μ-loop
 check-choices-word-at-requires t c κs = search needs
 
--- src/lib.rt:189:31
 check-choices-mul-byte-at-2 : (t : ℕ) → check-choices-lts.Need-mul-byte-at-2 (
   byte-at-reads.Asked,
   byte-at-reads.Learnt,
@@ -444,7 +634,6 @@ check-choices-mul-byte-at-2 : (t : ℕ) → check-choices-lts.Need-mul-byte-at-2
 ) (check-choices-at t) check-choices.Post check-choices-Inv-loop check-choices-μ-loop
 check-choices-mul-byte-at-2 t c = search needs
 
--- src/lib.rt:189:31
 check-choices-add-byte-at : (t : ℕ) → check-choices-lts.Need-add-byte-at (
   byte-at-reads.Asked,
   byte-at-reads.Learnt,
@@ -459,7 +648,6 @@ check-choices-add-byte-at : (t : ℕ) → check-choices-lts.Need-add-byte-at (
 ) (check-choices-at t) check-choices.Post check-choices-Inv-loop check-choices-μ-loop
 check-choices-add-byte-at t c = search needs
 
--- src/lib.rt:189:9
 check-choices-byte-at-requires-2 : (t : ℕ) → check-choices-lts.Need-byte-at-requires-2 (
   byte-at-reads.Asked,
   byte-at-reads.Learnt,
@@ -474,7 +662,6 @@ check-choices-byte-at-requires-2 : (t : ℕ) → check-choices-lts.Need-byte-at-
 ) (check-choices-at t) check-choices.Post check-choices-Inv-loop check-choices-μ-loop
 check-choices-byte-at-requires-2 t c κs = search needs
 
--- src/lib.rt:191:9
 check-choices-span-of-requires : (t : ℕ) → check-choices-lts.Need-span-of-requires (
   byte-at-reads.Asked,
   byte-at-reads.Learnt,
@@ -489,7 +676,6 @@ check-choices-span-of-requires : (t : ℕ) → check-choices-lts.Need-span-of-re
 ) (check-choices-at t) check-choices.Post check-choices-Inv-loop check-choices-μ-loop
 check-choices-span-of-requires t c κs = search needs
 
--- src/lib.rt:194:5
 check-choices-loop-holds : (t : ℕ) → check-choices-lts.Need-loop-holds (
   byte-at-reads.Asked,
   byte-at-reads.Learnt,
@@ -502,9 +688,8 @@ check-choices-loop-holds : (t : ℕ) → check-choices-lts.Need-loop-holds (
   check-args-below t,
   check-args.Post,
 ) (check-choices-at t) check-choices.Post check-choices-Inv-loop check-choices-μ-loop
-check-choices-loop-holds t c = tried-start _ _ _ _ _ _ _ (c .before .byte-at2 .ensures .value) (let h = c .before .before .before .before .if1 .left in omega arith) (c .span-of .ensures) _ _ refl
+check-choices-loop-holds t c = tried-start _ _ _ _ _ _ _ (c .before .before .before .byte-at2 .ensures .value) (let h = c .before .before .before .before .before .before .if1 .left in omega arith) (c .span-of .ensures) _ _ refl
 
--- src/lib.rt:195:13
 check-choices-candidate-requires : (t : ℕ) → check-choices-lts.Need-candidate-requires (
   byte-at-reads.Asked,
   byte-at-reads.Learnt,
@@ -519,7 +704,6 @@ check-choices-candidate-requires : (t : ℕ) → check-choices-lts.Need-candidat
 ) (check-choices-at t) check-choices.Post check-choices-Inv-loop check-choices-μ-loop
 check-choices-candidate-requires t c κs = search needs
 
--- src/lib.rt:196:13
 check-choices-add-j : (t : ℕ) → check-choices-lts.Need-add-j (
   byte-at-reads.Asked,
   byte-at-reads.Learnt,
@@ -534,7 +718,6 @@ check-choices-add-j : (t : ℕ) → check-choices-lts.Need-add-j (
 ) (check-choices-at t) check-choices.Post check-choices-Inv-loop check-choices-μ-loop
 check-choices-add-j t c = search needs
 
--- src/lib.rt:198:16
 check-choices-check-args-requires : (t : ℕ) → check-choices-lts.Need-check-args-requires (
   byte-at-reads.Asked,
   byte-at-reads.Learnt,
@@ -547,9 +730,8 @@ check-choices-check-args-requires : (t : ℕ) → check-choices-lts.Need-check-a
   check-args-below t,
   check-args.Post,
 ) (check-choices-at t) check-choices.Post check-choices-Inv-loop check-choices-μ-loop
-check-choices-check-args-requires t c κs = let p = c .before .before .before .before .before .before .before .before .before .before .before .before .before .before .before .before .before .before .pre .0 in let h = c .before .before .before .before .before .before .before .before .before .before .if1 .left in (omega arith, Prim.tt)
+check-choices-check-args-requires t c κs = let p = c .before .before .before .before .before .before .before .before .before .before .before .before .before .before .before .before .before .before .before .pre .0 in let h = c .before .before .before .before .before .before .before .before .before .before .before .before .before .before .if1 .left in (omega arith, Prim.tt)
 
--- src/lib.rt:212:17
 check-choices-same-length : (t : ℕ) → check-choices-lts.Need-same-length (
   byte-at-reads.Asked,
   byte-at-reads.Learnt,
@@ -562,9 +744,8 @@ check-choices-same-length : (t : ℕ) → check-choices-lts.Need-same-length (
   check-args-below t,
   check-args.Post,
 ) (check-choices-at t) check-choices.Post check-choices-Inv-loop check-choices-μ-loop
-check-choices-same-length t c = c .before .before .before .check-args .ensures .keeps .long ∙ c .before .before .before .before .before .before .before .before .before .loop .inv .keeps .long
+check-choices-same-length t c = c .before .before .before .check-args .ensures .keeps .long ∙ c .before .before .before .before .before .before .before .before .before .before .before .loop .inv .keeps .long
 
--- src/lib.rt:212:17
 check-choices-returns-2 : (t : ℕ) → check-choices-lts.Need-returns-2 (
   byte-at-reads.Asked,
   byte-at-reads.Learnt,
@@ -577,9 +758,8 @@ check-choices-returns-2 : (t : ℕ) → check-choices-lts.Need-returns-2 (
   check-args-below t,
   check-args.Post,
 ) (check-choices-at t) check-choices.Post check-choices-Inv-loop check-choices-μ-loop
-check-choices-returns-2 t c = λ other. tried-leads _ _ _ _ _ _ _ (c .before .before .before .before .before .before .before .before .before .before .before .byte-at2 .ensures .value) (let h = c .before .before .before .before .before .before .before .before .before .before .before .before .before .before .if1 .left in omega arith) (c .before .before .before .before .before .before .before .before .before .before .span-of .ensures) (c .before .before .before .before .before .before .before .before .before .loop .inv) (c .before .before .before .before .before .before .before .if2 .taken) _ (c .before .before .before .before .before .before .candidate .ensures) (c .before .before .before .before .before .if3 .taken) _ (omega arith) _ _ _ (c .before .before .before .check-args .ensures) (other-head _ _ _ _ (c .before .before .before .before .before .before .before .before .before .before .before .before .before .byte-at .ensures .value) (c .before .before .before .before .before .before .before .before .before .before .before .before .word-at .ensures .value) (λ z. other (sym (c .before .before .before .before .before .before .before .before .before .before .before .before .before .byte-at .ensures .value) ∙ z)) (let h = c .before .before .before .before .before .before .before .before .before .before .before .before .before .before .if1 .left in omega arith)) (c .if4 .taken)
+check-choices-returns-2 t c = λ other. tried-leads _ _ _ _ _ _ _ (c .before .before .before .before .before .before .before .before .before .before .before .before .before .before .before .byte-at2 .ensures .value) (let h = c .before .before .before .before .before .before .before .before .before .before .before .before .before .before .before .before .before .before .if1 .left in omega arith) (c .before .before .before .before .before .before .before .before .before .before .before .before .span-of .ensures) (c .before .before .before .before .before .before .before .before .before .before .before .loop .inv) (c .before .before .before .before .before .before .before .before .before .if2 .taken) _ (c .before .before .before .before .before .before .candidate .ensures) (c .before .before .before .before .before .if3 .taken) _ (omega arith) _ _ _ (c .before .before .before .check-args .ensures) (other-head _ _ _ _ (c .before .before .before .before .before .before .before .before .before .before .before .before .before .before .before .before .before .byte-at .ensures .value) (c .before .before .before .before .before .before .before .before .before .before .before .before .before .before .before .before .word-at .ensures .value) (λ z. other (sym (c .before .before .before .before .before .before .before .before .before .before .before .before .before .before .before .before .before .byte-at .ensures .value) ∙ z)) (let h = c .before .before .before .before .before .before .before .before .before .before .before .before .before .before .before .before .before .before .if1 .left in omega arith)) (c .if4 .taken)
 
--- src/lib.rt:194:5
 check-choices-loop-less : (t : ℕ) → check-choices-lts.Need-loop-less (
   byte-at-reads.Asked,
   byte-at-reads.Learnt,
@@ -592,9 +772,8 @@ check-choices-loop-less : (t : ℕ) → check-choices-lts.Need-loop-less (
   check-args-below t,
   check-args.Post,
 ) (check-choices-at t) check-choices.Post check-choices-Inv-loop check-choices-μ-loop
-check-choices-loop-less t c = let h = c .before .before .before .before .before .before .before .if2 .taken in omega arith
+check-choices-loop-less t c = let h = c .before .before .before .before .before .before .before .before .before .if2 .taken in omega arith
 
--- src/lib.rt:194:5
 check-choices-loop-again : (t : ℕ) → check-choices-lts.Need-loop-again (
   byte-at-reads.Asked,
   byte-at-reads.Learnt,
@@ -607,9 +786,8 @@ check-choices-loop-again : (t : ℕ) → check-choices-lts.Need-loop-again (
   check-args-below t,
   check-args.Post,
 ) (check-choices-at t) check-choices.Post check-choices-Inv-loop check-choices-μ-loop
-check-choices-loop-again t c = tried-fails _ _ _ _ _ _ _ (c .before .before .before .before .before .before .before .before .before .before .before .byte-at2 .ensures .value) (let h = c .before .before .before .before .before .before .before .before .before .before .before .before .before .before .if1 .left in omega arith) (c .before .before .before .before .before .before .before .before .before .before .span-of .ensures) (c .before .before .before .before .before .before .before .before .before .loop .inv) (c .before .before .before .before .before .before .before .if2 .taken) _ (c .before .before .before .before .before .before .candidate .ensures) (c .before .before .before .before .before .if3 .taken) _ (omega arith) _ _ _ (c .before .before .before .check-args .ensures) (c .if4 .left) _ (omega arith)
+check-choices-loop-again t c = tried-fails _ _ _ _ _ _ _ (c .before .before .before .before .before .before .before .before .before .before .before .before .before .before .before .byte-at2 .ensures .value) (let h = c .before .before .before .before .before .before .before .before .before .before .before .before .before .before .before .before .before .before .if1 .left in omega arith) (c .before .before .before .before .before .before .before .before .before .before .before .before .span-of .ensures) (c .before .before .before .before .before .before .before .before .before .before .before .loop .inv) (c .before .before .before .before .before .before .before .before .before .if2 .taken) _ (c .before .before .before .before .before .before .candidate .ensures) (c .before .before .before .before .before .if3 .taken) _ (omega arith) _ _ _ (c .before .before .before .check-args .ensures) (c .if4 .left) _ (omega arith)
 
--- src/lib.rt:194:5
 check-choices-loop-less-2 : (t : ℕ) → check-choices-lts.Need-loop-less-2 (
   byte-at-reads.Asked,
   byte-at-reads.Learnt,
@@ -622,9 +800,8 @@ check-choices-loop-less-2 : (t : ℕ) → check-choices-lts.Need-loop-less-2 (
   check-args-below t,
   check-args.Post,
 ) (check-choices-at t) check-choices.Post check-choices-Inv-loop check-choices-μ-loop
-check-choices-loop-less-2 t c = let h = c .before .before .if2 .taken in omega arith
+check-choices-loop-less-2 t c = let h = c .before .before .before .before .if2 .taken in omega arith
 
--- src/lib.rt:194:5
 check-choices-loop-again-2 : (t : ℕ) → check-choices-lts.Need-loop-again-2 (
   byte-at-reads.Asked,
   byte-at-reads.Learnt,
@@ -637,9 +814,8 @@ check-choices-loop-again-2 : (t : ℕ) → check-choices-lts.Need-loop-again-2 (
   check-args-below t,
   check-args.Post,
 ) (check-choices-at t) check-choices.Post check-choices-Inv-loop check-choices-μ-loop
-check-choices-loop-again-2 t c = tried-miss _ _ _ _ _ _ _ (c .before .before .before .before .before .before .byte-at2 .ensures .value) (let h = c .before .before .before .before .before .before .before .before .before .if1 .left in omega arith) (c .before .before .before .before .before .span-of .ensures) (c .before .before .before .before .loop .inv) (c .before .before .if2 .taken) _ (c .before .candidate .ensures) (c .if3 .left) _ (omega arith)
+check-choices-loop-again-2 t c = tried-miss _ _ _ _ _ _ _ (c .before .before .before .before .before .before .before .before .before .before .byte-at2 .ensures .value) (let h = c .before .before .before .before .before .before .before .before .before .before .before .before .before .if1 .left in omega arith) (c .before .before .before .before .before .before .before .span-of .ensures) (c .before .before .before .before .before .before .loop .inv) (c .before .before .before .before .if2 .taken) _ (c .before .candidate .ensures) (c .if3 .left) _ (omega arith)
 
--- src/lib.rt:168:1
 check-choices-same-length-2 : (t : ℕ) → check-choices-lts.Need-same-length-2 (
   byte-at-reads.Asked,
   byte-at-reads.Learnt,
@@ -654,7 +830,6 @@ check-choices-same-length-2 : (t : ℕ) → check-choices-lts.Need-same-length-2
 ) (check-choices-at t) check-choices.Post check-choices-Inv-loop check-choices-μ-loop
 check-choices-same-length-2 t c = c .before .before .loop .inv .keeps .long
 
--- src/lib.rt:168:1
 check-choices-returns-3 : (t : ℕ) → check-choices-lts.Need-returns-3 (
   byte-at-reads.Asked,
   byte-at-reads.Learnt,
@@ -667,15 +842,14 @@ check-choices-returns-3 : (t : ℕ) → check-choices-lts.Need-returns-3 (
   check-args-below t,
   check-args.Post,
 ) (check-choices-at t) check-choices.Post check-choices-Inv-loop check-choices-μ-loop
-check-choices-returns-3 t c = λ other. tried-end _ _ _ _ _ _ _ (c .before .before .before .before .byte-at2 .ensures .value) (let h = c .before .before .before .before .before .before .before .if1 .left in omega arith) (c .before .before .before .span-of .ensures) (c .before .before .loop .inv) (other-head _ _ _ _ (c .before .before .before .before .before .before .byte-at .ensures .value) (c .before .before .before .before .before .word-at .ensures .value) (λ z. other (sym (c .before .before .before .before .before .before .byte-at .ensures .value) ∙ z)) (let h = c .before .before .before .before .before .before .before .if1 .left in omega arith)) (c .if2 .left)
+check-choices-returns-3 t c = λ other. tried-end _ _ _ _ _ _ _ (c .before .before .before .before .before .before .byte-at2 .ensures .value) (let h = c .before .before .before .before .before .before .before .before .before .if1 .left in omega arith) (c .before .before .before .span-of .ensures) (c .before .before .loop .inv) (other-head _ _ _ _ (c .before .before .before .before .before .before .before .before .byte-at .ensures .value) (c .before .before .before .before .before .before .before .word-at .ensures .value) (λ z. other (sym (c .before .before .before .before .before .before .before .before .byte-at .ensures .value) ∙ z)) (let h = c .before .before .before .before .before .before .before .before .before .if1 .left in omega arith)) (c .if2 .left)
 
 abbrev check-head-Inv-loop : check-head-lts.InvT-loop
-check-head-Inv-loop file index groups kept ends body test memo₀ at goal table types constructors c count next₀ q row i₀ memo next i = Args (record { file = file; index = index; groups = groups; kept = kept; ends = ends; body = body; table = table; test = test }) memo₀ next₀ count true 0 row memo next i 0 0
+check-head-Inv-loop file index groups kept ends body test memo₀ at goal types constructors c count next₀ q row i₀ memo next i = Args (record { file = file; index = index; groups = groups; kept = kept; ends = ends; body = body; test = test }) memo₀ next₀ count true 0 row memo next i 0 0
 
 abbrev check-head-μ-loop : check-head-lts.MeasureT-loop
-check-head-μ-loop file index groups kept ends body test memo₀ at goal table types constructors c count next₀ q row i₀ memo next i = count - i
+check-head-μ-loop file index groups kept ends body test memo₀ at goal types constructors c count next₀ q row i₀ memo next i = count - i
 
--- src/lib.rt:102:9
 check-head-returns : (t : ℕ) → check-head-lts.Need-returns (
   byte-at-reads.Asked,
   byte-at-reads.Learnt,
@@ -685,18 +859,21 @@ check-head-returns : (t : ℕ) → check-head-lts.Need-returns (
   word-at-reads.Learnt,
   state-at-reads.Asked,
   state-at-reads.Learnt,
+  row-in-reads.Asked,
+  row-in-reads.Learnt,
   row-serves-reads.Asked,
   row-serves-reads.Learnt,
   target-of-reads.Asked,
   target-of-reads.Learnt,
   place-at-reads.Asked,
   place-at-reads.Learnt,
+  known-reads.Asked,
+  known-reads.Learnt,
   check-term-below t,
   check-term.Post,
 ) (check-head-at t) check-head.Post check-head-Inv-loop check-head-μ-loop
 check-head-returns t c = term-past _ _ _ _ (c .if1 .taken)
 
--- src/lib.rt:104:22
 check-head-mul-byte-at : (t : ℕ) → check-head-lts.Need-mul-byte-at (
   byte-at-reads.Asked,
   byte-at-reads.Learnt,
@@ -706,18 +883,21 @@ check-head-mul-byte-at : (t : ℕ) → check-head-lts.Need-mul-byte-at (
   word-at-reads.Learnt,
   state-at-reads.Asked,
   state-at-reads.Learnt,
+  row-in-reads.Asked,
+  row-in-reads.Learnt,
   row-serves-reads.Asked,
   row-serves-reads.Learnt,
   target-of-reads.Asked,
   target-of-reads.Learnt,
   place-at-reads.Asked,
   place-at-reads.Learnt,
+  known-reads.Asked,
+  known-reads.Learnt,
   check-term-below t,
   check-term.Post,
 ) (check-head-at t) check-head.Post check-head-Inv-loop check-head-μ-loop
 check-head-mul-byte-at t c = search needs
 
--- src/lib.rt:104:8
 check-head-byte-at-requires : (t : ℕ) → check-head-lts.Need-byte-at-requires (
   byte-at-reads.Asked,
   byte-at-reads.Learnt,
@@ -727,18 +907,21 @@ check-head-byte-at-requires : (t : ℕ) → check-head-lts.Need-byte-at-requires
   word-at-reads.Learnt,
   state-at-reads.Asked,
   state-at-reads.Learnt,
+  row-in-reads.Asked,
+  row-in-reads.Learnt,
   row-serves-reads.Asked,
   row-serves-reads.Learnt,
   target-of-reads.Asked,
   target-of-reads.Learnt,
   place-at-reads.Asked,
   place-at-reads.Learnt,
+  known-reads.Asked,
+  known-reads.Learnt,
   check-term-below t,
   check-term.Post,
 ) (check-head-at t) check-head.Post check-head-Inv-loop check-head-μ-loop
 check-head-byte-at-requires t c κs = search needs
 
--- src/lib.rt:105:9
 check-head-check-choices-requires : (t : ℕ) → check-head-lts.Need-check-choices-requires (
   byte-at-reads.Asked,
   byte-at-reads.Learnt,
@@ -748,18 +931,21 @@ check-head-check-choices-requires : (t : ℕ) → check-head-lts.Need-check-choi
   word-at-reads.Learnt,
   state-at-reads.Asked,
   state-at-reads.Learnt,
+  row-in-reads.Asked,
+  row-in-reads.Learnt,
   row-serves-reads.Asked,
   row-serves-reads.Learnt,
   target-of-reads.Asked,
   target-of-reads.Learnt,
   place-at-reads.Asked,
   place-at-reads.Learnt,
+  known-reads.Asked,
+  known-reads.Learnt,
   check-term-below t,
   check-term.Post,
 ) (check-head-at t) check-head.Post check-head-Inv-loop check-head-μ-loop
-check-head-check-choices-requires t c κs = let p = c .before .before .before .before .before .before .before .before .before .before .before .pre .0 in (omega arith, Prim.tt)
+check-head-check-choices-requires t c κs = let p = c .before .before .before .before .before .before .before .before .pre .0 in (omega arith, Prim.tt)
 
--- src/lib.rt:105:9
 check-head-same-length : (t : ℕ) → check-head-lts.Need-same-length (
   byte-at-reads.Asked,
   byte-at-reads.Learnt,
@@ -769,18 +955,21 @@ check-head-same-length : (t : ℕ) → check-head-lts.Need-same-length (
   word-at-reads.Learnt,
   state-at-reads.Asked,
   state-at-reads.Learnt,
+  row-in-reads.Asked,
+  row-in-reads.Learnt,
   row-serves-reads.Asked,
   row-serves-reads.Learnt,
   target-of-reads.Asked,
   target-of-reads.Learnt,
   place-at-reads.Asked,
   place-at-reads.Learnt,
+  known-reads.Asked,
+  known-reads.Learnt,
   check-term-below t,
   check-term.Post,
 ) (check-head-at t) check-head.Post check-head-Inv-loop check-head-μ-loop
 check-head-same-length t c = (c .before .before .check-choices .ensures (λ z. c .before .before .before .before .if2 .taken (c .before .before .before .before .before .byte-at .ensures .value ∙ z))) .keeps .long
 
--- src/lib.rt:105:9
 check-head-returns-2 : (t : ℕ) → check-head-lts.Need-returns-2 (
   byte-at-reads.Asked,
   byte-at-reads.Learnt,
@@ -790,186 +979,21 @@ check-head-returns-2 : (t : ℕ) → check-head-lts.Need-returns-2 (
   word-at-reads.Learnt,
   state-at-reads.Asked,
   state-at-reads.Learnt,
+  row-in-reads.Asked,
+  row-in-reads.Learnt,
   row-serves-reads.Asked,
   row-serves-reads.Learnt,
   target-of-reads.Asked,
   target-of-reads.Learnt,
   place-at-reads.Asked,
   place-at-reads.Learnt,
+  known-reads.Asked,
+  known-reads.Learnt,
   check-term-below t,
   check-term.Post,
 ) (check-head-at t) check-head.Post check-head-Inv-loop check-head-μ-loop
 check-head-returns-2 t c = c .before .before .check-choices .ensures (λ z. c .before .before .before .before .if2 .taken (c .before .before .before .before .before .byte-at .ensures .value ∙ z))
 
--- src/lib.rt:121:27
-check-head-mul-word-at : (t : ℕ) → check-head-lts.Need-mul-word-at (
-  byte-at-reads.Asked,
-  byte-at-reads.Learnt,
-  check-choices-below t,
-  check-choices.Post,
-  word-at-reads.Asked,
-  word-at-reads.Learnt,
-  state-at-reads.Asked,
-  state-at-reads.Learnt,
-  row-serves-reads.Asked,
-  row-serves-reads.Learnt,
-  target-of-reads.Asked,
-  target-of-reads.Learnt,
-  place-at-reads.Asked,
-  place-at-reads.Learnt,
-  check-term-below t,
-  check-term.Post,
-) (check-head-at t) check-head.Post check-head-Inv-loop check-head-μ-loop
-check-head-mul-word-at t c = search needs
-
--- src/lib.rt:121:27
-check-head-add-word-at : (t : ℕ) → check-head-lts.Need-add-word-at (
-  byte-at-reads.Asked,
-  byte-at-reads.Learnt,
-  check-choices-below t,
-  check-choices.Post,
-  word-at-reads.Asked,
-  word-at-reads.Learnt,
-  state-at-reads.Asked,
-  state-at-reads.Learnt,
-  row-serves-reads.Asked,
-  row-serves-reads.Learnt,
-  target-of-reads.Asked,
-  target-of-reads.Learnt,
-  place-at-reads.Asked,
-  place-at-reads.Learnt,
-  check-term-below t,
-  check-term.Post,
-) (check-head-at t) check-head.Post check-head-Inv-loop check-head-μ-loop
-check-head-add-word-at t c = search needs
-
--- src/lib.rt:121:9
-check-head-word-at-requires : (t : ℕ) → check-head-lts.Need-word-at-requires (
-  byte-at-reads.Asked,
-  byte-at-reads.Learnt,
-  check-choices-below t,
-  check-choices.Post,
-  word-at-reads.Asked,
-  word-at-reads.Learnt,
-  state-at-reads.Asked,
-  state-at-reads.Learnt,
-  row-serves-reads.Asked,
-  row-serves-reads.Learnt,
-  target-of-reads.Asked,
-  target-of-reads.Learnt,
-  place-at-reads.Asked,
-  place-at-reads.Learnt,
-  check-term-below t,
-  check-term.Post,
-) (check-head-at t) check-head.Post check-head-Inv-loop check-head-μ-loop
-check-head-word-at-requires t c κs = search needs
-
--- src/lib.rt:122:31
-check-head-mul-byte-at-2 : (t : ℕ) → check-head-lts.Need-mul-byte-at-2 (
-  byte-at-reads.Asked,
-  byte-at-reads.Learnt,
-  check-choices-below t,
-  check-choices.Post,
-  word-at-reads.Asked,
-  word-at-reads.Learnt,
-  state-at-reads.Asked,
-  state-at-reads.Learnt,
-  row-serves-reads.Asked,
-  row-serves-reads.Learnt,
-  target-of-reads.Asked,
-  target-of-reads.Learnt,
-  place-at-reads.Asked,
-  place-at-reads.Learnt,
-  check-term-below t,
-  check-term.Post,
-) (check-head-at t) check-head.Post check-head-Inv-loop check-head-μ-loop
-check-head-mul-byte-at-2 t c = search needs
-
--- src/lib.rt:122:31
-check-head-add-byte-at : (t : ℕ) → check-head-lts.Need-add-byte-at (
-  byte-at-reads.Asked,
-  byte-at-reads.Learnt,
-  check-choices-below t,
-  check-choices.Post,
-  word-at-reads.Asked,
-  word-at-reads.Learnt,
-  state-at-reads.Asked,
-  state-at-reads.Learnt,
-  row-serves-reads.Asked,
-  row-serves-reads.Learnt,
-  target-of-reads.Asked,
-  target-of-reads.Learnt,
-  place-at-reads.Asked,
-  place-at-reads.Learnt,
-  check-term-below t,
-  check-term.Post,
-) (check-head-at t) check-head.Post check-head-Inv-loop check-head-μ-loop
-check-head-add-byte-at t c = search needs
-
--- src/lib.rt:122:9
-check-head-byte-at-requires-2 : (t : ℕ) → check-head-lts.Need-byte-at-requires-2 (
-  byte-at-reads.Asked,
-  byte-at-reads.Learnt,
-  check-choices-below t,
-  check-choices.Post,
-  word-at-reads.Asked,
-  word-at-reads.Learnt,
-  state-at-reads.Asked,
-  state-at-reads.Learnt,
-  row-serves-reads.Asked,
-  row-serves-reads.Learnt,
-  target-of-reads.Asked,
-  target-of-reads.Learnt,
-  place-at-reads.Asked,
-  place-at-reads.Learnt,
-  check-term-below t,
-  check-term.Post,
-) (check-head-at t) check-head.Post check-head-Inv-loop check-head-μ-loop
-check-head-byte-at-requires-2 t c κs = search needs
-
--- src/lib.rt:123:20
-check-head-add-next : (t : ℕ) → check-head-lts.Need-add-next (
-  byte-at-reads.Asked,
-  byte-at-reads.Learnt,
-  check-choices-below t,
-  check-choices.Post,
-  word-at-reads.Asked,
-  word-at-reads.Learnt,
-  state-at-reads.Asked,
-  state-at-reads.Learnt,
-  row-serves-reads.Asked,
-  row-serves-reads.Learnt,
-  target-of-reads.Asked,
-  target-of-reads.Learnt,
-  place-at-reads.Asked,
-  place-at-reads.Learnt,
-  check-term-below t,
-  check-term.Post,
-) (check-head-at t) check-head.Post check-head-Inv-loop check-head-μ-loop
-check-head-add-next t c = search needs
-
--- src/lib.rt:124:9
-check-head-state-at-requires : (t : ℕ) → check-head-lts.Need-state-at-requires (
-  byte-at-reads.Asked,
-  byte-at-reads.Learnt,
-  check-choices-below t,
-  check-choices.Post,
-  word-at-reads.Asked,
-  word-at-reads.Learnt,
-  state-at-reads.Asked,
-  state-at-reads.Learnt,
-  row-serves-reads.Asked,
-  row-serves-reads.Learnt,
-  target-of-reads.Asked,
-  target-of-reads.Learnt,
-  place-at-reads.Asked,
-  place-at-reads.Learnt,
-  check-term-below t,
-  check-term.Post,
-) (check-head-at t) check-head.Post check-head-Inv-loop check-head-μ-loop
-check-head-state-at-requires t c κs = search needs
-
--- src/lib.rt:126:9
 check-head-returns-3 : (t : ℕ) → check-head-lts.Need-returns-3 (
   byte-at-reads.Asked,
   byte-at-reads.Learnt,
@@ -979,18 +1003,213 @@ check-head-returns-3 : (t : ℕ) → check-head-lts.Need-returns-3 (
   word-at-reads.Learnt,
   state-at-reads.Asked,
   state-at-reads.Learnt,
+  row-in-reads.Asked,
+  row-in-reads.Learnt,
   row-serves-reads.Asked,
   row-serves-reads.Learnt,
   target-of-reads.Asked,
   target-of-reads.Learnt,
   place-at-reads.Asked,
   place-at-reads.Learnt,
+  known-reads.Asked,
+  known-reads.Learnt,
   check-term-below t,
   check-term.Post,
 ) (check-head-at t) check-head.Post check-head-Inv-loop check-head-μ-loop
-check-head-returns-3 t c = targets-no-state _ _ _ _ _ _ _ (c .before .before .before .word-at .ensures .value) (c .before .before .byte-at2 .ensures .value) (c .before .state-at .ensures) _ (c .before .before .before .before .before .byte-at .ensures .value) (c .before .before .before .before .if2 .left) (c .if3 .taken)
+check-head-returns-3 t c = types-many _ _ _ _ (c .if3 .taken)
 
--- src/lib.rt:129:9
+check-head-mul-word-at : (t : ℕ) → check-head-lts.Need-mul-word-at (
+  byte-at-reads.Asked,
+  byte-at-reads.Learnt,
+  check-choices-below t,
+  check-choices.Post,
+  word-at-reads.Asked,
+  word-at-reads.Learnt,
+  state-at-reads.Asked,
+  state-at-reads.Learnt,
+  row-in-reads.Asked,
+  row-in-reads.Learnt,
+  row-serves-reads.Asked,
+  row-serves-reads.Learnt,
+  target-of-reads.Asked,
+  target-of-reads.Learnt,
+  place-at-reads.Asked,
+  place-at-reads.Learnt,
+  known-reads.Asked,
+  known-reads.Learnt,
+  check-term-below t,
+  check-term.Post,
+) (check-head-at t) check-head.Post check-head-Inv-loop check-head-μ-loop
+check-head-mul-word-at t c = search needs
+
+check-head-add-word-at : (t : ℕ) → check-head-lts.Need-add-word-at (
+  byte-at-reads.Asked,
+  byte-at-reads.Learnt,
+  check-choices-below t,
+  check-choices.Post,
+  word-at-reads.Asked,
+  word-at-reads.Learnt,
+  state-at-reads.Asked,
+  state-at-reads.Learnt,
+  row-in-reads.Asked,
+  row-in-reads.Learnt,
+  row-serves-reads.Asked,
+  row-serves-reads.Learnt,
+  target-of-reads.Asked,
+  target-of-reads.Learnt,
+  place-at-reads.Asked,
+  place-at-reads.Learnt,
+  known-reads.Asked,
+  known-reads.Learnt,
+  check-term-below t,
+  check-term.Post,
+) (check-head-at t) check-head.Post check-head-Inv-loop check-head-μ-loop
+check-head-add-word-at t c = search needs
+
+check-head-word-at-requires : (t : ℕ) → check-head-lts.Need-word-at-requires (
+  byte-at-reads.Asked,
+  byte-at-reads.Learnt,
+  check-choices-below t,
+  check-choices.Post,
+  word-at-reads.Asked,
+  word-at-reads.Learnt,
+  state-at-reads.Asked,
+  state-at-reads.Learnt,
+  row-in-reads.Asked,
+  row-in-reads.Learnt,
+  row-serves-reads.Asked,
+  row-serves-reads.Learnt,
+  target-of-reads.Asked,
+  target-of-reads.Learnt,
+  place-at-reads.Asked,
+  place-at-reads.Learnt,
+  known-reads.Asked,
+  known-reads.Learnt,
+  check-term-below t,
+  check-term.Post,
+) (check-head-at t) check-head.Post check-head-Inv-loop check-head-μ-loop
+check-head-word-at-requires t c κs = search needs
+
+check-head-mul-byte-at-2 : (t : ℕ) → check-head-lts.Need-mul-byte-at-2 (
+  byte-at-reads.Asked,
+  byte-at-reads.Learnt,
+  check-choices-below t,
+  check-choices.Post,
+  word-at-reads.Asked,
+  word-at-reads.Learnt,
+  state-at-reads.Asked,
+  state-at-reads.Learnt,
+  row-in-reads.Asked,
+  row-in-reads.Learnt,
+  row-serves-reads.Asked,
+  row-serves-reads.Learnt,
+  target-of-reads.Asked,
+  target-of-reads.Learnt,
+  place-at-reads.Asked,
+  place-at-reads.Learnt,
+  known-reads.Asked,
+  known-reads.Learnt,
+  check-term-below t,
+  check-term.Post,
+) (check-head-at t) check-head.Post check-head-Inv-loop check-head-μ-loop
+check-head-mul-byte-at-2 t c = search needs
+
+check-head-add-byte-at : (t : ℕ) → check-head-lts.Need-add-byte-at (
+  byte-at-reads.Asked,
+  byte-at-reads.Learnt,
+  check-choices-below t,
+  check-choices.Post,
+  word-at-reads.Asked,
+  word-at-reads.Learnt,
+  state-at-reads.Asked,
+  state-at-reads.Learnt,
+  row-in-reads.Asked,
+  row-in-reads.Learnt,
+  row-serves-reads.Asked,
+  row-serves-reads.Learnt,
+  target-of-reads.Asked,
+  target-of-reads.Learnt,
+  place-at-reads.Asked,
+  place-at-reads.Learnt,
+  known-reads.Asked,
+  known-reads.Learnt,
+  check-term-below t,
+  check-term.Post,
+) (check-head-at t) check-head.Post check-head-Inv-loop check-head-μ-loop
+check-head-add-byte-at t c = search needs
+
+check-head-byte-at-requires-2 : (t : ℕ) → check-head-lts.Need-byte-at-requires-2 (
+  byte-at-reads.Asked,
+  byte-at-reads.Learnt,
+  check-choices-below t,
+  check-choices.Post,
+  word-at-reads.Asked,
+  word-at-reads.Learnt,
+  state-at-reads.Asked,
+  state-at-reads.Learnt,
+  row-in-reads.Asked,
+  row-in-reads.Learnt,
+  row-serves-reads.Asked,
+  row-serves-reads.Learnt,
+  target-of-reads.Asked,
+  target-of-reads.Learnt,
+  place-at-reads.Asked,
+  place-at-reads.Learnt,
+  known-reads.Asked,
+  known-reads.Learnt,
+  check-term-below t,
+  check-term.Post,
+) (check-head-at t) check-head.Post check-head-Inv-loop check-head-μ-loop
+check-head-byte-at-requires-2 t c κs = search needs
+
+check-head-add-next : (t : ℕ) → check-head-lts.Need-add-next (
+  byte-at-reads.Asked,
+  byte-at-reads.Learnt,
+  check-choices-below t,
+  check-choices.Post,
+  word-at-reads.Asked,
+  word-at-reads.Learnt,
+  state-at-reads.Asked,
+  state-at-reads.Learnt,
+  row-in-reads.Asked,
+  row-in-reads.Learnt,
+  row-serves-reads.Asked,
+  row-serves-reads.Learnt,
+  target-of-reads.Asked,
+  target-of-reads.Learnt,
+  place-at-reads.Asked,
+  place-at-reads.Learnt,
+  known-reads.Asked,
+  known-reads.Learnt,
+  check-term-below t,
+  check-term.Post,
+) (check-head-at t) check-head.Post check-head-Inv-loop check-head-μ-loop
+check-head-add-next t c = search needs
+
+check-head-state-at-requires : (t : ℕ) → check-head-lts.Need-state-at-requires (
+  byte-at-reads.Asked,
+  byte-at-reads.Learnt,
+  check-choices-below t,
+  check-choices.Post,
+  word-at-reads.Asked,
+  word-at-reads.Learnt,
+  state-at-reads.Asked,
+  state-at-reads.Learnt,
+  row-in-reads.Asked,
+  row-in-reads.Learnt,
+  row-serves-reads.Asked,
+  row-serves-reads.Learnt,
+  target-of-reads.Asked,
+  target-of-reads.Learnt,
+  place-at-reads.Asked,
+  place-at-reads.Learnt,
+  known-reads.Asked,
+  known-reads.Learnt,
+  check-term-below t,
+  check-term.Post,
+) (check-head-at t) check-head.Post check-head-Inv-loop check-head-μ-loop
+check-head-state-at-requires t c κs = search needs
+
 check-head-returns-4 : (t : ℕ) → check-head-lts.Need-returns-4 (
   byte-at-reads.Asked,
   byte-at-reads.Learnt,
@@ -1000,123 +1219,21 @@ check-head-returns-4 : (t : ℕ) → check-head-lts.Need-returns-4 (
   word-at-reads.Learnt,
   state-at-reads.Asked,
   state-at-reads.Learnt,
+  row-in-reads.Asked,
+  row-in-reads.Learnt,
   row-serves-reads.Asked,
   row-serves-reads.Learnt,
   target-of-reads.Asked,
   target-of-reads.Learnt,
   place-at-reads.Asked,
   place-at-reads.Learnt,
+  known-reads.Asked,
+  known-reads.Learnt,
   check-term-below t,
   check-term.Post,
 ) (check-head-at t) check-head.Post check-head-Inv-loop check-head-μ-loop
-check-head-returns-4 t c = targets-no-constructor _ _ _ _ _ _ _ (c .before .before .before .before .word-at .ensures .value) (c .before .before .before .byte-at2 .ensures .value) (c .before .before .state-at .ensures) _ (c .before .before .before .before .before .before .byte-at .ensures .value) (c .before .before .before .before .before .if2 .left) (c .if4 .taken)
+check-head-returns-4 t c = targets-no-state _ _ _ _ _ _ _ (c .before .before .before .before .word-at .ensures .value) (c .before .before .before .byte-at2 .ensures .value) (c .before .state-at .ensures) _ (c .before .before .before .before .before .before .before .byte-at .ensures .value) (c .before .before .before .before .before .before .if2 .left) (c .if4 .taken)
 
--- src/lib.rt:131:15
-check-head-mul-row : (t : ℕ) → check-head-lts.Need-mul-row (
-  byte-at-reads.Asked,
-  byte-at-reads.Learnt,
-  check-choices-below t,
-  check-choices.Post,
-  word-at-reads.Asked,
-  word-at-reads.Learnt,
-  state-at-reads.Asked,
-  state-at-reads.Learnt,
-  row-serves-reads.Asked,
-  row-serves-reads.Learnt,
-  target-of-reads.Asked,
-  target-of-reads.Learnt,
-  place-at-reads.Asked,
-  place-at-reads.Learnt,
-  check-term-below t,
-  check-term.Post,
-) (check-head-at t) check-head.Post check-head-Inv-loop check-head-μ-loop
-check-head-mul-row t c = search needs
-
--- src/lib.rt:131:15
-check-head-mul-row-2 : (t : ℕ) → check-head-lts.Need-mul-row-2 (
-  byte-at-reads.Asked,
-  byte-at-reads.Learnt,
-  check-choices-below t,
-  check-choices.Post,
-  word-at-reads.Asked,
-  word-at-reads.Learnt,
-  state-at-reads.Asked,
-  state-at-reads.Learnt,
-  row-serves-reads.Asked,
-  row-serves-reads.Learnt,
-  target-of-reads.Asked,
-  target-of-reads.Learnt,
-  place-at-reads.Asked,
-  place-at-reads.Learnt,
-  check-term-below t,
-  check-term.Post,
-) (check-head-at t) check-head.Post check-head-Inv-loop check-head-μ-loop
-check-head-mul-row-2 t c = search needs
-
--- src/lib.rt:131:15
-check-head-index-1-row : (t : ℕ) → check-head-lts.Need-index-1-row (
-  byte-at-reads.Asked,
-  byte-at-reads.Learnt,
-  check-choices-below t,
-  check-choices.Post,
-  word-at-reads.Asked,
-  word-at-reads.Learnt,
-  state-at-reads.Asked,
-  state-at-reads.Learnt,
-  row-serves-reads.Asked,
-  row-serves-reads.Learnt,
-  target-of-reads.Asked,
-  target-of-reads.Learnt,
-  place-at-reads.Asked,
-  place-at-reads.Learnt,
-  check-term-below t,
-  check-term.Post,
-) (check-head-at t) check-head.Post check-head-Inv-loop check-head-μ-loop
-check-head-index-1-row t c = search needs
-
--- src/lib.rt:131:15
-check-head-index-2-row : (t : ℕ) → check-head-lts.Need-index-2-row (
-  byte-at-reads.Asked,
-  byte-at-reads.Learnt,
-  check-choices-below t,
-  check-choices.Post,
-  word-at-reads.Asked,
-  word-at-reads.Learnt,
-  state-at-reads.Asked,
-  state-at-reads.Learnt,
-  row-serves-reads.Asked,
-  row-serves-reads.Learnt,
-  target-of-reads.Asked,
-  target-of-reads.Learnt,
-  place-at-reads.Asked,
-  place-at-reads.Learnt,
-  check-term-below t,
-  check-term.Post,
-) (check-head-at t) check-head.Post check-head-Inv-loop check-head-μ-loop
-check-head-index-2-row t c = search needs
-
--- src/lib.rt:132:9
-check-head-row-serves-requires : (t : ℕ) → check-head-lts.Need-row-serves-requires (
-  byte-at-reads.Asked,
-  byte-at-reads.Learnt,
-  check-choices-below t,
-  check-choices.Post,
-  word-at-reads.Asked,
-  word-at-reads.Learnt,
-  state-at-reads.Asked,
-  state-at-reads.Learnt,
-  row-serves-reads.Asked,
-  row-serves-reads.Learnt,
-  target-of-reads.Asked,
-  target-of-reads.Learnt,
-  place-at-reads.Asked,
-  place-at-reads.Learnt,
-  check-term-below t,
-  check-term.Post,
-) (check-head-at t) check-head.Post check-head-Inv-loop check-head-μ-loop
-check-head-row-serves-requires t c κs = search needs
-
--- src/lib.rt:133:9
 check-head-returns-5 : (t : ℕ) → check-head-lts.Need-returns-5 (
   byte-at-reads.Asked,
   byte-at-reads.Learnt,
@@ -1126,19 +1243,22 @@ check-head-returns-5 : (t : ℕ) → check-head-lts.Need-returns-5 (
   word-at-reads.Learnt,
   state-at-reads.Asked,
   state-at-reads.Learnt,
+  row-in-reads.Asked,
+  row-in-reads.Learnt,
   row-serves-reads.Asked,
   row-serves-reads.Learnt,
   target-of-reads.Asked,
   target-of-reads.Learnt,
   place-at-reads.Asked,
   place-at-reads.Learnt,
+  known-reads.Asked,
+  known-reads.Learnt,
   check-term-below t,
   check-term.Post,
 ) (check-head-at t) check-head.Post check-head-Inv-loop check-head-μ-loop
-check-head-returns-5 t c = targets-not-served _ _ _ _ _ _ _ (c .before .before .before .before .before .before .before .word-at .ensures .value) (c .before .before .before .before .before .before .byte-at2 .ensures .value) (c .before .before .before .before .before .state-at .ensures) _ (c .before .before .before .before .before .before .before .before .before .byte-at .ensures .value) (c .before .before .before .before .before .before .before .before .if2 .left) (let h = c .before .before .before .before .if3 .left in omega arith) (let h = c .before .before .before .if4 .left in omega arith) _ refl _ (c .before .row-serves .ensures) (not-true _ (c .if5 .taken))
+check-head-returns-5 t c = targets-no-constructor _ _ _ _ _ _ _ (c .before .before .before .before .before .word-at .ensures .value) (c .before .before .before .before .byte-at2 .ensures .value) (c .before .before .state-at .ensures) _ (c .before .before .before .before .before .before .before .before .byte-at .ensures .value) (c .before .before .before .before .before .before .before .if2 .left) (c .if5 .taken)
 
--- src/lib.rt:136:5
-check-head-loop-holds : (t : ℕ) → check-head-lts.Need-loop-holds (
+check-head-row-in-requires : (t : ℕ) → check-head-lts.Need-row-in-requires (
   byte-at-reads.Asked,
   byte-at-reads.Learnt,
   check-choices-below t,
@@ -1147,19 +1267,22 @@ check-head-loop-holds : (t : ℕ) → check-head-lts.Need-loop-holds (
   word-at-reads.Learnt,
   state-at-reads.Asked,
   state-at-reads.Learnt,
+  row-in-reads.Asked,
+  row-in-reads.Learnt,
   row-serves-reads.Asked,
   row-serves-reads.Learnt,
   target-of-reads.Asked,
   target-of-reads.Learnt,
   place-at-reads.Asked,
   place-at-reads.Learnt,
+  known-reads.Asked,
+  known-reads.Learnt,
   check-term-below t,
   check-term.Post,
 ) (check-head-at t) check-head.Post check-head-Inv-loop check-head-μ-loop
-check-head-loop-holds t c = args-start _ _ _ _ _ _ _
+check-head-row-in-requires t c κs = search needs
 
--- src/lib.rt:137:13
-check-head-target-of-requires : (t : ℕ) → check-head-lts.Need-target-of-requires (
+check-head-row-serves-requires : (t : ℕ) → check-head-lts.Need-row-serves-requires (
   byte-at-reads.Asked,
   byte-at-reads.Learnt,
   check-choices-below t,
@@ -1168,39 +1291,21 @@ check-head-target-of-requires : (t : ℕ) → check-head-lts.Need-target-of-requ
   word-at-reads.Learnt,
   state-at-reads.Asked,
   state-at-reads.Learnt,
+  row-in-reads.Asked,
+  row-in-reads.Learnt,
   row-serves-reads.Asked,
   row-serves-reads.Learnt,
   target-of-reads.Asked,
   target-of-reads.Learnt,
   place-at-reads.Asked,
   place-at-reads.Learnt,
+  known-reads.Asked,
+  known-reads.Learnt,
   check-term-below t,
   check-term.Post,
 ) (check-head-at t) check-head.Post check-head-Inv-loop check-head-μ-loop
-check-head-target-of-requires t c κs = search needs
+check-head-row-serves-requires t c κs = search needs
 
--- src/lib.rt:139:13
-check-head-same-length-2 : (t : ℕ) → check-head-lts.Need-same-length-2 (
-  byte-at-reads.Asked,
-  byte-at-reads.Learnt,
-  check-choices-below t,
-  check-choices.Post,
-  word-at-reads.Asked,
-  word-at-reads.Learnt,
-  state-at-reads.Asked,
-  state-at-reads.Learnt,
-  row-serves-reads.Asked,
-  row-serves-reads.Learnt,
-  target-of-reads.Asked,
-  target-of-reads.Learnt,
-  place-at-reads.Asked,
-  place-at-reads.Learnt,
-  check-term-below t,
-  check-term.Post,
-) (check-head-at t) check-head.Post check-head-Inv-loop check-head-μ-loop
-check-head-same-length-2 t c = c .before .before .before .loop .inv .keeps .long
-
--- src/lib.rt:139:13
 check-head-returns-6 : (t : ℕ) → check-head-lts.Need-returns-6 (
   byte-at-reads.Asked,
   byte-at-reads.Learnt,
@@ -1210,19 +1315,22 @@ check-head-returns-6 : (t : ℕ) → check-head-lts.Need-returns-6 (
   word-at-reads.Learnt,
   state-at-reads.Asked,
   state-at-reads.Learnt,
+  row-in-reads.Asked,
+  row-in-reads.Learnt,
   row-serves-reads.Asked,
   row-serves-reads.Learnt,
   target-of-reads.Asked,
   target-of-reads.Learnt,
   place-at-reads.Asked,
   place-at-reads.Learnt,
+  known-reads.Asked,
+  known-reads.Learnt,
   check-term-below t,
   check-term.Post,
 ) (check-head-at t) check-head.Post check-head-Inv-loop check-head-μ-loop
-check-head-returns-6 t c = targets-told _ _ _ _ _ _ _ (c .before .before .before .before .before .before .before .before .before .before .before .word-at .ensures .value) (c .before .before .before .before .before .before .before .before .before .before .byte-at2 .ensures .value) (c .before .before .before .before .before .before .before .before .before .state-at .ensures) _ (c .before .before .before .before .before .before .before .before .before .before .before .before .before .byte-at .ensures .value) (c .before .before .before .before .before .before .before .before .before .before .before .before .if2 .left) (let h = c .before .before .before .before .before .before .before .before .if3 .left in omega arith) (let h = c .before .before .before .before .before .before .before .if4 .left in omega arith) _ refl _ (c .before .before .before .before .before .row-serves .ensures) (not-false _ (c .before .before .before .before .if5 .left)) _ (omega arith) _ _ (target-past _ (c .before .before .before .loop .inv) (c .before .before .loop-test .taken) _ (c .before .target-of .ensures) (c .if6 .taken))
+check-head-returns-6 t c = targets-not-served _ _ _ _ _ _ _ (c .before .before .before .before .before .before .before .before .before .before .word-at .ensures .value) (c .before .before .before .before .before .before .before .before .before .byte-at2 .ensures .value) (c .before .before .before .before .before .before .before .state-at .ensures) _ (c .before .before .before .before .before .before .before .before .before .before .before .before .before .byte-at .ensures .value) (c .before .before .before .before .before .before .before .before .before .before .before .before .if2 .left) (let h = c .before .before .before .before .before .before .if4 .left in omega arith) (let h = c .before .before .before .before .before .if5 .left in omega arith) _ (c .before .before .before .row-in .ensures) _ (c .before .row-serves .ensures) (not-true _ (c .if6 .taken))
 
--- src/lib.rt:141:13
-check-head-place-at-requires : (t : ℕ) → check-head-lts.Need-place-at-requires (
+check-head-loop-holds : (t : ℕ) → check-head-lts.Need-loop-holds (
   byte-at-reads.Asked,
   byte-at-reads.Learnt,
   check-choices-below t,
@@ -1231,19 +1339,22 @@ check-head-place-at-requires : (t : ℕ) → check-head-lts.Need-place-at-requir
   word-at-reads.Learnt,
   state-at-reads.Asked,
   state-at-reads.Learnt,
+  row-in-reads.Asked,
+  row-in-reads.Learnt,
   row-serves-reads.Asked,
   row-serves-reads.Learnt,
   target-of-reads.Asked,
   target-of-reads.Learnt,
   place-at-reads.Asked,
   place-at-reads.Learnt,
+  known-reads.Asked,
+  known-reads.Learnt,
   check-term-below t,
   check-term.Post,
 ) (check-head-at t) check-head.Post check-head-Inv-loop check-head-μ-loop
-check-head-place-at-requires t c κs = search needs
+check-head-loop-holds t c = args-start _ _ _ _ _ _ _
 
--- src/lib.rt:143:13
-check-head-same-length-3 : (t : ℕ) → check-head-lts.Need-same-length-3 (
+check-head-target-of-requires : (t : ℕ) → check-head-lts.Need-target-of-requires (
   byte-at-reads.Asked,
   byte-at-reads.Learnt,
   check-choices-below t,
@@ -1252,18 +1363,45 @@ check-head-same-length-3 : (t : ℕ) → check-head-lts.Need-same-length-3 (
   word-at-reads.Learnt,
   state-at-reads.Asked,
   state-at-reads.Learnt,
+  row-in-reads.Asked,
+  row-in-reads.Learnt,
   row-serves-reads.Asked,
   row-serves-reads.Learnt,
   target-of-reads.Asked,
   target-of-reads.Learnt,
   place-at-reads.Asked,
   place-at-reads.Learnt,
+  known-reads.Asked,
+  known-reads.Learnt,
   check-term-below t,
   check-term.Post,
 ) (check-head-at t) check-head.Post check-head-Inv-loop check-head-μ-loop
-check-head-same-length-3 t c = c .before .before .before .before .before .loop .inv .keeps .long
+check-head-target-of-requires t c κs = search needs
 
--- src/lib.rt:143:13
+check-head-same-length-2 : (t : ℕ) → check-head-lts.Need-same-length-2 (
+  byte-at-reads.Asked,
+  byte-at-reads.Learnt,
+  check-choices-below t,
+  check-choices.Post,
+  word-at-reads.Asked,
+  word-at-reads.Learnt,
+  state-at-reads.Asked,
+  state-at-reads.Learnt,
+  row-in-reads.Asked,
+  row-in-reads.Learnt,
+  row-serves-reads.Asked,
+  row-serves-reads.Learnt,
+  target-of-reads.Asked,
+  target-of-reads.Learnt,
+  place-at-reads.Asked,
+  place-at-reads.Learnt,
+  known-reads.Asked,
+  known-reads.Learnt,
+  check-term-below t,
+  check-term.Post,
+) (check-head-at t) check-head.Post check-head-Inv-loop check-head-μ-loop
+check-head-same-length-2 t c = c .before .before .before .loop .inv .keeps .long
+
 check-head-returns-7 : (t : ℕ) → check-head-lts.Need-returns-7 (
   byte-at-reads.Asked,
   byte-at-reads.Learnt,
@@ -1273,19 +1411,22 @@ check-head-returns-7 : (t : ℕ) → check-head-lts.Need-returns-7 (
   word-at-reads.Learnt,
   state-at-reads.Asked,
   state-at-reads.Learnt,
+  row-in-reads.Asked,
+  row-in-reads.Learnt,
   row-serves-reads.Asked,
   row-serves-reads.Learnt,
   target-of-reads.Asked,
   target-of-reads.Learnt,
   place-at-reads.Asked,
   place-at-reads.Learnt,
+  known-reads.Asked,
+  known-reads.Learnt,
   check-term-below t,
   check-term.Post,
 ) (check-head-at t) check-head.Post check-head-Inv-loop check-head-μ-loop
-check-head-returns-7 t c = targets-told _ _ _ _ _ _ _ (c .before .before .before .before .before .before .before .before .before .before .before .before .before .word-at .ensures .value) (c .before .before .before .before .before .before .before .before .before .before .before .before .byte-at2 .ensures .value) (c .before .before .before .before .before .before .before .before .before .before .before .state-at .ensures) _ (c .before .before .before .before .before .before .before .before .before .before .before .before .before .before .before .byte-at .ensures .value) (c .before .before .before .before .before .before .before .before .before .before .before .before .before .before .if2 .left) (let h = c .before .before .before .before .before .before .before .before .before .before .if3 .left in omega arith) (let h = c .before .before .before .before .before .before .before .before .before .if4 .left in omega arith) _ refl _ (c .before .before .before .before .before .before .before .row-serves .ensures) (not-false _ (c .before .before .before .before .before .before .if5 .left)) _ (omega arith) _ _ (target-stuck _ (c .before .before .before .before .before .loop .inv) (c .before .before .before .before .loop-test .taken) _ (c .before .before .before .target-of .ensures) (c .before .before .if6 .left) _ (c .before .place-at .ensures .value) (c .if7 .taken))
+check-head-returns-7 t c = targets-told _ _ _ _ _ _ _ (c .before .before .before .before .before .before .before .before .before .before .before .before .before .before .word-at .ensures .value) (c .before .before .before .before .before .before .before .before .before .before .before .before .before .byte-at2 .ensures .value) (c .before .before .before .before .before .before .before .before .before .before .before .state-at .ensures) _ (c .before .before .before .before .before .before .before .before .before .before .before .before .before .before .before .before .before .byte-at .ensures .value) (c .before .before .before .before .before .before .before .before .before .before .before .before .before .before .before .before .if2 .left) (let h = c .before .before .before .before .before .before .before .before .before .before .if4 .left in omega arith) (let h = c .before .before .before .before .before .before .before .before .before .if5 .left in omega arith) _ (c .before .before .before .before .before .before .before .row-in .ensures) _ (c .before .before .before .before .before .row-serves .ensures) (not-false _ (c .before .before .before .before .if6 .left)) _ (omega arith) _ _ (target-past _ (c .before .before .before .loop .inv) (c .before .before .loop-test .taken) _ (c .before .target-of .ensures) (c .if7 .taken))
 
--- src/lib.rt:145:13
-check-head-add-i : (t : ℕ) → check-head-lts.Need-add-i (
+check-head-place-at-requires : (t : ℕ) → check-head-lts.Need-place-at-requires (
   byte-at-reads.Asked,
   byte-at-reads.Learnt,
   check-choices-below t,
@@ -1294,19 +1435,22 @@ check-head-add-i : (t : ℕ) → check-head-lts.Need-add-i (
   word-at-reads.Learnt,
   state-at-reads.Asked,
   state-at-reads.Learnt,
+  row-in-reads.Asked,
+  row-in-reads.Learnt,
   row-serves-reads.Asked,
   row-serves-reads.Learnt,
   target-of-reads.Asked,
   target-of-reads.Learnt,
   place-at-reads.Asked,
   place-at-reads.Learnt,
+  known-reads.Asked,
+  known-reads.Learnt,
   check-term-below t,
   check-term.Post,
 ) (check-head-at t) check-head.Post check-head-Inv-loop check-head-μ-loop
-check-head-add-i t c = search needs
+check-head-place-at-requires t c κs = search needs
 
--- src/lib.rt:146:13
-check-head-check-term-requires : (t : ℕ) → check-head-lts.Need-check-term-requires (
+check-head-same-length-3 : (t : ℕ) → check-head-lts.Need-same-length-3 (
   byte-at-reads.Asked,
   byte-at-reads.Learnt,
   check-choices-below t,
@@ -1315,39 +1459,21 @@ check-head-check-term-requires : (t : ℕ) → check-head-lts.Need-check-term-re
   word-at-reads.Learnt,
   state-at-reads.Asked,
   state-at-reads.Learnt,
+  row-in-reads.Asked,
+  row-in-reads.Learnt,
   row-serves-reads.Asked,
   row-serves-reads.Learnt,
   target-of-reads.Asked,
   target-of-reads.Learnt,
   place-at-reads.Asked,
   place-at-reads.Learnt,
+  known-reads.Asked,
+  known-reads.Learnt,
   check-term-below t,
   check-term.Post,
 ) (check-head-at t) check-head.Post check-head-Inv-loop check-head-μ-loop
-check-head-check-term-requires t c κs = let p = c .before .before .before .before .before .before .before .before .before .before .before .before .before .before .before .before .before .before .before .before .before .before .before .before .before .pre .0 in let f = c .before .before .before .before .before .before .loop .inv .forward in let h = c .before .before .before .before .before .before .before .before .before .before .before .before .before .before .before .before .before .if1 .left in (omega arith, Prim.tt)
+check-head-same-length-3 t c = c .before .before .before .before .before .loop .inv .keeps .long
 
--- src/lib.rt:159:13
-check-head-same-length-4 : (t : ℕ) → check-head-lts.Need-same-length-4 (
-  byte-at-reads.Asked,
-  byte-at-reads.Learnt,
-  check-choices-below t,
-  check-choices.Post,
-  word-at-reads.Asked,
-  word-at-reads.Learnt,
-  state-at-reads.Asked,
-  state-at-reads.Learnt,
-  row-serves-reads.Asked,
-  row-serves-reads.Learnt,
-  target-of-reads.Asked,
-  target-of-reads.Learnt,
-  place-at-reads.Asked,
-  place-at-reads.Learnt,
-  check-term-below t,
-  check-term.Post,
-) (check-head-at t) check-head.Post check-head-Inv-loop check-head-μ-loop
-check-head-same-length-4 t c = c .before .before .before .check-term .ensures .keeps .long ∙ c .before .before .before .before .before .before .before .before .before .before .loop .inv .keeps .long
-
--- src/lib.rt:159:13
 check-head-returns-8 : (t : ℕ) → check-head-lts.Need-returns-8 (
   byte-at-reads.Asked,
   byte-at-reads.Learnt,
@@ -1357,19 +1483,22 @@ check-head-returns-8 : (t : ℕ) → check-head-lts.Need-returns-8 (
   word-at-reads.Learnt,
   state-at-reads.Asked,
   state-at-reads.Learnt,
+  row-in-reads.Asked,
+  row-in-reads.Learnt,
   row-serves-reads.Asked,
   row-serves-reads.Learnt,
   target-of-reads.Asked,
   target-of-reads.Learnt,
   place-at-reads.Asked,
   place-at-reads.Learnt,
+  known-reads.Asked,
+  known-reads.Learnt,
   check-term-below t,
   check-term.Post,
 ) (check-head-at t) check-head.Post check-head-Inv-loop check-head-μ-loop
-check-head-returns-8 t c = targets-told _ _ _ _ _ _ _ (c .before .before .before .before .before .before .before .before .before .before .before .before .before .before .before .before .before .before .word-at .ensures .value) (c .before .before .before .before .before .before .before .before .before .before .before .before .before .before .before .before .before .byte-at2 .ensures .value) (c .before .before .before .before .before .before .before .before .before .before .before .before .before .before .before .before .state-at .ensures) _ (c .before .before .before .before .before .before .before .before .before .before .before .before .before .before .before .before .before .before .before .before .byte-at .ensures .value) (c .before .before .before .before .before .before .before .before .before .before .before .before .before .before .before .before .before .before .before .if2 .left) (let h = c .before .before .before .before .before .before .before .before .before .before .before .before .before .before .before .if3 .left in omega arith) (let h = c .before .before .before .before .before .before .before .before .before .before .before .before .before .before .if4 .left in omega arith) _ refl _ (c .before .before .before .before .before .before .before .before .before .before .before .before .row-serves .ensures) (not-false _ (c .before .before .before .before .before .before .before .before .before .before .before .if5 .left)) _ (omega arith) _ _ (target-lacks _ (c .before .before .before .before .before .before .before .before .before .before .loop .inv) (c .before .before .before .before .before .before .before .before .before .loop-test .taken) _ (c .before .before .before .before .before .before .before .before .target-of .ensures) (c .before .before .before .before .before .before .before .if6 .left) _ _ (c .before .before .before .check-term .ensures) (not-true _ (c .if8 .taken)))
+check-head-returns-8 t c = targets-told _ _ _ _ _ _ _ (c .before .before .before .before .before .before .before .before .before .before .before .before .before .before .before .before .word-at .ensures .value) (c .before .before .before .before .before .before .before .before .before .before .before .before .before .before .before .byte-at2 .ensures .value) (c .before .before .before .before .before .before .before .before .before .before .before .before .before .state-at .ensures) _ (c .before .before .before .before .before .before .before .before .before .before .before .before .before .before .before .before .before .before .before .byte-at .ensures .value) (c .before .before .before .before .before .before .before .before .before .before .before .before .before .before .before .before .before .before .if2 .left) (let h = c .before .before .before .before .before .before .before .before .before .before .before .before .if4 .left in omega arith) (let h = c .before .before .before .before .before .before .before .before .before .before .before .if5 .left in omega arith) _ (c .before .before .before .before .before .before .before .before .before .row-in .ensures) _ (c .before .before .before .before .before .before .before .row-serves .ensures) (not-false _ (c .before .before .before .before .before .before .if6 .left)) _ (omega arith) _ _ (target-stuck _ (c .before .before .before .before .before .loop .inv) (c .before .before .before .before .loop-test .taken) _ (c .before .before .before .target-of .ensures) (c .before .before .if7 .left) _ (c .before .place-at .ensures .value) (c .if8 .taken))
 
--- src/lib.rt:136:5
-check-head-loop-less : (t : ℕ) → check-head-lts.Need-loop-less (
+check-head-add-i : (t : ℕ) → check-head-lts.Need-add-i (
   byte-at-reads.Asked,
   byte-at-reads.Learnt,
   check-choices-below t,
@@ -1378,19 +1507,22 @@ check-head-loop-less : (t : ℕ) → check-head-lts.Need-loop-less (
   word-at-reads.Learnt,
   state-at-reads.Asked,
   state-at-reads.Learnt,
+  row-in-reads.Asked,
+  row-in-reads.Learnt,
   row-serves-reads.Asked,
   row-serves-reads.Learnt,
   target-of-reads.Asked,
   target-of-reads.Learnt,
   place-at-reads.Asked,
   place-at-reads.Learnt,
+  known-reads.Asked,
+  known-reads.Learnt,
   check-term-below t,
   check-term.Post,
 ) (check-head-at t) check-head.Post check-head-Inv-loop check-head-μ-loop
-check-head-loop-less t c = let h = c .before .before .before .before .before .before .before .before .before .loop-test .taken in omega arith
+check-head-add-i t c = search needs
 
--- src/lib.rt:136:5
-check-head-loop-again : (t : ℕ) → check-head-lts.Need-loop-again (
+check-head-add-known : (t : ℕ) → check-head-lts.Need-add-known (
   byte-at-reads.Asked,
   byte-at-reads.Learnt,
   check-choices-below t,
@@ -1399,19 +1531,22 @@ check-head-loop-again : (t : ℕ) → check-head-lts.Need-loop-again (
   word-at-reads.Learnt,
   state-at-reads.Asked,
   state-at-reads.Learnt,
+  row-in-reads.Asked,
+  row-in-reads.Learnt,
   row-serves-reads.Asked,
   row-serves-reads.Learnt,
   target-of-reads.Asked,
   target-of-reads.Learnt,
   place-at-reads.Asked,
   place-at-reads.Learnt,
+  known-reads.Asked,
+  known-reads.Learnt,
   check-term-below t,
   check-term.Post,
 ) (check-head-at t) check-head.Post check-head-Inv-loop check-head-μ-loop
-check-head-loop-again t c = target-has _ (c .before .before .before .before .before .before .before .before .before .before .loop .inv) (c .before .before .before .before .before .before .before .before .before .loop-test .taken) _ (c .before .before .before .before .before .before .before .before .target-of .ensures) (c .before .before .before .before .before .before .before .if6 .left) _ _ (c .before .before .before .check-term .ensures) (not-false _ (c .if8 .left)) _ _ (c .before .before .before .before .before .before .place-at .ensures .value) (let h = c .before .before .before .before .before .if7 .left in omega arith) (omega arith)
+check-head-add-known t c = let h = c .before .before .before .before .before .before .before .before .before .before .before .before .before .before .before .before .before .before .if3 .left in omega arith
 
--- src/lib.rt:86:1
-check-head-same-length-5 : (t : ℕ) → check-head-lts.Need-same-length-5 (
+check-head-known-requires : (t : ℕ) → check-head-lts.Need-known-requires (
   byte-at-reads.Asked,
   byte-at-reads.Learnt,
   check-choices-below t,
@@ -1420,18 +1555,45 @@ check-head-same-length-5 : (t : ℕ) → check-head-lts.Need-same-length-5 (
   word-at-reads.Learnt,
   state-at-reads.Asked,
   state-at-reads.Learnt,
+  row-in-reads.Asked,
+  row-in-reads.Learnt,
   row-serves-reads.Asked,
   row-serves-reads.Learnt,
   target-of-reads.Asked,
   target-of-reads.Learnt,
   place-at-reads.Asked,
   place-at-reads.Learnt,
+  known-reads.Asked,
+  known-reads.Learnt,
   check-term-below t,
   check-term.Post,
 ) (check-head-at t) check-head.Post check-head-Inv-loop check-head-μ-loop
-check-head-same-length-5 t c = c .before .loop .inv .keeps .long
+check-head-known-requires t c κs = search needs
 
--- src/lib.rt:86:1
+check-head-same-length-4 : (t : ℕ) → check-head-lts.Need-same-length-4 (
+  byte-at-reads.Asked,
+  byte-at-reads.Learnt,
+  check-choices-below t,
+  check-choices.Post,
+  word-at-reads.Asked,
+  word-at-reads.Learnt,
+  state-at-reads.Asked,
+  state-at-reads.Learnt,
+  row-in-reads.Asked,
+  row-in-reads.Learnt,
+  row-serves-reads.Asked,
+  row-serves-reads.Learnt,
+  target-of-reads.Asked,
+  target-of-reads.Learnt,
+  place-at-reads.Asked,
+  place-at-reads.Learnt,
+  known-reads.Asked,
+  known-reads.Learnt,
+  check-term-below t,
+  check-term.Post,
+) (check-head-at t) check-head.Post check-head-Inv-loop check-head-μ-loop
+check-head-same-length-4 t c = c .before .before .before .before .before .before .before .before .loop .inv .keeps .long
+
 check-head-returns-9 : (t : ℕ) → check-head-lts.Need-returns-9 (
   byte-at-reads.Asked,
   byte-at-reads.Learnt,
@@ -1441,18 +1603,237 @@ check-head-returns-9 : (t : ℕ) → check-head-lts.Need-returns-9 (
   word-at-reads.Learnt,
   state-at-reads.Asked,
   state-at-reads.Learnt,
+  row-in-reads.Asked,
+  row-in-reads.Learnt,
   row-serves-reads.Asked,
   row-serves-reads.Learnt,
   target-of-reads.Asked,
   target-of-reads.Learnt,
   place-at-reads.Asked,
   place-at-reads.Learnt,
+  known-reads.Asked,
+  known-reads.Learnt,
   check-term-below t,
   check-term.Post,
 ) (check-head-at t) check-head.Post check-head-Inv-loop check-head-μ-loop
-check-head-returns-9 t c = targets-told _ _ _ _ _ _ _ (c .before .before .before .before .before .before .before .before .before .word-at .ensures .value) (c .before .before .before .before .before .before .before .before .byte-at2 .ensures .value) (c .before .before .before .before .before .before .before .state-at .ensures) _ (c .before .before .before .before .before .before .before .before .before .before .before .byte-at .ensures .value) (c .before .before .before .before .before .before .before .before .before .before .if2 .left) (let h = c .before .before .before .before .before .before .if3 .left in omega arith) (let h = c .before .before .before .before .before .if4 .left in omega arith) _ refl _ (c .before .before .before .row-serves .ensures) (not-false _ (c .before .before .if5 .left)) _ (omega arith) _ _ (args-end _ (c .before .loop .inv) (c .loop-test .left))
+check-head-returns-9 t c = targets-told _ _ _ _ _ _ _ (c .before .before .before .before .before .before .before .before .before .before .before .before .before .before .before .before .before .before .before .word-at .ensures .value) (c .before .before .before .before .before .before .before .before .before .before .before .before .before .before .before .before .before .before .byte-at2 .ensures .value) (c .before .before .before .before .before .before .before .before .before .before .before .before .before .before .before .before .state-at .ensures) _ (c .before .before .before .before .before .before .before .before .before .before .before .before .before .before .before .before .before .before .before .before .before .before .byte-at .ensures .value) (c .before .before .before .before .before .before .before .before .before .before .before .before .before .before .before .before .before .before .before .before .before .if2 .left) (let h = c .before .before .before .before .before .before .before .before .before .before .before .before .before .before .before .if4 .left in omega arith) (let h = c .before .before .before .before .before .before .before .before .before .before .before .before .before .before .if5 .left in omega arith) _ (c .before .before .before .before .before .before .before .before .before .before .before .before .row-in .ensures) _ (c .before .before .before .before .before .before .before .before .before .before .row-serves .ensures) (not-false _ (c .before .before .before .before .before .before .before .before .before .if6 .left)) _ (omega arith) _ _ (target-lacks _ (c .before .before .before .before .before .before .before .before .loop .inv) (c .before .before .before .before .before .before .before .loop-test .taken) _ (c .before .before .before .before .before .before .target-of .ensures) (c .before .before .before .before .before .if7 .left) _ _ (known-no _ _ _ _ _ (c .before .known .ensures) (c .if9 .taken)) refl)
 
--- src/lib.rt:46:9
+check-head-check-term-requires : (t : ℕ) → check-head-lts.Need-check-term-requires (
+  byte-at-reads.Asked,
+  byte-at-reads.Learnt,
+  check-choices-below t,
+  check-choices.Post,
+  word-at-reads.Asked,
+  word-at-reads.Learnt,
+  state-at-reads.Asked,
+  state-at-reads.Learnt,
+  row-in-reads.Asked,
+  row-in-reads.Learnt,
+  row-serves-reads.Asked,
+  row-serves-reads.Learnt,
+  target-of-reads.Asked,
+  target-of-reads.Learnt,
+  place-at-reads.Asked,
+  place-at-reads.Learnt,
+  known-reads.Asked,
+  known-reads.Learnt,
+  check-term-below t,
+  check-term.Post,
+) (check-head-at t) check-head.Post check-head-Inv-loop check-head-μ-loop
+check-head-check-term-requires t c κs = let p = c .before .before .before .before .before .before .before .before .before .before .before .before .before .before .before .before .before .before .before .before .before .before .before .before .before .before .before .before .before .before .pre .0 in let f = c .before .before .before .before .before .before .before .before .before .before .loop .inv .forward in let h = c .before .before .before .before .before .before .before .before .before .before .before .before .before .before .before .before .before .before .before .before .before .before .before .before .before .if1 .left in (omega arith, Prim.tt)
+
+check-head-same-length-5 : (t : ℕ) → check-head-lts.Need-same-length-5 (
+  byte-at-reads.Asked,
+  byte-at-reads.Learnt,
+  check-choices-below t,
+  check-choices.Post,
+  word-at-reads.Asked,
+  word-at-reads.Learnt,
+  state-at-reads.Asked,
+  state-at-reads.Learnt,
+  row-in-reads.Asked,
+  row-in-reads.Learnt,
+  row-serves-reads.Asked,
+  row-serves-reads.Learnt,
+  target-of-reads.Asked,
+  target-of-reads.Learnt,
+  place-at-reads.Asked,
+  place-at-reads.Learnt,
+  known-reads.Asked,
+  known-reads.Learnt,
+  check-term-below t,
+  check-term.Post,
+) (check-head-at t) check-head.Post check-head-Inv-loop check-head-μ-loop
+check-head-same-length-5 t c = c .before .before .before .check-term .ensures .keeps .long ∙ c .before .before .before .before .before .before .before .before .before .before .before .before .before .before .loop .inv .keeps .long
+
+check-head-returns-10 : (t : ℕ) → check-head-lts.Need-returns-10 (
+  byte-at-reads.Asked,
+  byte-at-reads.Learnt,
+  check-choices-below t,
+  check-choices.Post,
+  word-at-reads.Asked,
+  word-at-reads.Learnt,
+  state-at-reads.Asked,
+  state-at-reads.Learnt,
+  row-in-reads.Asked,
+  row-in-reads.Learnt,
+  row-serves-reads.Asked,
+  row-serves-reads.Learnt,
+  target-of-reads.Asked,
+  target-of-reads.Learnt,
+  place-at-reads.Asked,
+  place-at-reads.Learnt,
+  known-reads.Asked,
+  known-reads.Learnt,
+  check-term-below t,
+  check-term.Post,
+) (check-head-at t) check-head.Post check-head-Inv-loop check-head-μ-loop
+check-head-returns-10 t c = targets-told _ _ _ _ _ _ _ (c .before .before .before .before .before .before .before .before .before .before .before .before .before .before .before .before .before .before .before .before .before .before .before .before .before .word-at .ensures .value) (c .before .before .before .before .before .before .before .before .before .before .before .before .before .before .before .before .before .before .before .before .before .before .before .before .byte-at2 .ensures .value) (c .before .before .before .before .before .before .before .before .before .before .before .before .before .before .before .before .before .before .before .before .before .before .state-at .ensures) _ (c .before .before .before .before .before .before .before .before .before .before .before .before .before .before .before .before .before .before .before .before .before .before .before .before .before .before .before .before .byte-at .ensures .value) (c .before .before .before .before .before .before .before .before .before .before .before .before .before .before .before .before .before .before .before .before .before .before .before .before .before .before .before .if2 .left) (let h = c .before .before .before .before .before .before .before .before .before .before .before .before .before .before .before .before .before .before .before .before .before .if4 .left in omega arith) (let h = c .before .before .before .before .before .before .before .before .before .before .before .before .before .before .before .before .before .before .before .before .if5 .left in omega arith) _ (c .before .before .before .before .before .before .before .before .before .before .before .before .before .before .before .before .before .before .row-in .ensures) _ (c .before .before .before .before .before .before .before .before .before .before .before .before .before .before .before .before .row-serves .ensures) (not-false _ (c .before .before .before .before .before .before .before .before .before .before .before .before .before .before .before .if6 .left)) _ (omega arith) _ _ (target-lacks _ (c .before .before .before .before .before .before .before .before .before .before .before .before .before .before .loop .inv) (c .before .before .before .before .before .before .before .before .before .before .before .before .before .loop-test .taken) _ (c .before .before .before .before .before .before .before .before .before .before .before .before .target-of .ensures) (c .before .before .before .before .before .before .before .before .before .before .before .if7 .left) _ _ (c .before .before .before .check-term .ensures) (not-true _ (c .if11 .taken)))
+
+check-head-loop-less : (t : ℕ) → check-head-lts.Need-loop-less (
+  byte-at-reads.Asked,
+  byte-at-reads.Learnt,
+  check-choices-below t,
+  check-choices.Post,
+  word-at-reads.Asked,
+  word-at-reads.Learnt,
+  state-at-reads.Asked,
+  state-at-reads.Learnt,
+  row-in-reads.Asked,
+  row-in-reads.Learnt,
+  row-serves-reads.Asked,
+  row-serves-reads.Learnt,
+  target-of-reads.Asked,
+  target-of-reads.Learnt,
+  place-at-reads.Asked,
+  place-at-reads.Learnt,
+  known-reads.Asked,
+  known-reads.Learnt,
+  check-term-below t,
+  check-term.Post,
+) (check-head-at t) check-head.Post check-head-Inv-loop check-head-μ-loop
+check-head-loop-less t c = let h = c .before .before .before .before .before .before .before .before .before .before .before .before .before .loop-test .taken in omega arith
+
+check-head-loop-again : (t : ℕ) → check-head-lts.Need-loop-again (
+  byte-at-reads.Asked,
+  byte-at-reads.Learnt,
+  check-choices-below t,
+  check-choices.Post,
+  word-at-reads.Asked,
+  word-at-reads.Learnt,
+  state-at-reads.Asked,
+  state-at-reads.Learnt,
+  row-in-reads.Asked,
+  row-in-reads.Learnt,
+  row-serves-reads.Asked,
+  row-serves-reads.Learnt,
+  target-of-reads.Asked,
+  target-of-reads.Learnt,
+  place-at-reads.Asked,
+  place-at-reads.Learnt,
+  known-reads.Asked,
+  known-reads.Learnt,
+  check-term-below t,
+  check-term.Post,
+) (check-head-at t) check-head.Post check-head-Inv-loop check-head-μ-loop
+check-head-loop-again t c = target-has _ (c .before .before .before .before .before .before .before .before .before .before .before .before .before .before .loop .inv) (c .before .before .before .before .before .before .before .before .before .before .before .before .before .loop-test .taken) _ (c .before .before .before .before .before .before .before .before .before .before .before .before .target-of .ensures) (c .before .before .before .before .before .before .before .before .before .before .before .if7 .left) _ _ (c .before .before .before .check-term .ensures) (not-false _ (c .if11 .left)) _ _ (c .before .before .before .before .before .before .before .before .before .before .place-at .ensures .value) (let h = c .before .before .before .before .before .before .before .before .before .if8 .left in omega arith) (omega arith)
+
+check-head-loop-less-2 : (t : ℕ) → check-head-lts.Need-loop-less-2 (
+  byte-at-reads.Asked,
+  byte-at-reads.Learnt,
+  check-choices-below t,
+  check-choices.Post,
+  word-at-reads.Asked,
+  word-at-reads.Learnt,
+  state-at-reads.Asked,
+  state-at-reads.Learnt,
+  row-in-reads.Asked,
+  row-in-reads.Learnt,
+  row-serves-reads.Asked,
+  row-serves-reads.Learnt,
+  target-of-reads.Asked,
+  target-of-reads.Learnt,
+  place-at-reads.Asked,
+  place-at-reads.Learnt,
+  known-reads.Asked,
+  known-reads.Learnt,
+  check-term-below t,
+  check-term.Post,
+) (check-head-at t) check-head.Post check-head-Inv-loop check-head-μ-loop
+check-head-loop-less-2 t c = let h = c .before .before .before .before .before .before .before .before .loop-test .taken in omega arith
+
+check-head-loop-again-2 : (t : ℕ) → check-head-lts.Need-loop-again-2 (
+  byte-at-reads.Asked,
+  byte-at-reads.Learnt,
+  check-choices-below t,
+  check-choices.Post,
+  word-at-reads.Asked,
+  word-at-reads.Learnt,
+  state-at-reads.Asked,
+  state-at-reads.Learnt,
+  row-in-reads.Asked,
+  row-in-reads.Learnt,
+  row-serves-reads.Asked,
+  row-serves-reads.Learnt,
+  target-of-reads.Asked,
+  target-of-reads.Learnt,
+  place-at-reads.Asked,
+  place-at-reads.Learnt,
+  known-reads.Asked,
+  known-reads.Learnt,
+  check-term-below t,
+  check-term.Post,
+) (check-head-at t) check-head.Post check-head-Inv-loop check-head-μ-loop
+check-head-loop-again-2 t c = target-has _ (c .before .before .before .before .before .before .before .before .before .loop .inv) (c .before .before .before .before .before .before .before .before .loop-test .taken) _ (c .before .before .before .before .before .before .before .target-of .ensures) (c .before .before .before .before .before .before .if7 .left) _ _ (known-yes _ _ _ _ _ (c .before .before .known .ensures) (c .if10 .left)) refl _ _ (c .before .before .before .before .before .place-at .ensures .value) (let h = c .before .before .before .before .if8 .left in omega arith) (omega arith)
+
+check-head-same-length-6 : (t : ℕ) → check-head-lts.Need-same-length-6 (
+  byte-at-reads.Asked,
+  byte-at-reads.Learnt,
+  check-choices-below t,
+  check-choices.Post,
+  word-at-reads.Asked,
+  word-at-reads.Learnt,
+  state-at-reads.Asked,
+  state-at-reads.Learnt,
+  row-in-reads.Asked,
+  row-in-reads.Learnt,
+  row-serves-reads.Asked,
+  row-serves-reads.Learnt,
+  target-of-reads.Asked,
+  target-of-reads.Learnt,
+  place-at-reads.Asked,
+  place-at-reads.Learnt,
+  known-reads.Asked,
+  known-reads.Learnt,
+  check-term-below t,
+  check-term.Post,
+) (check-head-at t) check-head.Post check-head-Inv-loop check-head-μ-loop
+check-head-same-length-6 t c = c .before .loop .inv .keeps .long
+
+check-head-returns-11 : (t : ℕ) → check-head-lts.Need-returns-11 (
+  byte-at-reads.Asked,
+  byte-at-reads.Learnt,
+  check-choices-below t,
+  check-choices.Post,
+  word-at-reads.Asked,
+  word-at-reads.Learnt,
+  state-at-reads.Asked,
+  state-at-reads.Learnt,
+  row-in-reads.Asked,
+  row-in-reads.Learnt,
+  row-serves-reads.Asked,
+  row-serves-reads.Learnt,
+  target-of-reads.Asked,
+  target-of-reads.Learnt,
+  place-at-reads.Asked,
+  place-at-reads.Learnt,
+  known-reads.Asked,
+  known-reads.Learnt,
+  check-term-below t,
+  check-term.Post,
+) (check-head-at t) check-head.Post check-head-Inv-loop check-head-μ-loop
+check-head-returns-11 t c = targets-told _ _ _ _ _ _ _ (c .before .before .before .before .before .before .before .before .before .before .before .before .word-at .ensures .value) (c .before .before .before .before .before .before .before .before .before .before .before .byte-at2 .ensures .value) (c .before .before .before .before .before .before .before .before .before .state-at .ensures) _ (c .before .before .before .before .before .before .before .before .before .before .before .before .before .before .before .byte-at .ensures .value) (c .before .before .before .before .before .before .before .before .before .before .before .before .before .before .if2 .left) (let h = c .before .before .before .before .before .before .before .before .if4 .left in omega arith) (let h = c .before .before .before .before .before .before .before .if5 .left in omega arith) _ (c .before .before .before .before .before .row-in .ensures) _ (c .before .before .before .row-serves .ensures) (not-false _ (c .before .before .if6 .left)) _ (omega arith) _ _ (args-end _ (c .before .loop .inv) (c .loop-test .left))
+
 check-term-returns : (t : ℕ) → check-term-lts.Need-returns (
   byte-at-reads.Asked,
   byte-at-reads.Learnt,
@@ -1460,8 +1841,6 @@ check-term-returns : (t : ℕ) → check-term-lts.Need-returns (
   word-at-reads.Learnt,
   bare-has-reads.Asked,
   bare-has-reads.Learnt,
-  known-reads.Asked,
-  known-reads.Learnt,
   check-head-below t,
   check-head.Post,
   learn-reads.Asked,
@@ -1469,7 +1848,6 @@ check-term-returns : (t : ℕ) → check-term-lts.Need-returns (
 ) (check-term-at t) check-term.Post
 check-term-returns t c = types-many _ _ _ _ (c .if1 .taken)
 
--- src/lib.rt:49:9
 check-term-returns-2 : (t : ℕ) → check-term-lts.Need-returns-2 (
   byte-at-reads.Asked,
   byte-at-reads.Learnt,
@@ -1477,8 +1855,6 @@ check-term-returns-2 : (t : ℕ) → check-term-lts.Need-returns-2 (
   word-at-reads.Learnt,
   bare-has-reads.Asked,
   bare-has-reads.Learnt,
-  known-reads.Asked,
-  known-reads.Learnt,
   check-head-below t,
   check-head.Post,
   learn-reads.Asked,
@@ -1486,7 +1862,6 @@ check-term-returns-2 : (t : ℕ) → check-term-lts.Need-returns-2 (
 ) (check-term-at t) check-term.Post
 check-term-returns-2 t c = term-past _ _ _ _ (c .if2 .taken)
 
--- src/lib.rt:51:29
 check-term-mul-byte-at : (t : ℕ) → check-term-lts.Need-mul-byte-at (
   byte-at-reads.Asked,
   byte-at-reads.Learnt,
@@ -1494,8 +1869,6 @@ check-term-mul-byte-at : (t : ℕ) → check-term-lts.Need-mul-byte-at (
   word-at-reads.Learnt,
   bare-has-reads.Asked,
   bare-has-reads.Learnt,
-  known-reads.Asked,
-  known-reads.Learnt,
   check-head-below t,
   check-head.Post,
   learn-reads.Asked,
@@ -1503,7 +1876,6 @@ check-term-mul-byte-at : (t : ℕ) → check-term-lts.Need-mul-byte-at (
 ) (check-term-at t) check-term.Post
 check-term-mul-byte-at t c = search needs
 
--- src/lib.rt:51:9
 check-term-byte-at-requires : (t : ℕ) → check-term-lts.Need-byte-at-requires (
   byte-at-reads.Asked,
   byte-at-reads.Learnt,
@@ -1511,8 +1883,6 @@ check-term-byte-at-requires : (t : ℕ) → check-term-lts.Need-byte-at-requires
   word-at-reads.Learnt,
   bare-has-reads.Asked,
   bare-has-reads.Learnt,
-  known-reads.Asked,
-  known-reads.Learnt,
   check-head-below t,
   check-head.Post,
   learn-reads.Asked,
@@ -1520,7 +1890,6 @@ check-term-byte-at-requires : (t : ℕ) → check-term-lts.Need-byte-at-requires
 ) (check-term-at t) check-term.Post
 check-term-byte-at-requires t c κs = search needs
 
--- src/lib.rt:52:32
 check-term-mul-word-at : (t : ℕ) → check-term-lts.Need-mul-word-at (
   byte-at-reads.Asked,
   byte-at-reads.Learnt,
@@ -1528,8 +1897,6 @@ check-term-mul-word-at : (t : ℕ) → check-term-lts.Need-mul-word-at (
   word-at-reads.Learnt,
   bare-has-reads.Asked,
   bare-has-reads.Learnt,
-  known-reads.Asked,
-  known-reads.Learnt,
   check-head-below t,
   check-head.Post,
   learn-reads.Asked,
@@ -1537,7 +1904,6 @@ check-term-mul-word-at : (t : ℕ) → check-term-lts.Need-mul-word-at (
 ) (check-term-at t) check-term.Post
 check-term-mul-word-at t c = search needs
 
--- src/lib.rt:52:32
 check-term-add-word-at : (t : ℕ) → check-term-lts.Need-add-word-at (
   byte-at-reads.Asked,
   byte-at-reads.Learnt,
@@ -1545,8 +1911,6 @@ check-term-add-word-at : (t : ℕ) → check-term-lts.Need-add-word-at (
   word-at-reads.Learnt,
   bare-has-reads.Asked,
   bare-has-reads.Learnt,
-  known-reads.Asked,
-  known-reads.Learnt,
   check-head-below t,
   check-head.Post,
   learn-reads.Asked,
@@ -1554,7 +1918,6 @@ check-term-add-word-at : (t : ℕ) → check-term-lts.Need-add-word-at (
 ) (check-term-at t) check-term.Post
 check-term-add-word-at t c = search needs
 
--- src/lib.rt:52:9
 check-term-word-at-requires : (t : ℕ) → check-term-lts.Need-word-at-requires (
   byte-at-reads.Asked,
   byte-at-reads.Learnt,
@@ -1562,8 +1925,6 @@ check-term-word-at-requires : (t : ℕ) → check-term-lts.Need-word-at-requires
   word-at-reads.Learnt,
   bare-has-reads.Asked,
   bare-has-reads.Learnt,
-  known-reads.Asked,
-  known-reads.Learnt,
   check-head-below t,
   check-head.Post,
   learn-reads.Asked,
@@ -1571,7 +1932,6 @@ check-term-word-at-requires : (t : ℕ) → check-term-lts.Need-word-at-requires
 ) (check-term-at t) check-term.Post
 check-term-word-at-requires t c κs = search needs
 
--- src/lib.rt:53:22
 check-term-mul-byte-at-2 : (t : ℕ) → check-term-lts.Need-mul-byte-at-2 (
   byte-at-reads.Asked,
   byte-at-reads.Learnt,
@@ -1579,8 +1939,6 @@ check-term-mul-byte-at-2 : (t : ℕ) → check-term-lts.Need-mul-byte-at-2 (
   word-at-reads.Learnt,
   bare-has-reads.Asked,
   bare-has-reads.Learnt,
-  known-reads.Asked,
-  known-reads.Learnt,
   check-head-below t,
   check-head.Post,
   learn-reads.Asked,
@@ -1588,7 +1946,6 @@ check-term-mul-byte-at-2 : (t : ℕ) → check-term-lts.Need-mul-byte-at-2 (
 ) (check-term-at t) check-term.Post
 check-term-mul-byte-at-2 t c = search needs
 
--- src/lib.rt:53:22
 check-term-add-byte-at : (t : ℕ) → check-term-lts.Need-add-byte-at (
   byte-at-reads.Asked,
   byte-at-reads.Learnt,
@@ -1596,8 +1953,6 @@ check-term-add-byte-at : (t : ℕ) → check-term-lts.Need-add-byte-at (
   word-at-reads.Learnt,
   bare-has-reads.Asked,
   bare-has-reads.Learnt,
-  known-reads.Asked,
-  known-reads.Learnt,
   check-head-below t,
   check-head.Post,
   learn-reads.Asked,
@@ -1605,7 +1960,6 @@ check-term-add-byte-at : (t : ℕ) → check-term-lts.Need-add-byte-at (
 ) (check-term-at t) check-term.Post
 check-term-add-byte-at t c = search needs
 
--- src/lib.rt:53:8
 check-term-byte-at-requires-2 : (t : ℕ) → check-term-lts.Need-byte-at-requires-2 (
   byte-at-reads.Asked,
   byte-at-reads.Learnt,
@@ -1613,8 +1967,6 @@ check-term-byte-at-requires-2 : (t : ℕ) → check-term-lts.Need-byte-at-requir
   word-at-reads.Learnt,
   bare-has-reads.Asked,
   bare-has-reads.Learnt,
-  known-reads.Asked,
-  known-reads.Learnt,
   check-head-below t,
   check-head.Post,
   learn-reads.Asked,
@@ -1622,7 +1974,6 @@ check-term-byte-at-requires-2 : (t : ℕ) → check-term-lts.Need-byte-at-requir
 ) (check-term-at t) check-term.Post
 check-term-byte-at-requires-2 t c κs = search needs
 
--- src/lib.rt:57:13
 check-term-bare-has-requires : (t : ℕ) → check-term-lts.Need-bare-has-requires (
   byte-at-reads.Asked,
   byte-at-reads.Learnt,
@@ -1630,8 +1981,6 @@ check-term-bare-has-requires : (t : ℕ) → check-term-lts.Need-bare-has-requir
   word-at-reads.Learnt,
   bare-has-reads.Asked,
   bare-has-reads.Learnt,
-  known-reads.Asked,
-  known-reads.Learnt,
   check-head-below t,
   check-head.Post,
   learn-reads.Asked,
@@ -1639,7 +1988,6 @@ check-term-bare-has-requires : (t : ℕ) → check-term-lts.Need-bare-has-requir
 ) (check-term-at t) check-term.Post
 check-term-bare-has-requires t c κs = search needs
 
--- src/lib.rt:57:13
 check-term-returns-3 : (t : ℕ) → check-term-lts.Need-returns-3 (
   byte-at-reads.Asked,
   byte-at-reads.Learnt,
@@ -1647,8 +1995,6 @@ check-term-returns-3 : (t : ℕ) → check-term-lts.Need-returns-3 (
   word-at-reads.Learnt,
   bare-has-reads.Asked,
   bare-has-reads.Learnt,
-  known-reads.Asked,
-  known-reads.Learnt,
   check-head-below t,
   check-head.Post,
   learn-reads.Asked,
@@ -1656,109 +2002,6 @@ check-term-returns-3 : (t : ℕ) → check-term-lts.Need-returns-3 (
 ) (check-term-at t) check-term.Post
 check-term-returns-3 t c = bare-checked _ _ _ _ _ _ _ (other-head _ _ _ _ (c .before .before .before .before .before .byte-at .ensures .value) (c .before .before .before .before .word-at .ensures .value) (c .before .if4 .taken) (let h = c .before .before .before .before .before .before .if2 .left in omega arith)) (c .before .before .before .byte-at2 .ensures .value) (c .before .before .if3 .taken) (let h = c .before .before .before .before .before .before .if2 .left in omega arith) _ (c .bare-has .ensures)
 
--- src/lib.rt:60:27
-check-term-add-known : (t : ℕ) → check-term-lts.Need-add-known (
-  byte-at-reads.Asked,
-  byte-at-reads.Learnt,
-  word-at-reads.Asked,
-  word-at-reads.Learnt,
-  bare-has-reads.Asked,
-  bare-has-reads.Learnt,
-  known-reads.Asked,
-  known-reads.Learnt,
-  check-head-below t,
-  check-head.Post,
-  learn-reads.Asked,
-  learn-reads.Learnt,
-) (check-term-at t) check-term.Post
-check-term-add-known t c = search needs
-
--- src/lib.rt:60:9
-check-term-known-requires : (t : ℕ) → check-term-lts.Need-known-requires (
-  byte-at-reads.Asked,
-  byte-at-reads.Learnt,
-  word-at-reads.Asked,
-  word-at-reads.Learnt,
-  bare-has-reads.Asked,
-  bare-has-reads.Learnt,
-  known-reads.Asked,
-  known-reads.Learnt,
-  check-head-below t,
-  check-head.Post,
-  learn-reads.Asked,
-  learn-reads.Learnt,
-) (check-term-at t) check-term.Post
-check-term-known-requires t c κs = search needs
-
--- src/lib.rt:62:9
-check-term-same-length : (t : ℕ) → check-term-lts.Need-same-length (
-  byte-at-reads.Asked,
-  byte-at-reads.Learnt,
-  word-at-reads.Asked,
-  word-at-reads.Learnt,
-  bare-has-reads.Asked,
-  bare-has-reads.Learnt,
-  known-reads.Asked,
-  known-reads.Learnt,
-  check-head-below t,
-  check-head.Post,
-  learn-reads.Asked,
-  learn-reads.Learnt,
-) (check-term-at t) check-term.Post
-check-term-same-length t c = search needs
-
--- src/lib.rt:62:9
-check-term-returns-4 : (t : ℕ) → check-term-lts.Need-returns-4 (
-  byte-at-reads.Asked,
-  byte-at-reads.Learnt,
-  word-at-reads.Asked,
-  word-at-reads.Learnt,
-  bare-has-reads.Asked,
-  bare-has-reads.Learnt,
-  known-reads.Asked,
-  known-reads.Learnt,
-  check-head-below t,
-  check-head.Post,
-  learn-reads.Asked,
-  learn-reads.Learnt,
-) (check-term-at t) check-term.Post
-check-term-returns-4 t c = known-yes _ _ _ _ _ (c .before .known .ensures) (c .if5 .taken)
-
--- src/lib.rt:65:9
-check-term-same-length-2 : (t : ℕ) → check-term-lts.Need-same-length-2 (
-  byte-at-reads.Asked,
-  byte-at-reads.Learnt,
-  word-at-reads.Asked,
-  word-at-reads.Learnt,
-  bare-has-reads.Asked,
-  bare-has-reads.Learnt,
-  known-reads.Asked,
-  known-reads.Learnt,
-  check-head-below t,
-  check-head.Post,
-  learn-reads.Asked,
-  learn-reads.Learnt,
-) (check-term-at t) check-term.Post
-check-term-same-length-2 t c = search needs
-
--- src/lib.rt:65:9
-check-term-returns-5 : (t : ℕ) → check-term-lts.Need-returns-5 (
-  byte-at-reads.Asked,
-  byte-at-reads.Learnt,
-  word-at-reads.Asked,
-  word-at-reads.Learnt,
-  bare-has-reads.Asked,
-  bare-has-reads.Learnt,
-  known-reads.Asked,
-  known-reads.Learnt,
-  check-head-below t,
-  check-head.Post,
-  learn-reads.Asked,
-  learn-reads.Learnt,
-) (check-term-at t) check-term.Post
-check-term-returns-5 t c = known-no _ _ _ _ _ (c .before .before .known .ensures) (c .if6 .taken)
-
--- src/lib.rt:67:9
 check-term-check-head-requires : (t : ℕ) → check-term-lts.Need-check-head-requires (
   byte-at-reads.Asked,
   byte-at-reads.Learnt,
@@ -1766,16 +2009,13 @@ check-term-check-head-requires : (t : ℕ) → check-term-lts.Need-check-head-re
   word-at-reads.Learnt,
   bare-has-reads.Asked,
   bare-has-reads.Learnt,
-  known-reads.Asked,
-  known-reads.Learnt,
   check-head-below t,
   check-head.Post,
   learn-reads.Asked,
   learn-reads.Learnt,
 ) (check-term-at t) check-term.Post
-check-term-check-head-requires t c κs = let p = c .before .before .before .before .before .before .before .before .before .before .before .before .before .before .before .before .before .before .pre .0 in (omega arith, Prim.tt)
+check-term-check-head-requires t c κs = let p = c .before .before .before .before .before .before .before .before .before .before .before .pre .0 in (omega arith, Prim.tt)
 
--- src/lib.rt:80:17
 check-term-add-learn : (t : ℕ) → check-term-lts.Need-add-learn (
   byte-at-reads.Asked,
   byte-at-reads.Learnt,
@@ -1783,8 +2023,6 @@ check-term-add-learn : (t : ℕ) → check-term-lts.Need-add-learn (
   word-at-reads.Learnt,
   bare-has-reads.Asked,
   bare-has-reads.Learnt,
-  known-reads.Asked,
-  known-reads.Learnt,
   check-head-below t,
   check-head.Post,
   learn-reads.Asked,
@@ -1792,7 +2030,6 @@ check-term-add-learn : (t : ℕ) → check-term-lts.Need-add-learn (
 ) (check-term-at t) check-term.Post
 check-term-add-learn t c = search needs
 
--- src/lib.rt:80:5
 check-term-learn-requires : (t : ℕ) → check-term-lts.Need-learn-requires (
   byte-at-reads.Asked,
   byte-at-reads.Learnt,
@@ -1800,8 +2037,6 @@ check-term-learn-requires : (t : ℕ) → check-term-lts.Need-learn-requires (
   word-at-reads.Learnt,
   bare-has-reads.Asked,
   bare-has-reads.Learnt,
-  known-reads.Asked,
-  known-reads.Learnt,
   check-head-below t,
   check-head.Post,
   learn-reads.Asked,
@@ -1809,49 +2044,47 @@ check-term-learn-requires : (t : ℕ) → check-term-lts.Need-learn-requires (
 ) (check-term-at t) check-term.Post
 check-term-learn-requires t c κs = search needs
 
--- src/lib.rt:29:1
-check-term-same-length-3 : (t : ℕ) → check-term-lts.Need-same-length-3 (
+check-term-same-length : (t : ℕ) → check-term-lts.Need-same-length (
   byte-at-reads.Asked,
   byte-at-reads.Learnt,
   word-at-reads.Asked,
   word-at-reads.Learnt,
   bare-has-reads.Asked,
   bare-has-reads.Learnt,
-  known-reads.Asked,
-  known-reads.Learnt,
   check-head-below t,
   check-head.Post,
   learn-reads.Asked,
   learn-reads.Learnt,
 ) (check-term-at t) check-term.Post
-check-term-same-length-3 t c = (term-learnt _ _ _ _ _ _ (c .before .before .before .before .before .before .check-head .ensures) _ (c .before .before .learn .ensures)) .keeps .long
+check-term-same-length t c = (term-learnt _ _ _ _ _ _ (c .before .before .before .before .before .before .check-head .ensures) _ (c .before .before .learn .ensures)) .keeps .long
 
--- src/lib.rt:29:1
-check-term-returns-6 : (t : ℕ) → check-term-lts.Need-returns-6 (
+check-term-returns-4 : (t : ℕ) → check-term-lts.Need-returns-4 (
   byte-at-reads.Asked,
   byte-at-reads.Learnt,
   word-at-reads.Asked,
   word-at-reads.Learnt,
   bare-has-reads.Asked,
   bare-has-reads.Learnt,
-  known-reads.Asked,
-  known-reads.Learnt,
   check-head-below t,
   check-head.Post,
   learn-reads.Asked,
   learn-reads.Learnt,
 ) (check-term-at t) check-term.Post
-check-term-returns-6 t c = term-learnt _ _ _ _ _ _ (c .before .before .before .before .before .before .check-head .ensures) _ (c .before .before .learn .ensures)
+check-term-returns-4 t c = term-learnt _ _ _ _ _ _ (c .before .before .before .before .before .before .check-head .ensures) _ (c .before .before .learn .ensures)
 
 pub +check-args+check-choices+check-head+check-term-spec : {M : Type 1} → statement M
 +check-args+check-choices+check-head+check-term-spec =
     close μ-check-args μ-check-choices μ-check-head μ-check-term (λ t. check-args-lts.spec (
+      members-of-reads.Asked,
+      members-of-reads.Learnt,
       wanted-reads.Asked,
       wanted-reads.Learnt,
       place-at-reads.Asked,
       place-at-reads.Learnt,
       result-of-reads.Asked,
       result-of-reads.Learnt,
+      known-reads.Asked,
+      known-reads.Learnt,
       check-term-below t,
       check-term.Post,
     )
@@ -1859,23 +2092,32 @@ pub +check-args+check-choices+check-head+check-term-spec : {M : Type 1} → stat
     check-args.Post
     check-args-Inv-loop
     check-args-μ-loop
+    (check-args-returns t)
+    (check-args-members-of-requires t)
     (check-args-loop-holds t)
     (check-args-wanted-requires t)
     (check-args-place-at-requires t)
     (check-args-same-length t)
-    (check-args-returns t)
+    (check-args-returns-2 t)
     (check-args-result-of-requires t)
+    (check-args-members-of-requires-2 t)
     (check-args-add-i t)
     (check-args-loop-less t)
     (check-args-loop-again t)
     (check-args-add-j t)
-    (check-args-check-term-requires t)
+    (check-args-add-known t)
+    (check-args-known-requires t)
     (check-args-same-length-2 t)
-    (check-args-returns-2 t)
+    (check-args-returns-3 t)
+    (check-args-check-term-requires t)
+    (check-args-same-length-3 t)
+    (check-args-returns-4 t)
     (check-args-loop-less-2 t)
     (check-args-loop-again-2 t)
-    (check-args-same-length-3 t)
-    (check-args-returns-3 t))
+    (check-args-loop-less-3 t)
+    (check-args-loop-again-3 t)
+    (check-args-same-length-4 t)
+    (check-args-returns-5 t))
     (λ t. check-choices-lts.spec (
       byte-at-reads.Asked,
       byte-at-reads.Learnt,
@@ -1924,12 +2166,16 @@ pub +check-args+check-choices+check-head+check-term-spec : {M : Type 1} → stat
       word-at-reads.Learnt,
       state-at-reads.Asked,
       state-at-reads.Learnt,
+      row-in-reads.Asked,
+      row-in-reads.Learnt,
       row-serves-reads.Asked,
       row-serves-reads.Learnt,
       target-of-reads.Asked,
       target-of-reads.Learnt,
       place-at-reads.Asked,
       place-at-reads.Learnt,
+      known-reads.Asked,
+      known-reads.Learnt,
       check-term-below t,
       check-term.Post,
     )
@@ -1943,6 +2189,7 @@ pub +check-args+check-choices+check-head+check-term-spec : {M : Type 1} → stat
     (check-head-check-choices-requires t)
     (check-head-same-length t)
     (check-head-returns-2 t)
+    (check-head-returns-3 t)
     (check-head-mul-word-at t)
     (check-head-add-word-at t)
     (check-head-word-at-requires t)
@@ -1951,29 +2198,32 @@ pub +check-args+check-choices+check-head+check-term-spec : {M : Type 1} → stat
     (check-head-byte-at-requires-2 t)
     (check-head-add-next t)
     (check-head-state-at-requires t)
-    (check-head-returns-3 t)
     (check-head-returns-4 t)
-    (check-head-mul-row t)
-    (check-head-mul-row-2 t)
-    (check-head-index-1-row t)
-    (check-head-index-2-row t)
-    (check-head-row-serves-requires t)
     (check-head-returns-5 t)
+    (check-head-row-in-requires t)
+    (check-head-row-serves-requires t)
+    (check-head-returns-6 t)
     (check-head-loop-holds t)
     (check-head-target-of-requires t)
     (check-head-same-length-2 t)
-    (check-head-returns-6 t)
+    (check-head-returns-7 t)
     (check-head-place-at-requires t)
     (check-head-same-length-3 t)
-    (check-head-returns-7 t)
-    (check-head-add-i t)
-    (check-head-check-term-requires t)
-    (check-head-same-length-4 t)
     (check-head-returns-8 t)
+    (check-head-add-i t)
+    (check-head-add-known t)
+    (check-head-known-requires t)
+    (check-head-same-length-4 t)
+    (check-head-returns-9 t)
+    (check-head-check-term-requires t)
+    (check-head-same-length-5 t)
+    (check-head-returns-10 t)
     (check-head-loop-less t)
     (check-head-loop-again t)
-    (check-head-same-length-5 t)
-    (check-head-returns-9 t))
+    (check-head-loop-less-2 t)
+    (check-head-loop-again-2 t)
+    (check-head-same-length-6 t)
+    (check-head-returns-11 t))
     λ t. check-term-lts.spec (
       byte-at-reads.Asked,
       byte-at-reads.Learnt,
@@ -1981,8 +2231,6 @@ pub +check-args+check-choices+check-head+check-term-spec : {M : Type 1} → stat
       word-at-reads.Learnt,
       bare-has-reads.Asked,
       bare-has-reads.Learnt,
-      known-reads.Asked,
-      known-reads.Learnt,
       check-head-below t,
       check-head.Post,
       learn-reads.Asked,
@@ -2002,14 +2250,8 @@ pub +check-args+check-choices+check-head+check-term-spec : {M : Type 1} → stat
     (check-term-byte-at-requires-2 t)
     (check-term-bare-has-requires t)
     (check-term-returns-3 t)
-    (check-term-add-known t)
-    (check-term-known-requires t)
-    (check-term-same-length t)
-    (check-term-returns-4 t)
-    (check-term-same-length-2 t)
-    (check-term-returns-5 t)
     (check-term-check-head-requires t)
     (check-term-add-learn t)
     (check-term-learn-requires t)
-    (check-term-same-length-3 t)
-    (check-term-returns-6 t)
+    (check-term-same-length t)
+    (check-term-returns-4 t)

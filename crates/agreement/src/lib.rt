@@ -1,0 +1,1 @@
+// Theorems in proofs/; no code.

@@ -1,0 +1,20 @@
+-- Whether a body names a nonterminal that has a flag.
+use Prim.Native.Nat.{ℕ}
+use mathlib.Core.Bool.{Bool, _&&_, _||_, not}
+use mathlib.Core.List.{List}
+use lib.Dec.{eqb}
+use lib.ListN.{getD}
+use Rattle.scheme.specs.Lists.{any}
+use Rattle.casefile.specs.Tables.{Cell, cellsOf}
+
+-- a table of flags by nonterminal has one for number g
+abbrev pub flagged : List ℕ → ℕ → Bool
+flagged flags g = not (eqb (getD flags g 0) 0)
+
+-- a node names a nonterminal that has a flag
+abbrev pub names : List ℕ → Cell → Bool
+names flags c = eqb (c .tag) 1 && flagged flags (c .number)
+
+-- some node of a body does; entry 256 stands for every body
+unfoldable pub touches : List ℕ → List ℕ → Bool
+touches flags body = flagged flags 256 || any (names flags) (cellsOf body)

@@ -1,0 +1,26 @@
+// Whether a body names a nonterminal that has a flag.
+use records::byte_at;
+use records::word_at;
+ghost use mathlib.Core.Path.{_≡_};
+ghost use Rattle.touched.specs.Touched.{touches};
+
+// Whether some node of a body names a nonterminal with a flag that is not 0; entry 256 stands for every body.
+pub fn touched(flags: &[u8; 257], body: &[u8]) -> bool
+    ensures { λ r. ⌜ r ≡ touches (now (flags .entry)) (now (body .entry)) ⌝ }
+{
+    if flags[256] != 0 {
+        return true;
+    }
+    let n = body.len() / 4;
+    let mut i: usize = 0;
+    while i < n {
+        if byte_at(body, i * 4) == 1 {
+            let g = word_at(body, i * 4 + 1);
+            if byte_at(flags, g) != 0 {
+                return true;
+            }
+        }
+        i = i + 1;
+    }
+    false
+}
