@@ -162,6 +162,14 @@ module _ {file cells : List ℕ} {at block count next need sum : ℕ} (go : Meas
             };
       }
 
+-- a node alone
+module _ {file cells : List ℕ} {at block count : ℕ} where
+  pub alone-far : 131072 ≤ at → Measures file cells at block count (record { next = at; nodes = 0 })
+  alone-far h = measure-far (measure-start file cells at block count) h (omega arith)
+
+  pub alone-done : (v arguments : ℕ) → Weighs file cells at block count v → arguments ≡ byte file (at + 3) → arguments ≡ 0 → Measures file cells at block count (record { next = at + 4; nodes = v })
+  alone-done v arguments weighs e z = measure-done (measure-next (measure-start file cells at block count) (omega arith) v arguments weighs e (omega arith) (at + 4) 0 v refl (omega arith) (omega arith)) refl
+
 pub some-term : (b : Term) → 0 < countᵗ (b ∷ᵗ []ᵗ)
 unfolding countᵗ
 some-term b = omega arith

@@ -28,6 +28,10 @@ unfolding _++ᵗ_
 append-assocᵗ []ᵗ us vs = refl
 append-assocᵗ (t ∷ᵗ ts) us vs = ap (t ∷ᵗ_) (append-assocᵗ ts us vs)
 
+pub nodes-node : (h : Head) (ts : Terms) → nodes (node h ts) ≡ suc (nodesAll ts)
+unfolding nodes
+nodes-node h ts = refl
+
 pub nodes-applied : (t : Term) (us : Terms) → nodes (applied t us) ≡ nodes t + nodesAll us
 unfolding nodes applied
 nodes-applied (node h ts) us = let e = nodes-append ts us in omega arith
@@ -56,6 +60,13 @@ unfolding countᵗ termAt dropᵗ
 drop-next []ᵗ i d h = absurd (omega arith)
 drop-next (t ∷ᵗ ts) zero d h = refl
 drop-next (t ∷ᵗ ts) (suc i) d h = drop-next ts i d (le-of-suc-le-suc h)
+
+pub drop-none : (ts : Terms) (i : ℕ) → countᵗ ts ≤ i → dropᵗ i ts ≡ []ᵗ
+unfolding countᵗ dropᵗ
+drop-none []ᵗ zero h = refl
+drop-none []ᵗ (suc i) h = refl
+drop-none (t ∷ᵗ ts) zero h = absurd (omega arith)
+drop-none (t ∷ᵗ ts) (suc i) h = drop-none ts i (le-of-suc-le-suc h)
 
 -- a term among others has no more nodes than all
 pub nodes-at : (ts : Terms) (i : ℕ) (d : Term) → i < countᵗ ts → nodes (termAt ts i d) ≤ nodesAll ts
@@ -87,6 +98,15 @@ unfolding countᵗ puts termAt
 puts-at xs []ᵗ i d e h = absurd (omega arith)
 puts-at xs (t ∷ᵗ ts) zero d e h = refl
 puts-at xs (t ∷ᵗ ts) (suc i) d e h = puts-at xs ts i d e (le-of-suc-le-suc h)
+
+-- the nodes of the terms from term i on: those of term i, and the others
+pub nodes-drop : (xs ts : Terms) (i : ℕ) (d : Term) → i < countᵗ ts → nodesAll (puts xs (dropᵗ i ts)) ≡ nodes (put xs (termAt ts i d)) + nodesAll (puts xs (dropᵗ (suc i) ts))
+unfolding puts nodesAll
+nodes-drop xs ts i d h = ap (λ us. nodesAll (puts xs us)) (drop-next ts i d h)
+
+pub nodes-dropped : (xs ts : Terms) (i : ℕ) → countᵗ ts ≤ i → nodesAll (puts xs (dropᵗ i ts)) ≡ 0
+unfolding puts nodesAll
+nodes-dropped xs ts i h = ap (λ us. nodesAll (puts xs us)) (drop-none ts i h)
 
 -- a head with its arguments, terms being put for parameters
 pub nodes-put : (xs : Terms) (h : Head) (ts : Terms) → nodes (put xs (node h ts)) ≡ weight xs h + nodesAll (puts xs ts)

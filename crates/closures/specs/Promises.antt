@@ -33,6 +33,15 @@ pub record Measures (file cells : List ℕ) (at block count : ℕ) (r : Measured
   pub measures : (b : Term) (xs : Terms) → NodesAt file at (flat b) → Frame file cells block count xs → block < 1048576
       → (r .next ≡ at + 4 * nodes b) × (r .nodes ≡ nodes (put xs b))
 
+-- v is n where it is at most 4,096; where it is larger, n is too
+pub record Capped (v n : ℕ) : Type 0 where
+  pub exact : v ≤ 4096 → v ≡ n
+  pub over : 4096 < v → 4096 < n
+
+-- r is the sum of a and b, capped
+abbrev pub Adds : ℕ → ℕ → ℕ → Type 0
+Adds a b r = (m n : ℕ) → Capped a m → Capped b n → Capped r (m + n)
+
 -- r has these parts
 pub record Packs (at block count size r : ℕ) : Type 0 where
   pub block-in : block < 1048576 → count < 16 → blockIn r ≡ block
@@ -54,11 +63,12 @@ pub record Spreadable (file cells : List ℕ) (at m block count low top : ℕ) (
   pub few : top ≤ 1048576
   pub high : top * 8 ≤ low
   pub room : low + m ≤ length cells
-  pub fits : nodesAll (puts xs ts) < 8192
 
--- the cells after the closures of m terms were written from cell `low` on, all else being as it was
-pub record Spreads (file cells cells′ : List ℕ) (at m block count low : ℕ) : Type 0 where
+-- the cells after the closures of m terms were written from cell `low` on, all else being as it was; r has the terms'
+-- nodes, capped
+pub record Spreads (file cells cells′ : List ℕ) (at m block count low r : ℕ) : Type 0 where
   pub long : length cells′ ≡ length cells
   pub below : (s : ℕ) → s < low → getD cells′ s 0 ≡ getD cells s 0
   pub above : (s : ℕ) → low + m ≤ s → getD cells′ s 0 ≡ getD cells s 0
-  pub closed : (top : ℕ) (ts xs : Terms) → Spreadable file cells at m block count low top ts xs → (j : ℕ) → j < m → Closure file cells′ top (getD cells′ (low + j) 0) (termAt (puts xs ts) j lone)
+  pub total : (top : ℕ) (ts xs : Terms) → Spreadable file cells at m block count low top ts xs → Capped r (nodesAll (puts xs ts))
+  pub closed : (top : ℕ) (ts xs : Terms) → Spreadable file cells at m block count low top ts xs → nodesAll (puts xs ts) < 8192 → (j : ℕ) → j < m → Closure file cells′ top (getD cells′ (low + j) 0) (termAt (puts xs ts) j lone)

@@ -3,12 +3,12 @@ use records::byte_at;
 use records::word_at;
 ghost use mathlib.Core.Path.{_≡_};
 ghost use lib.ListN.{getD};
-ghost use Rattle.closures.specs.Promises.{IsClosureAt, Weighs, Measures, Packs, Closes, Spreads};
+ghost use Rattle.closures.specs.Promises.{IsClosureAt, Weighs, Measures, Adds, Packs, Closes, Spreads};
 
 // Where the next term begins, and how many nodes a term has as a tree.
-pub struct Measured {
-    pub next: usize,
-    pub nodes: usize,
+struct Measured {
+    next: usize,
+    nodes: usize,
 }
 
 // The number in a cell; 0 past the end.
@@ -56,7 +56,7 @@ fn weigh(file: &[u8], cells: &[u64], at: usize, block: usize, count: usize) -> u
 }
 
 // The end of the term at a place of the file, and its nodes with a frame.
-pub fn measure(file: &[u8], cells: &[u64], at: usize, block: usize, count: usize) -> Measured
+fn measure(file: &[u8], cells: &[u64], at: usize, block: usize, count: usize) -> Measured
     ensures { λ r. ⌜ Measures (now (file .entry)) (now (cells .entry)) at block count r ⌝ }
 {
     let mut next = at;
@@ -71,6 +71,36 @@ pub fn measure(file: &[u8], cells: &[u64], at: usize, block: usize, count: usize
         next = next + 4;
     }
     Measured { next, nodes }
+}
+
+// The same; a node without arguments is weighed at once.
+fn measure_term(file: &[u8], cells: &[u64], at: usize, block: usize, count: usize) -> Measured
+    ensures { λ r. ⌜ Measures (now (file .entry)) (now (cells .entry)) at block count r ⌝ }
+{
+    if 131072 <= at {
+        return Measured { next: at, nodes: 0 };
+    }
+    if byte_at(file, at + 3) == 0 {
+        let nodes = weigh(file, cells, at, block, count);
+        return Measured {
+            next: at + 4,
+            nodes,
+        };
+    }
+    measure(file, cells, at, block, count)
+}
+
+// The sum of two counts of nodes, exact up to 4,096; where it is larger, a number larger than 4,096.
+pub fn capped(a: usize, b: usize) -> usize
+    ensures { λ r. ⌜ Adds a b r ⌝ }
+{
+    if 4096 < a {
+        return a;
+    }
+    if 4096 < b {
+        return b;
+    }
+    a + b
 }
 
 // A closure as a number: block, count, place of the node, nodes as a tree.
@@ -108,7 +138,8 @@ fn closure_of(
     closure_at(cells, block, count, number)
 }
 
-// Writes the closures of m terms that stand one after another, with a frame, into the cells from `low` on.
+// Writes the closures of m terms that stand one after another, with a frame, into the cells from `low` on. Returns the
+// nodes of all m terms, exact up to 4,096.
 pub fn spread(
     file: &[u8],
     cells: &mut [u64],
@@ -117,22 +148,25 @@ pub fn spread(
     block: usize,
     count: usize,
     low: usize,
-)
-    ensures { λ r. ⌜ Spreads (now (file .entry)) (now (cells .entry)) (now (cells .exit)) at m block count low ⌝ }
+) -> usize
+    ensures { λ r. ⌜ Spreads (now (file .entry)) (now (cells .entry)) (now (cells .exit)) at m block count low r ⌝ }
 {
     if cells.len() < low {
-        return;
+        return 0;
     }
     if cells.len() - low < m {
-        return;
+        return 0;
     }
     let mut i: usize = 0;
     let mut next = at;
+    let mut total: usize = 0;
     while i < m {
-        let measured = measure(file, cells, next, block, count);
+        let measured = measure_term(file, cells, next, block, count);
         let closure = closure_of(file, cells, next, block, count, measured.nodes);
         cells[low + i] = closure as u64;
+        total = capped(total, measured.nodes);
         next = measured.next;
         i = i + 1;
     }
+    total
 }

@@ -9,8 +9,7 @@ use borrow.Author.Tests.{ne-eqb, le-ltb}
 use lib.ListN.{getD}
 use Rattle.scheme.specs.Sorts.{o}
 use Rattle.scheme.specs.Sorting.{sortOf}
-use Rattle.scheme.specs.Terms.{Head, con, nt, par, Term, node, Terms, []ᵗ, countᵗ, termAt, nodes, nodesAll, put}
-use Rattle.scheme.specs.Prefix.{flat}
+use Rattle.scheme.specs.Terms.{Head, con, nt, par, Term, node, Terms, []ᵗ, countᵗ, termAt, nodes, put}
 use Rattle.scheme.specs.Reduction.{Plan, body}
 use Rattle.scheme.specs.Typing.{Automaton}
 use Rattle.scheme.specs.Replay
@@ -22,14 +21,13 @@ use Rattle.sort_bounds.specs.Sorted.{closedSorts}
 use Rattle.sort_bounds.proofs.Small.{few-arguments}
 use Rattle.sort_bounds.proofs.Replays.{follow-sorted}
 use Rattle.moves.specs.Moves.{targetsIn}
-use Rattle.closures.specs.Nodes.{headBy, NodesAt}
+use Rattle.closures.specs.Nodes.{headBy}
 use Rattle.closures.specs.Closures.{lone, Closure}
-use Rattle.closures.specs.Promises.{IsClosureAt, Measures}
-use Rattle.closures.specs.declared.Measured.{Measured}
-use Rattle.closures.proofs.Trees.{nodes-at}
+use Rattle.closures.specs.Promises.{IsClosureAt, Capped}
+use Rattle.closures.proofs.Trees.{nodes-node, nodes-at}
 use Rattle.closures.proofs.Nodes.{nonterminal-tag, constructor-tag, parameter-tag}
 use Rattle.closures.proofs.Closures.{closure-parts, frame-none}
-use Rattle.fronts.specs.Fronts.{argumentsᵗ, IsFront, Gathers}
+use Rattle.fronts.specs.Fronts.{argumentsᵗ, Gatherable, IsFront, Gathers}
 use Rattle.fronts.specs.declared.Front.{Front}
 use Rattle.rows.specs.Rows.{IsRow, IsArity}
 use Rattle.rows.proofs.Rows.{constructor-count}
@@ -78,10 +76,6 @@ not-weighed i t = rw (ne-eqb (suc i) 0 (λ z. omega arith))
 few-there : (rs : List Record) → Passed rs → (t : Term) → sortOf (closedSorts rs) t ≡ some o → countᵗ (argumentsᵗ t) ≤ 8
 unfolding argumentsᵗ
 few-there rs ok (node h ts) e = few-arguments rs ok h ts o e
-
-nodes-node : (h : Head) (ts : Terms) → nodes (node h ts) ≡ suc (nodesAll ts)
-unfolding nodes
-nodes-node h ts = refl
 
 -- the term in front, gathered, is held in block `top`
 held-front : {file cells : List ℕ} {top q : ℕ} (front : Front) {t : Term} → IsFront file cells top front t → nodes t ≤ 4096
@@ -137,51 +131,57 @@ module _ (file index : List ℕ) (rules : ℕ) (cells : List ℕ) (held : Held) 
     pub unfold-over : 256 ≤ held .number → held .number < rules → Unfolds file index rules cells cells held top Lost
     unfold-over l m = record { long = refl; leads = λ constructors table rs s t q w. absurd (omega (arith, s .few-rules)) }
 
-    module _ (l : held .number < rules) (at : ℕ) (ea : at ≡ getD index (352 + held .number) 0) (small : at < 65536) (measured : Measured) (measures : Measures file cells at (held .block) (held .count) measured) where
-      here : (constructors : ℕ) (table : List (List (List ℕ))) (rs : List Record) → Replaying file index rules constructors table rs → NodesAt file at (flat (body (planOf rs) (held .number)))
-      here constructors table rs s = rule-there (s .bodies) (held .number) l at ea small
+    module _ (l : held .number < rules) (at : ℕ) (ea : at ≡ getD index (352 + held .number) 0) (small : at < 65536) (front : Front) {cells′ : List ℕ} (gathers : Gathers file cells cells′ at (held .block) (held .count) top front) where
+      -- the body with the arguments put
+      module _ (constructors : ℕ) (table : List (List (List ℕ))) (rs : List Record) (s : Replaying file index rules constructors table rs) (t : Term) (q : ℕ) (w : Ready file cells rs held top t q) where
+        next : Term
+        next = put (w .holding .arguments) (body (planOf rs) (held .number))
 
-      size-is : (constructors : ℕ) (table : List (List (List ℕ))) (rs : List Record) → Replaying file index rules constructors table rs → (t : Term) (q : ℕ) (w : Ready file cells rs held top t q)
-          → measured .nodes ≡ nodes (put (w .holding .arguments) (body (planOf rs) (held .number)))
-      size-is constructors table rs s t q w =
-          measures .measures (body (planOf rs) (held .number)) (w .holding .arguments) (here constructors table rs s) (w .holding .frame) (let a = w .holding .lower in omega (arith, w .few)) .1
+        next-there : Replay.follow (automatonOf rs) (planOf rs) 0 t q ≡ some (record { term = next; state = q })
+        unfolding next
+        next-there = next-is rs t q (w .holding)
 
-      pub unfold-large : 4096 < measured .nodes → Unfolds file index rules cells cells held top TooLarge
+        gatherable : Gatherable file cells at (held .block) (held .count) top (body (planOf rs) (held .number)) (w .holding .arguments)
+        unfolding next
+        gatherable =
+            record {
+              here = rule-there (s .bodies) (held .number) l at ea small;
+              frame = w .holding .frame;
+              behind = w .holding .lower;
+              few = w .few;
+              room = w .room;
+              narrow = few-there rs (s .passed) next (follow-sorted rs (s .flags) (s .passed) (s .whole) 0 t q (record { term = next; state = q }) (w .sorted) next-there);
+            }
+
+        next-size : Capped (front .nodes) (nodes next)
+        unfolding next
+        next-size = gathers .total (body (planOf rs) (held .number)) (w .holding .arguments) gatherable
+
+        next-front : nodes next ≤ 4096 → IsFront file cells′ top front next
+        unfolding next
+        next-front size = gathers .gathers (body (planOf rs) (held .number)) (w .holding .arguments) gatherable (omega arith)
+
+      pub unfold-large : 4096 < front .nodes → Unfolds file index rules cells cells′ held top TooLarge
       unfolding LeadsTo
       unfold-large m =
           record {
-            long = refl;
+            long = gathers .long;
             leads = λ constructors table rs s t q w.
-                let e = size-is constructors table rs s t q w in
-                (refl, (record { term = put (w .holding .arguments) (body (planOf rs) (held .number)); state = q }, next-is rs t q (w .holding), omega arith));
+                (refl, (record { term = next constructors table rs s t q w; state = q }, next-there constructors table rs s t q w, next-size constructors table rs s t q w .over m));
           }
 
-      pub unfold-does : measured .nodes ≤ 4096 → (front : Front) {cells′ : List ℕ} → Gathers file cells cells′ at (held .block) (held .count) top front
-          → Unfolds file index rules cells cells′ held top (At (record { tag = front .tag; number = front .number; block = top; count = front .count; state = held .state }))
+      pub unfold-does : front .nodes ≤ 4096 → Unfolds file index rules cells cells′ held top (At (record { tag = front .tag; number = front .number; block = top; count = front .count; state = held .state }))
       unfolding LeadsTo
-      unfold-does m front {cells′} gathers =
+      unfold-does m =
           record {
             long = gathers .long;
             leads = λ constructors table rs s t q w.
-                let h = w .holding in
-                let e = size-is constructors table rs s t q w in
-                let next = put (h .arguments) (body (planOf rs) (held .number)) in
-                let sorted : sortOf (closedSorts rs) next ≡ some o = follow-sorted rs (s .flags) (s .passed) (s .whole) 0 t q (record { term = next; state = q }) (w .sorted) (next-is rs t q h) in
-                let size : nodes next ≤ 4096 = omega arith in
-                let is = gathers .gathers (body (planOf rs) (held .number)) (h .arguments)
-                (record {
-                  here = here constructors table rs s;
-                  frame = h .frame;
-                  behind = h .lower;
-                  few = w .few;
-                  room = w .room;
-                  narrow = few-there rs (s .passed) next sorted;
-                  fits = omega arith;
-                }) in (
-                  record { term = next; state = q },
-                  next-is rs t q h,
-                  within-limit next size,
-                  subst (λ p. Holding file cells′ (top + 1) (record { tag = front .tag; number = front .number; block = top; count = front .count; state = p }) next q) (sym (h .state-is)) (held-front front is size),
+                let u = next constructors table rs s t q w in
+                let size : nodes u ≤ 4096 = let e = next-size constructors table rs s t q w .exact m in omega arith in (
+                  record { term = u; state = q },
+                  next-there constructors table rs s t q w,
+                  within-limit u size,
+                  subst (λ p. Holding file cells′ (top + 1) (record { tag = front .tag; number = front .number; block = top; count = front .count; state = p }) u q) (sym (w .holding .state-is)) (held-front front (next-front constructors table rs s t q w size) size),
                 );
           }
 
@@ -261,8 +261,8 @@ module _ {file index : List ℕ} {constructors : ℕ} {row cells : List ℕ} {he
             few = w .few;
             room = w .room;
             narrow = subst (λ u. countᵗ (argumentsᵗ u) ≤ 8) is few;
-            fits = let n = ap nodes is in omega arith;
-          }))
+          })
+          (let n = ap nodes is in omega arith))
 
       pub descend-does : Descends file index constructors row cells cells′ held i top (At (record { tag = front .tag; number = front .number; block = top; count = front .count; state = r }))
       unfolding LeadsTo

@@ -1,6 +1,5 @@
 // One letter of a path, on a term held as its head and a frame of its arguments.
 use closures::closure_at;
-use closures::measure;
 use entries::place_at;
 use fronts::gather;
 use rows::arity_of;
@@ -49,11 +48,10 @@ fn unfold_held(
         return Step::Lost;
     }
     let at = place_at(index, 352 + number);
-    let measured = measure(file, cells, at, block, held.count);
-    if 4096 < measured.nodes {
+    let front = gather(file, cells, at, block, held.count, top);
+    if 4096 < front.nodes {
         return Step::TooLarge;
     }
-    let front = gather(file, cells, at, block, held.count, top);
     Step::At {
         held: Held {
             tag: front.tag,

@@ -1,4 +1,4 @@
--- `spread` meets its contract. The invariant: the first i closures are written.
+-- `spread` meets its contract. The invariant: the first i closures are written, and their nodes summed.
 use Prim.Native.Nat.{_-_}
 use native.Mathlib.Omega.{arith}
 use mathlib.Core.Path.{refl}
@@ -8,10 +8,10 @@ use Rattle.closures.proofs.spread.Statement.{statement}
 use Rattle.closures.proofs.spread.Tie as tie
 
 abbrev Inv-loop : tie.InvT-loop
-Inv-loop file cells₀ at m block count low i₀ next₀ cells i next = Spreading file cells₀ at m block count low cells i next
+Inv-loop file cells₀ at m block count low i₀ next₀ total₀ cells i next total = Spreading file cells₀ at m block count low cells i next total
 
 abbrev μ-loop : tie.MeasureT-loop
-μ-loop file cells₀ at m block count low i₀ next₀ cells i next = m - i
+μ-loop file cells₀ at m block count low i₀ next₀ total₀ cells i next total = m - i
 
 returns : tie.Need-returns Inv-loop μ-loop
 returns c = spread-over (omega arith)
@@ -25,8 +25,8 @@ returns-2 c = spread-over (omega arith)
 loop-holds : tie.Need-loop-holds Inv-loop μ-loop
 loop-holds c = spread-start _ _ _ _ _ _ _
 
-measure-requires : tie.Need-measure-requires Inv-loop μ-loop
-measure-requires c κs = search needs
+measure-term-requires : tie.Need-measure-term-requires Inv-loop μ-loop
+measure-term-requires c κs = search needs
 
 closure-of-requires : tie.Need-closure-of-requires Inv-loop μ-loop
 closure-of-requires c κs = search needs
@@ -40,6 +40,9 @@ mul-cells c = search needs
 slice-write-cells : tie.Need-slice-write-cells Inv-loop μ-loop
 slice-write-cells c = let l = c .before .before .before .before .before .loop .inv .long in omega arith
 
+capped-requires : tie.Need-capped-requires Inv-loop μ-loop
+capped-requires c κs = search needs
+
 add-i : tie.Need-add-i Inv-loop μ-loop
 add-i c = omega arith
 
@@ -47,7 +50,7 @@ loop-less : tie.Need-loop-less Inv-loop μ-loop
 loop-less c = omega arith
 
 loop-again : tie.Need-loop-again Inv-loop μ-loop
-loop-again c = let l = c .before .before .before .before .before .loop .inv .long in spread-next (c .before .before .before .before .before .loop .inv) (c .before .before .before .before .loop-test .taken) (omega arith) _ _ (c .before .before .measure .ensures) (c .closure-of .ensures) _ refl
+loop-again c = let l = c .before .before .before .before .before .before .loop .inv .long in spread-next (c .before .before .before .before .before .before .loop .inv) (c .before .before .before .before .before .loop-test .taken) (omega arith) _ _ (c .before .before .before .measure-term .ensures) (c .before .closure-of .ensures) _ (c .capped .ensures) _ refl
 
 same-length : tie.Need-same-length Inv-loop μ-loop
 same-length c = c .before .loop .inv .long
@@ -65,11 +68,12 @@ spread-spec =
     sub-if2
     returns-2
     loop-holds
-    measure-requires
+    measure-term-requires
     closure-of-requires
     add-cells
     mul-cells
     slice-write-cells
+    capped-requires
     add-i
     loop-less
     loop-again

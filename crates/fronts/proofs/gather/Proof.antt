@@ -7,10 +7,10 @@ use Rattle.fronts.proofs.gather.Statement.{statement}
 use Rattle.fronts.proofs.gather.Tie as tie
 
 abbrev Inv-loop : tie.InvT-loop
-Inv-loop file cells₀ at block count top free₀ place₀ under₀ known₀ cells free place under known = Gathering file cells₀ at block count top cells free place under known
+Inv-loop file cells₀ at block count top free₀ place₀ under₀ known₀ total₀ cells free place under known total = Gathering file cells₀ at block count top cells free place under known total
 
 abbrev μ-loop : tie.MeasureT-loop
-μ-loop file cells₀ at block count top free₀ place₀ under₀ known₀ cells free place under known = under
+μ-loop file cells₀ at block count top free₀ place₀ under₀ known₀ total₀ cells free place under known total = under
 
 head-at-requires : tie.Need-head-at-requires Inv-loop μ-loop
 head-at-requires c κs = search needs
@@ -48,38 +48,41 @@ add-spread-2 c = let r = c .before .before .before .before .loop .inv .room in o
 spread-requires : tie.Need-spread-requires Inv-loop μ-loop
 spread-requires c κs = search needs
 
+capped-requires : tie.Need-capped-requires Inv-loop μ-loop
+capped-requires c κs = search needs
+
 sub-head-at : tie.Need-sub-head-at Inv-loop μ-loop
-sub-head-at c = let r = c .before .before .before .before .before .before .before .loop .inv .room in omega arith
+sub-head-at c = let r = c .before .before .before .before .before .before .before .before .loop .inv .room in omega arith
 
 head-at-requires-3 : tie.Need-head-at-requires-3 Inv-loop μ-loop
 head-at-requires-3 c κs = search needs
 
 same-length-2 : tie.Need-same-length-2 Inv-loop μ-loop
-same-length-2 c = c .before .before .before .before .before .spread .ensures .long ∙ c .before .before .before .before .before .before .before .before .before .before .loop .inv .long
+same-length-2 c = c .before .before .before .before .before .before .spread .ensures .long ∙ c .before .before .before .before .before .before .before .before .before .before .before .loop .inv .long
 
 returns-3 : tie.Need-returns-3 Inv-loop μ-loop
-returns-3 c = gather-head (c .before .before .before .before .before .before .before .before .before .before .loop .inv) _ (c .before .before .before .before .before .before .before .before .byte-at .ensures .value) _ (c .before .before .before .before .before .before .before .if2 .left) refl (c .before .before .before .before .before .spread .ensures) _ (c .before .before .head-at3 .ensures) (c .if3 .taken)
+returns-3 c = gather-head (c .before .before .before .before .before .before .before .before .before .before .before .loop .inv) _ (c .before .before .before .before .before .before .before .before .before .byte-at .ensures .value) _ (c .before .before .before .before .before .before .before .before .if2 .left) refl _ _ (c .before .before .before .before .before .before .spread .ensures) (c .before .before .before .capped .ensures) _ (c .before .before .head-at3 .ensures) (c .if3 .taken)
 
 same-length-3 : tie.Need-same-length-3 Inv-loop μ-loop
-same-length-3 c = c .before .before .before .before .before .before .before .spread .ensures .long ∙ c .before .before .before .before .before .before .before .before .before .before .before .before .loop .inv .long
+same-length-3 c = c .before .before .before .before .before .before .before .before .spread .ensures .long ∙ c .before .before .before .before .before .before .before .before .before .before .before .before .before .loop .inv .long
 
 returns-4 : tie.Need-returns-4 Inv-loop μ-loop
-returns-4 c = gather-free (c .before .before .before .before .before .before .before .before .before .before .before .before .loop .inv) _ (c .before .before .before .before .before .before .before .before .before .before .byte-at .ensures .value) _ (c .before .before .before .before .before .before .before .before .before .if2 .left) refl (c .before .before .before .before .before .before .before .spread .ensures) _ (c .before .before .before .before .head-at3 .ensures) (c .before .before .if3 .left) (c .if4 .taken)
+returns-4 c = gather-free (c .before .before .before .before .before .before .before .before .before .before .before .before .before .loop .inv) _ (c .before .before .before .before .before .before .before .before .before .before .before .byte-at .ensures .value) _ (c .before .before .before .before .before .before .before .before .before .before .if2 .left) refl _ _ (c .before .before .before .before .before .before .before .before .spread .ensures) (c .before .before .before .before .before .capped .ensures) _ (c .before .before .before .before .head-at3 .ensures) (c .before .before .if3 .left) (c .if4 .taken)
 
 closure-at-requires : tie.Need-closure-at-requires Inv-loop μ-loop
 closure-at-requires c κs = search needs
 
 same-length-4 : tie.Need-same-length-4 Inv-loop μ-loop
-same-length-4 c = c .before .before .before .before .before .before .before .before .before .before .spread .ensures .long ∙ c .before .before .before .before .before .before .before .before .before .before .before .before .before .before .before .loop .inv .long
+same-length-4 c = c .before .before .before .before .before .before .before .before .before .before .before .spread .ensures .long ∙ c .before .before .before .before .before .before .before .before .before .before .before .before .before .before .before .before .loop .inv .long
 
 returns-5 : tie.Need-returns-5 Inv-loop μ-loop
-returns-5 c = gather-rising (c .before .before .before .before .before .before .before .before .before .before .before .before .before .before .before .loop .inv) _ (c .before .before .before .before .before .before .before .before .before .before .before .before .before .byte-at .ensures .value) _ (c .before .before .before .before .before .before .before .before .before .before .before .before .if2 .left) refl (c .before .before .before .before .before .before .before .before .before .before .spread .ensures) _ (c .before .before .before .before .before .before .before .head-at3 .ensures) (c .before .before .before .before .before .if3 .left) (c .before .before .before .if4 .left) _ (c .before .closure-at .ensures) (c .if5 .taken)
+returns-5 c = gather-rising (c .before .before .before .before .before .before .before .before .before .before .before .before .before .before .before .before .loop .inv) _ (c .before .before .before .before .before .before .before .before .before .before .before .before .before .before .byte-at .ensures .value) _ (c .before .before .before .before .before .before .before .before .before .before .before .before .before .if2 .left) refl _ _ (c .before .before .before .before .before .before .before .before .before .before .before .spread .ensures) (c .before .before .before .before .before .before .before .before .capped .ensures) _ (c .before .before .before .before .before .before .before .head-at3 .ensures) (c .before .before .before .before .before .if3 .left) (c .before .before .before .if4 .left) _ (c .before .closure-at .ensures) (c .if5 .taken)
 
 loop-less : tie.Need-loop-less Inv-loop μ-loop
 loop-less c = omega arith
 
 loop-again : tie.Need-loop-again Inv-loop μ-loop
-loop-again c = gather-next (c .before .before .before .before .before .before .before .before .before .before .before .before .before .before .before .loop .inv) _ (c .before .before .before .before .before .before .before .before .before .before .before .before .before .byte-at .ensures .value) _ (c .before .before .before .before .before .before .before .before .before .before .before .before .if2 .left) refl (c .before .before .before .before .before .before .before .before .before .before .spread .ensures) _ (c .before .before .before .before .before .before .before .head-at3 .ensures) (c .before .before .before .before .before .if3 .left) (c .before .before .before .if4 .left) _ (c .before .closure-at .ensures) _ _ _ refl refl refl
+loop-again c = gather-next (c .before .before .before .before .before .before .before .before .before .before .before .before .before .before .before .before .loop .inv) _ (c .before .before .before .before .before .before .before .before .before .before .before .before .before .before .byte-at .ensures .value) _ (c .before .before .before .before .before .before .before .before .before .before .before .before .before .if2 .left) refl _ _ (c .before .before .before .before .before .before .before .before .before .before .before .spread .ensures) (c .before .before .before .before .before .before .before .before .capped .ensures) _ (c .before .before .before .before .before .before .before .head-at3 .ensures) (c .before .before .before .before .before .if3 .left) (c .before .before .before .if4 .left) _ (c .before .closure-at .ensures) _ _ _ refl refl refl
 
 head-at-requires-4 : tie.Need-head-at-requires-4 Inv-loop μ-loop
 head-at-requires-4 c κs = search needs
@@ -108,6 +111,7 @@ gather-spec =
     mul-spread
     add-spread-2
     spread-requires
+    capped-requires
     sub-head-at
     head-at-requires-3
     same-length-2

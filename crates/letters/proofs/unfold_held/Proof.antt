@@ -19,23 +19,20 @@ add-place-at c = search needs
 place-at-requires : tie.Need-place-at-requires
 place-at-requires c κs = search needs
 
-measure-requires : tie.Need-measure-requires
-measure-requires c κs = search needs
+gather-requires : tie.Need-gather-requires
+gather-requires c κs = search needs
 
 same-length : tie.Need-same-length
 same-length c = search needs
 
 returns-4 : tie.Need-returns-4
-returns-4 c = unfold-large _ _ _ _ _ _ (c .before .before .before .before .before .before .before .if1 .left) (c .before .before .before .before .before .before .if2 .left) _ (c .before .before .before .before .place-at .ensures .value) (c .before .before .before .before .place-at .ensures .bound) _ (c .before .before .measure .ensures) (c .if4 .taken)
-
-gather-requires : tie.Need-gather-requires
-gather-requires c κs = search needs
+returns-4 c = unfold-large _ _ _ _ _ _ (c .before .before .before .before .before .before .before .before .before .if1 .left) (c .before .before .before .before .before .before .before .before .if2 .left) _ (c .before .before .before .before .before .before .place-at .ensures .value) (c .before .before .before .before .before .before .place-at .ensures .bound) _ (c .before .before .before .before .gather .ensures) (c .if4 .taken)
 
 same-length-2 : tie.Need-same-length-2
 same-length-2 c = search needs
 
 returns-5 : tie.Need-returns-5
-returns-5 c = unfold-does _ _ _ _ _ _ (c .before .before .before .before .before .before .before .before .before .before .before .if1 .left) (c .before .before .before .before .before .before .before .before .before .before .if2 .left) _ (c .before .before .before .before .before .before .before .before .place-at .ensures .value) (c .before .before .before .before .before .before .before .before .place-at .ensures .bound) _ (c .before .before .before .before .before .before .measure .ensures) (c .before .before .before .before .if4 .left) _ (c .before .before .gather .ensures)
+returns-5 c = unfold-does _ _ _ _ _ _ (c .before .before .before .before .before .before .before .before .before .if1 .left) (c .before .before .before .before .before .before .before .before .if2 .left) _ (c .before .before .before .before .before .before .place-at .ensures .value) (c .before .before .before .before .before .before .place-at .ensures .bound) _ (c .before .before .before .before .gather .ensures) (c .if4 .left)
 
 pub unfold-held-spec : {M : Type 1} → statement M
 unfold-held-spec =
@@ -46,9 +43,8 @@ unfold-held-spec =
     returns-3
     add-place-at
     place-at-requires
-    measure-requires
+    gather-requires
     same-length
     returns-4
-    gather-requires
     same-length-2
     returns-5)
