@@ -4,7 +4,6 @@ use finals::final_of;
 use goal_tables::own_of;
 use lookup::entry;
 use records::word_at;
-use term_check::Test;
 use term_check::check_term;
 ghost use mathlib.Core.Path.{_≡_};
 ghost use lib.ListN.{drop};
@@ -55,11 +54,6 @@ pub fn holds(
     let goal = final_of(index, types, own);
     let body = entry(file, index, 352 + f);
     let here = from_node(ends, place_at(firsts, f));
-    let test = Test {
-        types,
-        constructors,
-        own,
-        stamp,
-    };
-    check_term(file, index, groups, kept, here, body, test, memo, 0, goal)
+    let test = [types, constructors, own, stamp];
+    check_term(file, index, groups, kept, here, body, &test, memo, 0, goal)
 }

@@ -139,6 +139,18 @@ faithful-known P memo width stamp at goal b f = go (covered width at goal) (eqb 
     go true false ec ed r = absurd (omega arith)
     go false d ec ed r = absurd (omega arith)
 
+-- a goal that is remembered to hold is one of those that a node has
+pub recalled-small : (memo : List ℕ) (width stamp at goal : ℕ) → recalled memo width stamp at goal ≡ 2 → goal < 1040
+unfolding recalled
+recalled-small memo width stamp at goal e = go (covered width at goal) (eqb (v / 2) stamp) refl e
+  where
+    v : ℕ
+    v = getD memo (key width at goal) 0
+
+    go : (c d : Bool) → covered width at goal ≡ c → (if c && d then suc (v % 2) else 0) ≡ 2 → goal < 1040
+    go true d is e = let p = covered-parts width at goal is in let n = p .narrow in let w = p .within in omega arith
+    go false d is e = absurd (omega arith)
+
 pub faithful-yes : (P : ℕ → ℕ → Bool → Type 0) (memo : List ℕ) (width stamp at goal : ℕ) → Faithful P memo width stamp → recalled memo width stamp at goal ≡ 2 → P at goal true
 unfolding bit
 faithful-yes P memo width stamp at goal f r = faithful-known P memo width stamp at goal true f r

@@ -77,8 +77,7 @@ module _ (x : Body) (i goal : ℕ) (nonterminal : Bool) (number count : ℕ) (sp
   abbrev HeadHere : Type 0
   HeadHere = (rs : List Record) (τ : Ty) → Setting x rs τ → headOf (cellAt (x .body) i) ≡ headIs nonterminal number
 
-  module _ (is-count : count ≡ field 1 (x .body) (i * 4 + 3)) (inside : i < length (x .body) / 4)
-      (spans : Spans (x .file) (x .index) (x .test .types) (x .groups) (x .test .own) nonterminal number span) where
+  module _ (inside : i < length (x .body) / 4) (spans : Spans (x .file) (x .index) (x .test .types) (x .groups) (x .test .own) nonterminal number span) where
     few-groups : (rs : List Record) (τ : Ty) → Setting x rs τ → headOf (cellAt (x .body) i) ≡ headIs nonterminal number → nonterminal ≡ true → suc number < length (x .groups)
     few-groups rs τ s = group-there x i nonterminal number inside rs τ s
 
@@ -95,15 +94,15 @@ module _ (x : Body) (i goal : ℕ) (nonterminal : Bool) (number count : ℕ) (sp
         head-has hs ts σ = unfold has in refl
 
     -- an answer for the head and the arguments is one for the term
-    tried-answer : HeadHere → (memo₀ after : List ℕ) (b : Bool) → Keeps x memo₀ after
+    tried-answer : count ≡ field 1 (x .body) (i * 4 + 3) → HeadHere → (memo₀ after : List ℕ) (b : Bool) → Keeps x memo₀ after
         → ((rs : List Record) (τ : Ty) → Setting x rs τ → headOf (cellAt (x .body) i) ≡ headIs nonterminal number → Remembers x rs τ memo₀ → (ts : Terms) → AllAt (ns x) (suc i) ts → countᵗ ts ≡ count → (σ : Ty) → Goal rs n goal σ → b ≡ hasIn x rs τ (node (headIs nonterminal number) ts) σ)
         → ChecksTerm x memo₀ i goal after b
-    tried-answer is-head memo₀ after b k f = record { keeps = k; answer = λ rs τ s r. by-head x i count is-count (headIs nonterminal number) (is-head rs τ s) rs τ goal b (f rs τ s (is-head rs τ s) r) }
+    tried-answer is-count is-head memo₀ after b k f = record { keeps = k; answer = λ rs τ s r. by-head x i count is-count (headIs nonterminal number) (is-head rs τ s) rs τ goal b (f rs τ s (is-head rs τ s) r) }
 
     module _ {memo₀ memo : List ℕ} {j : ℕ} (w : Tried memo₀ memo j) where
       -- none leads to the goal
-      pub tried-end : HeadHere → span .high ≤ j → ChecksTerm x memo₀ i goal memo false
-      tried-end is-head h = tried-answer is-head memo₀ memo false (w .keeps) (λ rs τ s ih r ts al c σ g. sym (w .rest rs τ s ih r ts al c σ g ∙ anyIn-end (span .high) j (gives rs τ ts σ) h))
+      pub tried-end : count ≡ field 1 (x .body) (i * 4 + 3) → HeadHere → span .high ≤ j → ChecksTerm x memo₀ i goal memo false
+      tried-end is-count is-head h = tried-answer is-count is-head memo₀ memo false (w .keeps) (λ rs τ s ih r ts al c σ g. sym (w .rest rs τ s ih r ts al c σ g ∙ anyIn-end (span .high) j (gives rs τ ts σ) h))
 
       module _ (l : j < span .high) (head : ℕ) (cand : Candidates (x .file) (x .index) n (x .kept) nonterminal (span .given) j count goal head) where
         found-here : (rs : List Record) (τ : Ty) → Setting x rs τ → headOf (cellAt (x .body) i) ≡ headIs nonterminal number → (σ : Ty) → Goal rs n goal σ → Found rs n (candidateTy rs (x .kept) τ nonterminal number j) count σ head
@@ -158,7 +157,7 @@ module _ (x : Body) (i goal : ℕ) (nonterminal : Bool) (number count : ℕ) (sp
           pub tried-fails : b ≡ false → (j′ : ℕ) → j′ ≡ suc j → Tried memo₀ after j′
           tried-fails e j′ ej = pass-by after (keeps-on (w .keeps) (told .keeps)) j′ ej (λ rs τ s ih r ts al c σ g. gives-is rs τ s ih r ts al c σ g ∙ e)
 
-          pub tried-leads : HeadHere → b ≡ true → ChecksTerm x memo₀ i goal after true
-          tried-leads is-head e =
-              tried-answer is-head memo₀ after true (keeps-on (w .keeps) (told .keeps)) (λ rs τ s ih r ts al c σ g.
+          pub tried-leads : count ≡ field 1 (x .body) (i * 4 + 3) → HeadHere → b ≡ true → ChecksTerm x memo₀ i goal after true
+          tried-leads is-count is-head e =
+              tried-answer is-count is-head memo₀ after true (keeps-on (w .keeps) (told .keeps)) (λ rs τ s ih r ts al c σ g.
               sym (w .rest rs τ s ih r ts al c σ g ∙ anyIn-step (span .high) j (gives rs τ ts σ) l ∙ or-first (gives rs τ ts σ j) (anyIn (span .high - suc j) (suc j) (gives rs τ ts σ)) (gives-is rs τ s ih r ts al c σ g ∙ e)))

@@ -34,6 +34,7 @@ use Rattle.memo.specs.Memo.{covered, key, code, recalled, learnt, Under}
 use Rattle.memo.proofs.Remembering.{faithful-yes, faithful-no, faithful-learnt, learnt-under}
 use Rattle.wants.specs.Wants.{HeadType, of-row}
 use Rattle.candidates.specs.Candidates.{headIs}
+use Rattle.term_check.specs.Nodes.{Placed}
 use Rattle.term_check.specs.Checking.{At, AllAt, Body, ns, width, Setting, hasIn, Right, Remembers, ChecksTerm, ChecksArgs}
 use Rattle.term_check.proofs.Places.{at-inside, at-head}
 use Rattle.term_check.proofs.Arguments.{keeps-all}
@@ -195,11 +196,16 @@ module _ (p : List ℕ) (i tag number : ℕ) (is-tag : tag ≡ field 1 p (i * 4)
       go (suc (suc zero)) e n l = ap (λ t. getD (con (field 2 p (i * 4 + 1)) ∷ nt (field 2 p (i * 4 + 1)) ∷ []) t (par (field 2 p (i * 4 + 1)))) (sym e) ∙ ap par (sym is-number)
       go (suc (suc (suc t))) e n l = absurd (omega arith)
 
+-- a node by its tag
+pub placed-by : {body : List ℕ} {i tag number count : ℕ} → Placed body i tag number count → {other : ℕ} → tag ≡ other → Placed body i other number count
+placed-by {body} {i} {tag} {number} {count} p e = subst (λ t. Placed body i t number count) e p
+
 -- the head of a node that has no constructor, and the group of its bindings
 module _ (x : Body) (i : ℕ) where
-  pub other-head : (tag number : ℕ) → tag ≡ field 1 (x .body) (i * 4) → number ≡ field 2 (x .body) (i * 4 + 1) → (tag ≡ 0 → ⊥) → i < length (x .body) / 4 → (rs : List Record) (τ : Ty) → Setting x rs τ → headOf (cellAt (x .body) i) ≡ headIs (eqb tag 1) number
+  pub placed-head : (tag number count : ℕ) (nonterminal : Bool) → (tag ≡ 0 → ⊥) → nonterminal ≡ eqb tag 1 → Placed (x .body) i tag number count → (rs : List Record) (τ : Ty) → Setting x rs τ → headOf (cellAt (x .body) i) ≡ headIs nonterminal number
   unfolding field
-  other-head tag number is-tag is-number other inside rs τ s = tag-other (x .body) i tag number is-tag is-number other (let t = s .tags i inside in omega arith)
+  placed-head tag number count nonterminal other is p rs τ s =
+      tag-other (x .body) i tag number (p .tag-is) (p .number-is) other (let t = s .tags i (p .inside) in let e = p .tag-is in omega arith) ∙ ap (λ b. headIs b number) (sym is)
 
   pub group-there : (nonterminal : Bool) (number : ℕ) → i < length (x .body) / 4 → (rs : List Record) (τ : Ty) → Setting x rs τ → headOf (cellAt (x .body) i) ≡ headIs nonterminal number → nonterminal ≡ true → suc number < length (x .groups)
   unfolding headIs

@@ -11,6 +11,7 @@ use Rattle.scheme.proofs.Prefix.{terms-flat, length-flat}
 use Rattle.records.specs.Fields.{field}
 use Rattle.casefile.specs.Tables.{headOf, nodesOf, firstTerm}
 use Rattle.casefile.proofs.Cells.{cellAt, nodeAt, nodes-length, nodes-drop}
+use Rattle.term_check.specs.Nodes.{Placed}
 use Rattle.term_check.specs.Checking.{At, AllAt}
 
 -- a term has a node
@@ -36,6 +37,14 @@ module _ (p : List ℕ) where
       let both : nodeAt p i ∷ drop (suc i) (nodesOf p) ≡ record { head = h; count = countᵗ ts } ∷ (flats ts ++ rest) = sym (nodes-drop p i (at-inside i (node h ts) (rest, e))) ∙ e in
       let first : nodeAt p i ≡ record { head = h; count = countᵗ ts } = ap (λ l. getD l 0 (nodeAt p i)) both in
       (ap (λ (n : Node). n .head) first, ap (λ (n : Node). n .count) first, (rest, ap (drop 1) both))
+
+-- a node by its four bytes
+pub placed-at : (p : List ℕ) (i : ℕ) → i < length p / 4 → Placed p i (getD p (i * 4) 0) (getD p (i * 4 + 1) 0 + 256 * getD p (i * 4 + 2) 0) (getD p (i * 4 + 3) 0)
+unfolding field
+placed-at p i h =
+    let e : i * 4 + 1 + 1 ≡ i * 4 + 2 = omega arith in
+    let z = ap (λ k. getD p k 0) e in
+    record { inside = h; tag-is = omega arith; number-is = omega arith; count-is = omega arith }
 
 -- the first of several terms, and the others behind it
 module _ (ns : List Node) (i : ℕ) (t : Term) (ts : Terms) where

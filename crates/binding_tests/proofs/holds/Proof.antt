@@ -42,7 +42,7 @@ same-length : tie.Need-same-length
 same-length c = search needs
 
 returns-2 : tie.Need-returns-2
-returns-2 c = binding-tested _ _ _ _ _ _ _ _ _ _ _ _ _ _ _ _ _ _ (c .before .before .before .before .before .before .before .before .before .before .before .before .before .before .before .place-at .ensures .value) (c .before .before .before .before .before .before .before .before .before .before .before .before .before .before .place-at2 .ensures .value) (c .before .before .before .before .before .before .before .before .before .before .before .before .symbol-of .ensures) (c .before .before .before .before .before .before .before .before .before .before .own-of .ensures) (let h = c .before .before .before .before .before .before .before .before .before .before .before .before .before .before .before .before .if1 .left in omega arith) (c .before .before .before .before .before .before .before .before .final-of .ensures) (c .before .before .before .before .before .before .entry .ensures) (c .before .before .before .before .before .place-at3 .ensures .value) (c .before .before .before .before .from-node .ensures) _ _ (c .before .before .check-term .ensures)
+returns-2 c = binding-tested _ _ _ _ _ _ _ _ _ _ _ _ _ _ _ _ _ _ (c .before .before .before .before .before .before .before .before .before .before .before .before .before .before .before .before .place-at .ensures .value) (c .before .before .before .before .before .before .before .before .before .before .before .before .before .before .before .place-at2 .ensures .value) (c .before .before .before .before .before .before .before .before .before .before .before .before .before .symbol-of .ensures) (c .before .before .before .before .before .before .before .before .before .before .before .own-of .ensures) (let h = c .before .before .before .before .before .before .before .before .before .before .before .before .before .before .before .before .before .if1 .left in omega arith) (c .before .before .before .before .before .before .before .before .before .final-of .ensures) (c .before .before .before .before .before .before .before .entry .ensures) (c .before .before .before .before .before .before .place-at3 .ensures .value) (c .before .before .before .before .before .from-node .ensures) _ _ (c .before .before .check-term .ensures)
 
 pub holds-spec : {M : Type 1} → statement M
 holds-spec =
