@@ -271,6 +271,7 @@ fn one_tree(ends: &[u16], codes: &[u16], n: usize) -> bool
 }
 
 // Is the body one term of sort o within 64 levels? Where it is, `ends` has for each node the number of the node behind its subterm.
+// `codes` and `depths` are tables to work in: what they hold does not matter, before or after.
 pub fn body_fits(
     p: &[u8],
     froms: &[u16],
@@ -280,6 +281,8 @@ pub fn body_fits(
     signatures: &[u16],
     own: usize,
     ends: &mut [u16],
+    codes: &mut [u16; 256],
+    depths: &mut [u16; 256],
 ) -> bool
     ensures { λ r. ⌜ BodyDecided (now (p .entry)) (now (froms .entry)) (now (tos .entry)) (now (trees .entry)) (now (arities .entry)) (now (signatures .entry)) own (now (ends .entry)) (now (ends .exit)) r ⌝ }
 {
@@ -294,8 +297,6 @@ pub fn body_fits(
         return false;
     }
     let params = parameter_sorts(froms, tos, own);
-    let mut codes = [0u16; 256];
-    let mut depths = [0u16; 256];
     if !scan(
         p,
         froms,
@@ -306,10 +307,10 @@ pub fn body_fits(
         own,
         &params,
         ends,
-        &mut codes,
-        &mut depths,
+        codes,
+        depths,
     ) {
         return false;
     }
-    one_tree(ends, &codes, n)
+    one_tree(ends, codes, n)
 }

@@ -1,9 +1,9 @@
 -- Tables after a store, and the entries of kinds by their numbers.
-use Prim.Native.Nat.{ℕ, _+_, _<_, _≤_}
+use Prim.Native.Nat.{ℕ, zero, suc, _+_, _<_, _≤_}
 use native.Mathlib.Omega.{arith}
 use mathlib.Core.Path.{_≡_, refl, sym, ap, ap₂, _∙_}
 use mathlib.Core.Bool.{Bool, true, false}
-use mathlib.Core.List.{List}
+use mathlib.Core.List.{List, [], _∷_}
 use borrow.Author.Tests.{lt-ltb, le-ltb, eq-eqb, ne-eqb}
 use lib.Dec.{ltb, eqb}
 use lib.ListN.{length, getD, set, length-set}
@@ -97,25 +97,57 @@ chains-length index kind n p = by (eqb kind 7)
     by true = stored-length (stored index (3426 + n) (getD index (3170 + hashOf p) 0)) (3170 + hashOf p) (n + 1) ∙ stored-length index (3426 + n) (getD index (3170 + hashOf p) 0)
     by false = refl
 
--- the block of a kind, by its number
+-- the blocks of the kinds, by their numbers
+abbrev pub bases : List ℕ
+bases = 3169 ∷ 0 ∷ 64 ∷ 96 ∷ 352 ∷ 3168 ∷ 608 ∷ 1120 ∷ 2144 ∷ 3169 ∷ []
+
+pub bases-within : (n : ℕ) → getD bases n 0 ≤ 3169
+bases-within zero = omega arith
+bases-within (suc zero) = omega arith
+bases-within (suc (suc zero)) = omega arith
+bases-within (suc (suc (suc zero))) = omega arith
+bases-within (suc (suc (suc (suc zero)))) = omega arith
+bases-within (suc (suc (suc (suc (suc zero))))) = omega arith
+bases-within (suc (suc (suc (suc (suc (suc zero)))))) = omega arith
+bases-within (suc (suc (suc (suc (suc (suc (suc zero))))))) = omega arith
+bases-within (suc (suc (suc (suc (suc (suc (suc (suc zero)))))))) = omega arith
+bases-within (suc (suc (suc (suc (suc (suc (suc (suc (suc zero))))))))) = omega arith
+bases-within (suc (suc (suc (suc (suc (suc (suc (suc (suc (suc n)))))))))) = omega arith
+
 module _ (kind : ℕ) where
   abbrev pub Base : ℕ → Type 0
   Base r = (k : Kind) → kind ≡ number k → r ≡ base k
 
-  pub base-is : (k : Kind) → kind ≡ number k → Base (base k)
-  base-is k e k′ f = ap base (number-inj k k′ (sym e ∙ f))
-
-  pub base-rest : (kind ≡ 1 → ⊥) → (kind ≡ 2 → ⊥) → (kind ≡ 3 → ⊥) → (kind ≡ 4 → ⊥) → (kind ≡ 5 → ⊥) → (kind ≡ 6 → ⊥) → (kind ≡ 7 → ⊥) → (kind ≡ 8 → ⊥) → Base 3169
+  pub bases-are : Base (getD bases kind 0)
   unfolding number
-  base-rest a b c d e f g h sort x = absurd (a x)
-  base-rest a b c d e f g h constructor x = absurd (b x)
-  base-rest a b c d e f g h nonterminal x = absurd (c x)
-  base-rest a b c d e f g h rule x = absurd (d x)
-  base-rest a b c d e f g h states x = absurd (e x)
-  base-rest a b c d e f g h transition x = absurd (f x)
-  base-rest a b c d e f g h type x = absurd (g x)
-  base-rest a b c d e f g h binding x = absurd (h x)
-  base-rest a b c d e f g h path x = refl
+  bases-are k e = ap (λ n. getD bases n 0) e ∙ by k
+    where
+      by : (k : Kind) → getD bases (number k) 0 ≡ base k
+      by sort = refl
+      by constructor = refl
+      by nonterminal = refl
+      by rule = refl
+      by states = refl
+      by transition = refl
+      by type = refl
+      by binding = refl
+      by path = refl
+
+  -- no kind has a number from 10 on
+  pub base-past : 10 ≤ kind → (r : ℕ) → Base r
+  unfolding number
+  base-past h r k e = absurd (by k e)
+    where
+      by : (k : Kind) → kind ≡ number k → ⊥
+      by sort f = omega arith
+      by constructor f = omega arith
+      by nonterminal f = omega arith
+      by rule f = omega arith
+      by states f = omega arith
+      by transition f = omega arith
+      by type f = omega arith
+      by binding f = omega arith
+      by path f = omega arith
 
 -- What a record enters, by what the steps of the program did.
 pub entered-index : (index counts : List ℕ) (kind start n b x : ℕ) (p between after : List ℕ) → n ≡ getD counts kind 0 → b ≡ x → between ≡ stored index (b + n) start → after ≡ chainsAfter between kind n p

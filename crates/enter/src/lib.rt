@@ -25,17 +25,11 @@ pub fn store(a: &mut [u16], i: usize, v: usize)
 fn base_of(kind: usize) -> usize
     ensures { λ r. ⌜ ((k : Kind) → kind ≡ number k → r ≡ base k) × (r ≤ 3169) ⌝ }
 {
-    match kind {
-        1 => 0,
-        2 => 64,
-        3 => 96,
-        4 => 352,
-        5 => 3168,
-        6 => 608,
-        7 => 1120,
-        8 => 2144,
-        _ => 3169,
+    let bases: [u16; 10] = [3169, 0, 64, 96, 352, 3168, 608, 1120, 2144, 3169];
+    if kind < 10 {
+        return bases[kind] as usize;
     }
+    3169
 }
 
 // Enters the argument count of a sort after n others; nothing for another kind.

@@ -44,19 +44,36 @@ pub fn test(
     ensures { λ r. ⌜ ((rs : List Record) → Known (now (file .entry)) (now (index .entry)) (now (lens .entry)) (now (counts .entry)) rs → Passed rs → r ≡ codeAs rs (now (p .entry)) (kindOf kind)) ⌝ }
 {
     let n = place_at(counts, kind);
-    let sorts = place_at(counts, 1);
-    let constructors = place_at(counts, 2);
-    let nonterminals = place_at(counts, 3);
-    let states = state_count(file, index, place_at(counts, 5));
     match kind {
         1 => test_sort(file, index, lens, n, p),
         2 => test_constructor(n, p),
-        3 => test_nonterminal(sorts + 1, n, p),
-        4 => test_rule(file, index, lens, n, constructors, nonterminals, p),
+        3 => test_nonterminal(place_at(counts, 1) + 1, n, p),
+        4 => test_rule(
+            file,
+            index,
+            lens,
+            n,
+            place_at(counts, 2),
+            place_at(counts, 3),
+            p,
+        ),
         5 => test_states(n, p),
-        6 => test_transition(file, index, n, states, constructors, p),
-        7 => test_type(file, index, n, states, p),
-        8 => test_binding(file, index, n, nonterminals, place_at(counts, 7), p),
+        6 => test_transition(
+            file,
+            index,
+            n,
+            state_count(file, index, place_at(counts, 5)),
+            place_at(counts, 2),
+            p,
+        ),
+        7 => test_type(
+            file,
+            index,
+            n,
+            state_count(file, index, place_at(counts, 5)),
+            p,
+        ),
+        8 => test_binding(file, index, n, place_at(counts, 3), place_at(counts, 7), p),
         9 => test_path(n, p),
         // Kinds from 8000 (hexadecimal) on are unknown today, as those between are.
         0x8000..=0xFFFF => 3,

@@ -6,6 +6,7 @@ use records::word_at;
 ghost use Rattle.rule_bodies.specs.RuleBodies.{RuleRead, ReadsRules};
 
 // The number of nodes of rule f where its body fits, else 0; `ends` gets the ends of its subterms.
+// `codes` and `depths` are tables to work in: what they hold does not matter, before or after.
 fn read_rule(
     file: &[u8],
     index: &[u16],
@@ -16,6 +17,8 @@ fn read_rule(
     signatures: &[u16],
     f: usize,
     ends: &mut [u16],
+    codes: &mut [u16; 256],
+    depths: &mut [u16; 256],
 ) -> usize
     ensures { λ r. ⌜ RuleRead (now (file .entry)) (now (index .entry)) (now (froms .entry)) (now (tos .entry)) (now (trees .entry)) (now (arities .entry)) (now (signatures .entry)) f (now (ends .entry)) (now (ends .exit)) r ⌝ }
 {
@@ -35,13 +38,25 @@ fn read_rule(
     }
     let p = payload(file, place, len);
     let own = place_at(signatures, f);
-    if !body_fits(p, froms, tos, trees, arities, signatures, own, ends) {
+    if !body_fits(
+        p,
+        froms,
+        tos,
+        trees,
+        arities,
+        signatures,
+        own,
+        ends,
+        codes,
+        depths,
+    ) {
         return 0;
     }
     len / 4
 }
 
 // The number of the first rule whose body does not fit, or of rules where all fit; `ends` gets the ends of subterms, rule after rule.
+// `codes` and `depths` are tables to work in: what they hold does not matter, before or after.
 pub fn read_rules(
     file: &[u8],
     index: &[u16],
@@ -52,6 +67,8 @@ pub fn read_rules(
     signatures: &[u16],
     rules: usize,
     ends: &mut [u16],
+    codes: &mut [u16; 256],
+    depths: &mut [u16; 256],
 ) -> usize
     ensures { λ r. ⌜ ReadsRules (now (file .entry)) (now (index .entry)) (now (froms .entry)) (now (tos .entry)) (now (trees .entry)) (now (arities .entry)) (now (signatures .entry)) rules (now (ends .entry)) (now (ends .exit)) r ⌝ }
 {
@@ -68,6 +85,8 @@ pub fn read_rules(
             signatures,
             f,
             &mut ends[at..],
+            codes,
+            depths,
         );
         if n == 0 {
             return f;

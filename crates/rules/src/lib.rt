@@ -93,6 +93,8 @@ pub fn first_wrong_body(
     fill(file, index, 1, 64, 0, constructors, 0, &mut arities);
     fill(file, index, 2, 96, 0, nonterminals, 0, &mut signatures);
     let trees = tree_codes(&froms, &tos, sorts + 1);
+    let mut codes = [0u16; 256];
+    let mut depths = [0u16; 256];
     read_rules(
         file,
         index,
@@ -103,5 +105,7 @@ pub fn first_wrong_body(
         &signatures,
         rules,
         ends,
+        &mut codes,
+        &mut depths,
     )
 }

@@ -20,12 +20,6 @@ parameter-sorts-requires c κs = search needs
 slice-aggregate-scan : tie.Need-slice-aggregate-scan
 slice-aggregate-scan c = search needs
 
-slice-aggregate-scan-2 : tie.Need-slice-aggregate-scan-2
-slice-aggregate-scan-2 c = search needs
-
-slice-aggregate-scan-3 : tie.Need-slice-aggregate-scan-3
-slice-aggregate-scan-3 c = search needs
-
 scan-requires : tie.Need-scan-requires
 scan-requires c κs = search needs
 
@@ -33,10 +27,7 @@ same-length : tie.Need-same-length
 same-length c = search needs
 
 returns-4 : tie.Need-returns-4
-returns-4 c = decide-fails (c .before .before .before .before .before .scan .ensures) (not-true _ (c .if4 .taken))
-
-slice-aggregate-one-tree : tie.Need-slice-aggregate-one-tree
-slice-aggregate-one-tree c = search needs
+returns-4 c = decide-fails (c .before .before .before .scan .ensures) (not-true _ (c .if4 .taken))
 
 one-tree-requires : tie.Need-one-tree-requires
 one-tree-requires c κs = search needs
@@ -45,7 +36,7 @@ same-length-2 : tie.Need-same-length-2
 same-length-2 c = search needs
 
 returns-5 : tie.Need-returns-5
-returns-5 c = decide-tree (c .before .before .before .before .before .before .before .before .scan .ensures) (not-false _ (c .before .before .before .if4 .left)) (c .before .before .before .before .before .before .before .before .before .before .before .before .before .before .before .if2 .left) _ (c .one-tree .ensures)
+returns-5 c = decide-tree (c .before .before .before .before .before .before .before .scan .ensures) (not-false _ (c .before .before .before .before .if4 .left)) (c .before .before .before .before .before .before .before .before .before .before .before .before .before .before .if2 .left) _ (c .one-tree .ensures)
 
 pub body-fits-spec : {M : Type 1} → statement M
 body-fits-spec =
@@ -56,12 +47,9 @@ body-fits-spec =
     returns-3
     parameter-sorts-requires
     slice-aggregate-scan
-    slice-aggregate-scan-2
-    slice-aggregate-scan-3
     scan-requires
     same-length
     returns-4
-    slice-aggregate-one-tree
     one-tree-requires
     same-length-2
     returns-5)

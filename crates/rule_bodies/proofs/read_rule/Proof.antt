@@ -38,13 +38,13 @@ same-length : tie.Need-same-length
 same-length c = search needs
 
 returns-5 : tie.Need-returns-5
-returns-5 c = rule-wrong _ (c .before .before .before .before .before .before .before .before .before .before .before .place-at .ensures .value) _ (c .before .before .before .before .before .before .before .before .before .word-at .ensures .value) _ (c .before .before .before .before .before .before .payload .ensures) _ (c .before .before .before .before .before .place-at2 .ensures .value) _ _ (c .before .before .before .body-fits .ensures) (not-true _ (c .if5 .taken))
+returns-5 c = rule-wrong _ (c .before .before .before .before .before .before .before .before .before .before .before .before .before .place-at .ensures .value) _ (c .before .before .before .before .before .before .before .before .before .before .before .word-at .ensures .value) _ (c .before .before .before .before .before .before .before .before .payload .ensures) _ (c .before .before .before .before .before .before .before .place-at2 .ensures .value) _ _ (c .before .before .before .body-fits .ensures) (not-true _ (c .if5 .taken))
 
 same-length-2 : tie.Need-same-length-2
 same-length-2 c = search needs
 
 returns-6 : tie.Need-returns-6
-returns-6 c = rule-right _ (c .before .before .before .before .before .before .before .before .before .before .before .place-at .ensures .value) _ (c .before .before .before .before .before .before .before .before .before .word-at .ensures .value) _ (c .before .before .before .before .before .before .payload .ensures) _ (c .before .before .before .before .before .place-at2 .ensures .value) _ _ (c .before .before .before .body-fits .ensures) (not-false _ (c .if5 .left)) (c .before .before .before .before .before .before .before .if4 .left)
+returns-6 c = rule-right _ (c .before .before .before .before .before .before .before .before .before .before .before .before .before .place-at .ensures .value) _ (c .before .before .before .before .before .before .before .before .before .before .before .word-at .ensures .value) _ (c .before .before .before .before .before .before .before .before .payload .ensures) _ (c .before .before .before .before .before .before .before .place-at2 .ensures .value) _ _ (c .before .before .before .body-fits .ensures) (not-false _ (c .if5 .left)) (c .before .before .before .before .before .before .before .before .before .if4 .left)
 
 pub read-rule-spec : {M : Type 1} → statement M
 read-rule-spec =

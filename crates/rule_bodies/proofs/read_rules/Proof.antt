@@ -9,10 +9,10 @@ use Rattle.rule_bodies.proofs.read_rules.Statement.{statement}
 use Rattle.rule_bodies.proofs.read_rules.Tie as tie
 
 abbrev Inv-loop : tie.InvT-loop
-Inv-loop file index froms tos trees arities signatures rules ends₀ f₀ at₀ ends f at = (f ≤ rules) × Going file index froms tos trees arities signatures rules ends₀ f at ends
+Inv-loop file index froms tos trees arities signatures rules ends₀ codes₀ depths₀ f₀ at₀ ends codes depths f at = (f ≤ rules) × Going file index froms tos trees arities signatures rules ends₀ f at ends
 
 abbrev μ-loop : tie.MeasureT-loop
-μ-loop file index froms tos trees arities signatures rules ends₀ f₀ at₀ ends f at = rules - f
+μ-loop file index froms tos trees arities signatures rules ends₀ codes₀ depths₀ f₀ at₀ ends codes depths f at = rules - f
 
 loop-holds : tie.Need-loop-holds Inv-loop μ-loop
 loop-holds c = (omega arith, going-none _ _ _ _ _ _ _ _ _)
@@ -34,21 +34,21 @@ read-rule-requires c κs = search needs
 
 same-length : tie.Need-same-length Inv-loop μ-loop
 same-length c =
-    let l = c .before .before .before .before .before .before .loop in
+    let l = c .before .before .before .before .before .before .before .before .loop in
     let r = c .before .before .before .read-rule in
     (changed-put (l .ends) (r .last .1 .1 .1 .1 .1 .1 .1 .1 .0) (l .at) (l .inv .1 .inside) (r .ensures .long)) .long ∙ l .inv .1 .long
 
 returns : tie.Need-returns Inv-loop μ-loop
 returns c =
-    let l = c .before .before .before .before .before .before .loop in
+    let l = c .before .before .before .before .before .before .before .before .loop in
     let r = c .before .before .before .read-rule in
-    going-stop _ _ _ _ _ _ _ _ _ (l .f) (l .at) (l .ends) _ (r .last .1 .1 .1 .1 .1 .1 .1 .1 .0) _ _ (l .inv .1) (c .before .before .before .before .before .loop-test .taken) (part-size (l .ends) (l .at)) (r .ensures) (changed-put (l .ends) (r .last .1 .1 .1 .1 .1 .1 .1 .1 .0) (l .at) (l .inv .1 .inside) (r .ensures .long)) (c .if1 .taken)
+    going-stop _ _ _ _ _ _ _ _ _ (l .f) (l .at) (l .ends) _ (r .last .1 .1 .1 .1 .1 .1 .1 .1 .0) _ _ (l .inv .1) (c .before .before .before .before .before .before .before .loop-test .taken) (part-size (l .ends) (l .at)) (r .ensures) (changed-put (l .ends) (r .last .1 .1 .1 .1 .1 .1 .1 .1 .0) (l .at) (l .inv .1 .inside) (r .ensures .long)) (c .if1 .taken)
 
 add-at : tie.Need-add-at Inv-loop μ-loop
 add-at c =
-    let i = c .before .before .before .before .before .before .loop .inv .1 .inside in
+    let i = c .before .before .before .before .before .before .before .before .loop .inv .1 .inside in
     let w = c .before .before .before .read-rule .ensures .within in
-    let q = part-size (c .before .before .before .before .before .before .loop .ends) (c .before .before .before .before .before .before .loop .at) in
+    let q = part-size (c .before .before .before .before .before .before .before .before .loop .ends) (c .before .before .before .before .before .before .before .before .loop .at) in
     omega arith
 
 add-f : tie.Need-add-f Inv-loop μ-loop
@@ -59,9 +59,9 @@ loop-less c = omega arith
 
 loop-again : tie.Need-loop-again Inv-loop μ-loop
 loop-again c =
-    let l = c .before .before .before .before .before .before .loop in
+    let l = c .before .before .before .before .before .before .before .before .loop in
     let r = c .before .before .before .read-rule in
-    (omega arith, going-more _ _ _ _ _ _ _ _ _ (l .f) (l .at) (l .ends) _ (r .last .1 .1 .1 .1 .1 .1 .1 .1 .0) _ _ (l .inv .1) (c .before .before .before .before .before .loop-test .taken) (part-size (l .ends) (l .at)) (r .ensures) (changed-put (l .ends) (r .last .1 .1 .1 .1 .1 .1 .1 .1 .0) (l .at) (l .inv .1 .inside) (r .ensures .long)) (c .if1 .left))
+    (omega arith, going-more _ _ _ _ _ _ _ _ _ (l .f) (l .at) (l .ends) _ (r .last .1 .1 .1 .1 .1 .1 .1 .1 .0) _ _ (l .inv .1) (c .before .before .before .before .before .before .before .loop-test .taken) (part-size (l .ends) (l .at)) (r .ensures) (changed-put (l .ends) (r .last .1 .1 .1 .1 .1 .1 .1 .1 .0) (l .at) (l .inv .1 .inside) (r .ensures .long)) (c .if1 .left))
 
 same-length-2 : tie.Need-same-length-2 Inv-loop μ-loop
 same-length-2 c = c .before .loop .inv .1 .long

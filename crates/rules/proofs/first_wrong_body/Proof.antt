@@ -73,7 +73,7 @@ same-length c = search needs
 
 returns-2 : tie.Need-returns-2
 returns-2 c =
-    let t = c .before .before .before .before .before .before .before .before .before in
+    let t = c .before .before .before .before .before .before .before .before .before .before .before in
     let q = t .before .before .before .before .before .before .before .before .before .before .before .before .before in
     finds _ _ _ _ _ _ _ _ _ _ _ _ _ _ _ (q .before .before .before .before .before .before .before .args .ends .now) _ _ (search needs) (search needs) (search needs) (search needs)
     (q .fill .ensures) (t .before .before .before .before .before .before .before .before .before .before .fill2 .ensures) (t .before .before .before .before .before .before .before .fill3 .ensures) (t .before .before .before .before .fill4 .ensures) (t .tree-codes .ensures) (c .before .before .read-rules .ensures)
