@@ -1,4 +1,5 @@
 // The bodies of rules: whether one is a single term of sort o within 64 levels, and where each of its subterms ends.
+use entries::larger;
 use entries::narrow;
 use entries::place_at;
 use sort_steps::apply;
@@ -6,7 +7,7 @@ use sort_steps::parameter;
 use sort_steps::parameter_sorts;
 ghost use mathlib.Core.Path.{_≡_};
 ghost use mathlib.Core.Bool.{_&&_, true, false};
-ghost use Prim.Native.Nat.{_+_, _<_, _≤_, _/_, max};
+ghost use Prim.Native.Nat.{_+_, _<_, _≤_, _/_};
 ghost use lib.Dec.{eqb};
 ghost use lib.ListN.{length, getD};
 ghost use Rattle.records.specs.Fields.{IsField};
@@ -31,13 +32,6 @@ fn put(a: &mut [u16], i: usize, v: usize) -> usize
     let w = narrow(v);
     a[i] = w;
     w as usize
-}
-
-// The larger of two numbers.
-pub fn larger(a: usize, b: usize) -> usize
-    ensures { λ r. ⌜ r ≡ max a b ⌝ }
-{
-    if a < b { b } else { a }
 }
 
 // Arguments that do not fit.

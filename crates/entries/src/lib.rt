@@ -1,7 +1,7 @@
 // An entry of a table of two-byte numbers, as the index of a file is, and the place of its record.
 ghost use Rattle.entries.specs.Tests.{IsPlace};
 ghost use mathlib.Core.Path.{_≡_};
-ghost use Prim.Native.Nat.{_+_, _≤_, _<_};
+ghost use Prim.Native.Nat.{_+_, _≤_, _<_, max};
 ghost use lib.ListN.{getD};
 
 // Entry i of a table, as of the index, where it is a file offset; 0 past the end.
@@ -31,4 +31,11 @@ pub fn narrow(v: usize) -> u16
     ensures { λ r. ⌜ (v < 65536 → r ≡ v) ⌝ }
 {
     if v < 65536 { v as u16 } else { 0 }
+}
+
+// The larger of two numbers.
+pub fn larger(a: usize, b: usize) -> usize
+    ensures { λ r. ⌜ r ≡ max a b ⌝ }
+{
+    if a < b { b } else { a }
 }

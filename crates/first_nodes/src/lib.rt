@@ -1,5 +1,5 @@
 // Where the nodes of each rule begin, where the nodes of all rules are numbered one after another.
-use bodies::larger;
+use entries::larger;
 use entries::place_at;
 use records::word_at;
 ghost use Rattle.first_nodes.specs.FirstNodes.{CountsNodes, FillsFirsts};
