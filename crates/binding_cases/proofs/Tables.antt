@@ -8,7 +8,7 @@ use mathlib.Core.List.{List, [], _∷_, _++_}
 use mathlib.Core.Option.{none}
 use borrow.Author.Tests.{ltb-false}
 use lib.Dec.{eqb, ltb}
-use lib.ListN.{length, getD, take, drop}
+use lib.ListN.{length, getD, take, drop, replicate, length-replicate, getD-replicate}
 use lib.Seq.{take-at}
 use Rattle.scheme.specs.Lists.{any}
 use Rattle.scheme.specs.Types.{Ty, state, arrow, Tys}
@@ -55,7 +55,7 @@ enough-flags rs flags e =
     ltb-false flags (count Kind.binding rs) (first-none 12 0 (ltb flags (count Kind.binding rs)) [] last .0)
 
 module _ {file index lens counts : List ℕ} {rs : List Record} (known : Known file index lens counts rs) (ok : Passed rs) (bytes : Bytes file) (typed : Typed file index (getD counts 7 0) rs) where
-  ready : {ends : List ℕ} → EndsAre rs ends → (flags : ℕ) → refuseWhole rs flags ≡ none → (groups : List ℕ) → length groups ≡ 257 → Fills file index (getD counts 8 0) groups
+  ready : {ends : List ℕ} → EndsAre rs ends → (flags : ℕ) → refuseWhole rs flags ≡ none → (groups : List ℕ) → length groups ≡ 257 → Fills file index (getD counts 8 0) (replicate 257 (getD counts 8 0)) groups
       → (firsts : List ℕ) → ((f : ℕ) → f < getD counts 4 0 → getD firsts f 0 ≡ firstNode rs f) → ((f : ℕ) → f < getD counts 4 0 → length (ruleOf rs f) / 4 ≤ getD firsts 256 0) → RowsFor file index rs
       → Ready file index counts groups firsts ends rs
   unfolding number
@@ -69,7 +69,7 @@ module _ {file index lens counts : List ℕ} {rs : List Record} (known : Known f
         rules-all = plan-right rs flags whole .rules-all;
         bodies = whole-body ok flags whole;
         groups-long = long;
-        grouped = subst (λ n. Grouped rs n groups) (sym (known .entries Kind.binding .counted)) (fills rs ok (known .entries Kind.binding) (known .fits Kind.binding));
+        grouped = subst (λ n. Grouped rs n groups) (sym (known .entries Kind.binding .counted)) (fills (λ e h. getD-replicate 257 e (getD counts 8 0) 0 (let l = length-replicate {A = ℕ} 257 (getD counts 8 0) in omega arith)) rs ok (known .entries Kind.binding) (known .fits Kind.binding));
         firsts-are = λ f h. first-nodes f (let c = known .entries Kind.rule .counted in omega arith);
         most-are = λ f h. most f (let c = known .entries Kind.rule .counted in omega arith);
         ends-are = ends-are;
@@ -151,7 +151,7 @@ owns-kept before index n rs few same w b h = subst (λ x. Goal rs n x (getD (typ
 module _ (file before counts ends lent flags : List ℕ) (r : Bool) (many rounds : ℕ) where
   pub judged : Bytes file → 8034 ≤ length before → (total : ℕ) → IsPlace counts 8 total → (types : ℕ) → IsPlace counts 7 types → (second third index : List ℕ) → FillsGoals file before types second → FillsOwns file second types total third
       → (transitions : ℕ) → IsPlace counts 6 transitions → FillsRows file third transitions index
-      → (groups : List ℕ) → length groups ≡ 257 → Fills file index total groups
+      → (groups : List ℕ) → length groups ≡ 257 → Fills file index total (replicate 257 total) groups
       → (rules : ℕ) → IsPlace counts 4 rules → (cleared firsts : List ℕ) → length cleared ≡ 257 → FillsFirsts file index rules cleared firsts
       → Shrinks file index counts groups firsts ends lent flags many rounds → FindsStart index counts groups flags r
       → JudgesBindings file before counts ends lent flags r many total rounds
@@ -179,6 +179,6 @@ module _ (file before counts ends lent flags : List ℕ) (r : Bool) (many rounds
             let most : (f : ℕ) → f < getD counts 4 0 → length (ruleOf rs f) / 4 ≤ getD firsts 256 0 = λ f h. fills-firsts .most rs ok all-rules few-rules (omega arith) f (let b = er .value in omega arith) in
             let rows = fills-rows .rows rs ok (subst (λ n. Indexed file third Kind.transition n rs) (sym (em .value)) (known₂ .entries Kind.transition)) (let a = known₂ .fits Kind.transition in let b = em .value in omega arith) (omega (arith, fills-owns .long, fills-goals .long)) in
             let here : Typed file index (getD counts 7 0) rs = subst (λ n. Typed file index n rs) (ey .value) typed in
-            let w = ready known ok bytes here ends-are (length lent) whole groups long (subst (λ n. Fills file index n groups) (et .value) fills) firsts nodes most rows in
+            let w = ready known ok bytes here ends-are (length lent) whole groups long (subst (λ n. Fills file index n (replicate 257 n) groups) (et .value) fills) firsts nodes most rows in
             is-shrunk known ok bytes here groups firsts w lent flags r many rounds total whole (et .value) shrinks starts;
       }

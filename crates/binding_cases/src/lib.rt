@@ -71,7 +71,7 @@ pub fn judge_bindings(
     fill_goals(file, index, types);
     fill_owns(file, index, types, total);
     fill_rows(file, index, place_at(counts, 6));
-    let mut groups = [0u16; 257];
+    let mut groups = [total as u16; 257];
     fill_groups(file, index, total, &mut groups);
     let mut firsts = [0u16; 257];
     fill_firsts(file, index, place_at(counts, 4), &mut firsts);

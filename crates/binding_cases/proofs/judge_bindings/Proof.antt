@@ -23,6 +23,9 @@ place-at-requires-3 c κs = search needs
 fill-rows-requires : tie.Need-fill-rows-requires
 fill-rows-requires c κs = search needs
 
+cast-groups : tie.Need-cast-groups
+cast-groups c = omega (arith, c .before .before .before .before .before .before .before .before .before .before .place-at .ensures .bound)
+
 slice-aggregate-fill-groups : tie.Need-slice-aggregate-fill-groups
 slice-aggregate-fill-groups c = search needs
 
@@ -69,6 +72,7 @@ judge-bindings-spec =
     fill-owns-requires
     place-at-requires-3
     fill-rows-requires
+    cast-groups
     slice-aggregate-fill-groups
     fill-groups-requires
     place-at-requires-4
