@@ -1,3 +1,2 @@
-pub mod Writing
 pub mod Starting
 pub mod Tables

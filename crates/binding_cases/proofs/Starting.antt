@@ -130,7 +130,7 @@ module _ (index counts groups flags : List ℕ) where
       pub start-found : r ≡ true → FindsStart index counts groups flags true
       start-found e =
           record {
-            answer = λ n rs w ix few grouped room.
+            answer = λ n rs w ix few grouped room enough.
                 let l = within n last rs ix grouped room is in
                 let many = bindings-many rs in
                 let counted = ix .counted in
@@ -141,7 +141,7 @@ module _ (index counts groups flags : List ℕ) where
     pub start-none : last ≤ b → FindsStart index counts groups flags false
     start-none h =
         record {
-          answer = λ n rs w ix few grouped room.
+          answer = λ n rs w ix few grouped room enough.
               let l = within n last rs ix grouped room is in
               let many = bindings-many rs in
               let counted = ix .counted in
@@ -153,6 +153,6 @@ module _ (index counts groups flags : List ℕ) where
         each n rs w ix few grouped room l i k (yes j) = ap (isKept (getD flags i 0) &&_) (starts-low n last rs ix grouped room is i j) ∙ none .none-starts n rs w ix few l i (omega arith)
         each n rs w ix few grouped room l i k (no j) = ap (isKept (getD flags i 0) &&_) (starts-high n last rs ix grouped room is i (omega arith) k) ∙ and-no (isKept (getD flags i 0))
 
-  -- a file has no more bindings
-  pub start-far : (last : ℕ) → IsPlace groups 1 last → 1024 < last → FindsStart index counts groups flags false
-  start-far last is h = record { answer = λ n rs w ix few grouped room. absurd (let l = within n last rs ix grouped room is in omega arith) }
+  -- there is no flag for each
+  pub start-few : (last : ℕ) → IsPlace groups 1 last → length flags < last → FindsStart index counts groups flags false
+  start-few last is h = record { answer = λ n rs w ix few grouped room enough. absurd (let l = within n last rs ix grouped room is in omega arith) }

@@ -2,13 +2,14 @@
 -- definitions say.
 use Prim.Native.Nat.{ℕ, _+_, _/_, _<_, _≤_}
 use native.Mathlib.Omega.{arith}
-use mathlib.Core.Path.{_≡_, sym, ap, ap₂, subst, _∙_}
+use mathlib.Core.Path.{_≡_, sym, ap, subst, _∙_}
 use mathlib.Core.Bool.{Bool, _&&_, _||_, not}
 use mathlib.Core.List.{List, [], _∷_, _++_}
 use mathlib.Core.Option.{none}
 use borrow.Author.Tests.{ltb-false}
 use lib.Dec.{eqb, ltb}
-use lib.ListN.{length, getD, take, drop}
+use lib.ListN.{length, getD, take, drop, replicate, length-replicate, getD-replicate}
+use lib.Seq.{take-at}
 use Rattle.scheme.specs.Lists.{any}
 use Rattle.scheme.specs.Types.{Ty, state, arrow, Tys}
 use Rattle.scheme.specs.Rounds.{kept}
@@ -39,7 +40,7 @@ use Rattle.rounds.specs.Shrinking.{testOf, Shrinks}
 use Rattle.rounds.proofs.Flagged.{chosen-take}
 use Rattle.rounds.proofs.Turning.{bindings-many}
 use Rattle.shrink.specs.BindingCases.{shrunk}
-use Rattle.binding_cases.specs.Judging.{FindsStart, Writes, IsShrunk, JudgesBindings}
+use Rattle.binding_cases.specs.Judging.{FindsStart, IsShrunk, JudgesBindings}
 
 -- 12 is not met: there is a flag for each binding
 enough-flags : (rs : List Record) (flags : ℕ) → refuseWhole rs flags ≡ none → count Kind.binding rs ≤ flags
@@ -54,7 +55,7 @@ enough-flags rs flags e =
     ltb-false flags (count Kind.binding rs) (first-none 12 0 (ltb flags (count Kind.binding rs)) [] last .0)
 
 module _ {file index lens counts : List ℕ} {rs : List Record} (known : Known file index lens counts rs) (ok : Passed rs) (bytes : Bytes file) (typed : Typed file index (getD counts 7 0) rs) where
-  ready : {ends : List ℕ} → EndsAre rs ends → (flags : ℕ) → refuseWhole rs flags ≡ none → (groups : List ℕ) → length groups ≡ 257 → Fills file index (getD counts 8 0) groups
+  ready : {ends : List ℕ} → EndsAre rs ends → (flags : ℕ) → refuseWhole rs flags ≡ none → (groups : List ℕ) → length groups ≡ 257 → Fills file index (getD counts 8 0) (replicate 257 (getD counts 8 0)) groups
       → (firsts : List ℕ) → ((f : ℕ) → f < getD counts 4 0 → getD firsts f 0 ≡ firstNode rs f) → ((f : ℕ) → f < getD counts 4 0 → length (ruleOf rs f) / 4 ≤ getD firsts 256 0) → RowsFor file index rs
       → Ready file index counts groups firsts ends rs
   unfolding number
@@ -68,7 +69,7 @@ module _ {file index lens counts : List ℕ} {rs : List Record} (known : Known f
         rules-all = plan-right rs flags whole .rules-all;
         bodies = whole-body ok flags whole;
         groups-long = long;
-        grouped = subst (λ n. Grouped rs n groups) (sym (known .entries Kind.binding .counted)) (fills rs ok (known .entries Kind.binding) (known .fits Kind.binding));
+        grouped = subst (λ n. Grouped rs n groups) (sym (known .entries Kind.binding .counted)) (fills (λ e h. getD-replicate 257 e (getD counts 8 0) 0 (let l = length-replicate {A = ℕ} 257 (getD counts 8 0) in omega arith)) rs ok (known .entries Kind.binding) (known .fits Kind.binding));
         firsts-are = λ f h. first-nodes f (let c = known .entries Kind.rule .counted in omega arith);
         most-are = λ f h. most f (let c = known .entries Kind.rule .counted in omega arith);
         ends-are = ends-are;
@@ -77,28 +78,30 @@ module _ {file index lens counts : List ℕ} {rs : List Record} (known : Known f
 
   -- the promise, from what was made and found
   is-shrunk : {ends : List ℕ} (groups firsts : List ℕ) → Ready file index counts groups firsts ends rs
-      → (lent flags marks : List ℕ) (r : Bool) (many rounds total : ℕ) → refuseWhole rs (length lent) ≡ none → total ≡ getD counts 8 0
-      → Shrinks file index counts groups firsts ends flags many rounds → FindsStart index counts groups flags r → Writes flags total lent marks
-      → IsShrunk (shrunk (automatonOf rs) (planOf rs) (bindingsOf rs)) lent marks r many total rounds
+      → (lent flags : List ℕ) (r : Bool) (many rounds total : ℕ) → refuseWhole rs (length lent) ≡ none → total ≡ getD counts 8 0
+      → Shrinks file index counts groups firsts ends lent flags many rounds → FindsStart index counts groups flags r
+      → IsShrunk (shrunk (automatonOf rs) (planOf rs) (bindingsOf rs)) lent flags r many total rounds
   unfolding number shrunk accepts
-  is-shrunk groups firsts w lent flags marks r many rounds total whole et shrinks starts writes =
+  is-shrunk groups firsts w lent flags r many rounds total whole et shrinks starts =
       let bs = bindingsOf rs in
       let test = testOf rs in
       let counted = known .entries Kind.binding .counted in
       let fits = known .fits Kind.binding in
       let long = bindings-many rs in
-      let all : total ≡ length bs = omega arith in
-      let taken : take (length bs) flags ≡ keptFlags test bs = ap (λ n. take n flags) long ∙ shrinks .flags-are rs w in
-      let chose : chosen flags bs ≡ kept test bs = sym (chosen-take flags bs) ∙ ap (λ fs. chosen fs bs) taken ∙ chosen-kept test bs in
       let enough = enough-flags rs (length lent) whole in
+      let same-long = shrinks .long in
+      let many-kept : length (keptFlags test bs) ≡ length bs = keptFlags-length test bs in
+      let written : flags ≡ keptFlags test bs ++ drop (count Kind.binding rs) lent = shrinks .flags-are rs w enough in
+      let taken : take (length bs) flags ≡ keptFlags test bs = ap (take (length bs)) written ∙ take-at (keptFlags test bs) (drop (count Kind.binding rs) lent) (length bs) many-kept in
+      let chose : chosen flags bs ≡ kept test bs = sym (chosen-take flags bs) ∙ ap (λ fs. chosen fs bs) taken ∙ chosen-kept test bs in
       let groups-257 = w .groups-long in
       let grouped : Grouped rs (getD counts 8 0) groups = subst (λ n. Grouped rs n groups) counted (w .grouped) in
       record {
-        accepted-is = starts .answer (getD counts 8 0) rs typed (known .entries Kind.binding) fits grouped (omega arith) ∙ ap (any isStart) chose;
-        kept-is = shrinks .kept-are rs w;
-        total-is = all;
-        rounds-are = shrinks .rounds-are rs w;
-        flags-are = writes (omega arith) (shrinks .long) (omega arith) ∙ ap₂ (λ (l : List ℕ) (n : ℕ). l ++ drop n lent) (ap (λ n. take n flags) all ∙ taken) (all ∙ sym (keptFlags-length test bs));
+        accepted-is = starts .answer (getD counts 8 0) rs typed (known .entries Kind.binding) fits grouped (omega arith) (omega arith) ∙ ap (any isStart) chose;
+        kept-is = shrinks .kept-are rs w enough;
+        total-is = let all : total ≡ length bs = omega arith in all;
+        rounds-are = shrinks .rounds-are rs w enough;
+        flags-are = written ∙ ap (λ n. keptFlags test bs ++ drop n lent) (sym long ∙ sym many-kept);
       }
 
 -- The tables of goals, entered in the index.
@@ -145,15 +148,15 @@ goals-kept {before} {index} {n} {rs} few same w =
 owns-kept : (before index : List ℕ) (n : ℕ) (rs : List Record) → count Kind.binding rs ≤ 1024 → ((i : ℕ) → i < rowBase → getD index i 0 ≡ getD before i 0) → Owns before n rs → Owns index n rs
 owns-kept before index n rs few same w b h = subst (λ x. Goal rs n x (getD (typesOf rs) (typeOfBinding rs b) (state 0))) (sym (same (6498 + b) (omega arith))) (w b h)
 
-module _ (file before counts ends lent marks : List ℕ) (r : Bool) (many rounds : ℕ) where
+module _ (file before counts ends lent flags : List ℕ) (r : Bool) (many rounds : ℕ) where
   pub judged : Bytes file → 8034 ≤ length before → (total : ℕ) → IsPlace counts 8 total → (types : ℕ) → IsPlace counts 7 types → (second third index : List ℕ) → FillsGoals file before types second → FillsOwns file second types total third
       → (transitions : ℕ) → IsPlace counts 6 transitions → FillsRows file third transitions index
-      → (groups : List ℕ) → length groups ≡ 257 → Fills file index total groups
+      → (groups : List ℕ) → length groups ≡ 257 → Fills file index total (replicate 257 total) groups
       → (rules : ℕ) → IsPlace counts 4 rules → (cleared firsts : List ℕ) → length cleared ≡ 257 → FillsFirsts file index rules cleared firsts
-      → (flags : List ℕ) → Shrinks file index counts groups firsts ends flags many rounds → FindsStart index counts groups flags r → Writes flags total lent marks
-      → JudgesBindings file before counts ends lent marks r many total rounds
+      → Shrinks file index counts groups firsts ends lent flags many rounds → FindsStart index counts groups flags r
+      → JudgesBindings file before counts ends lent flags r many total rounds
   unfolding number
-  judged bytes enough total et types ey second third index fills-goals fills-owns transitions em fills-rows groups long fills rules er cleared firsts has-room fills-firsts flags shrinks starts writes =
+  judged bytes enough total et types ey second third index fills-goals fills-owns transitions em fills-rows groups long fills rules er cleared firsts has-room fills-firsts shrinks starts =
       record {
         judged = λ lens rs known₀ ok ends-are whole.
             let known₁ : Known file second lens counts rs = known-same (fills-goals .stays) known₀ in
@@ -176,6 +179,6 @@ module _ (file before counts ends lent marks : List ℕ) (r : Bool) (many rounds
             let most : (f : ℕ) → f < getD counts 4 0 → length (ruleOf rs f) / 4 ≤ getD firsts 256 0 = λ f h. fills-firsts .most rs ok all-rules few-rules (omega arith) f (let b = er .value in omega arith) in
             let rows = fills-rows .rows rs ok (subst (λ n. Indexed file third Kind.transition n rs) (sym (em .value)) (known₂ .entries Kind.transition)) (let a = known₂ .fits Kind.transition in let b = em .value in omega arith) (omega (arith, fills-owns .long, fills-goals .long)) in
             let here : Typed file index (getD counts 7 0) rs = subst (λ n. Typed file index n rs) (ey .value) typed in
-            let w = ready known ok bytes here ends-are (length lent) whole groups long (subst (λ n. Fills file index n groups) (et .value) fills) firsts nodes most rows in
-            is-shrunk known ok bytes here groups firsts w lent flags marks r many rounds total whole (et .value) shrinks starts writes;
+            let w = ready known ok bytes here ends-are (length lent) whole groups long (subst (λ n. Fills file index n (replicate 257 n) groups) (et .value) fills) firsts nodes most rows in
+            is-shrunk known ok bytes here groups firsts w lent flags r many rounds total whole (et .value) shrinks starts;
       }

@@ -5,7 +5,7 @@ use mathlib.Core.Path.{_≡_}
 use mathlib.Core.Bool.{Bool, _&&_}
 use mathlib.Core.List.{List, _++_}
 use mathlib.Core.Option.{none}
-use lib.ListN.{length, getD, take, drop}
+use lib.ListN.{length, getD, drop}
 use Rattle.scheme.specs.Lists.{any}
 use Rattle.scheme.specs.Types.{state, same}
 use Rattle.scheme.specs.Flags.{isKept, chosen}
@@ -30,14 +30,10 @@ startsAt rs b flag = isKept flag && same (getD (bindingsOf rs) b noBinding .type
 pub record StartsAt (index : List ℕ) (types b flag : ℕ) (r : Bool) : Type 0 where
   pub answer : {file : List ℕ} (n : ℕ) (rs : List Record) → Typed file index types rs → Indexed file index Kind.binding n rs → n ≤ 1024 → b < n → r ≡ startsAt rs b flag
 
--- r says whether a binding that is kept by its flag is the start binding
+-- r says whether a binding that is kept by its flag is the start binding, where there is a flag for each
 pub record FindsStart (index counts groups flags : List ℕ) (r : Bool) : Type 0 where
-  pub answer : {file : List ℕ} (n : ℕ) (rs : List Record) → Typed file index (getD counts 7 0) rs → Indexed file index Kind.binding n rs → n ≤ 1024 → Grouped rs n groups → 1 < length groups
+  pub answer : {file : List ℕ} (n : ℕ) (rs : List Record) → Typed file index (getD counts 7 0) rs → Indexed file index Kind.binding n rs → n ≤ 1024 → Grouped rs n groups → 1 < length groups → n ≤ length flags
       → r ≡ any isStart (chosen flags (bindingsOf rs))
-
--- the first n flags are written
-abbrev pub Writes : List ℕ → ℕ → List ℕ → List ℕ → Type 0
-Writes from n before after = n ≤ 1024 → length from ≡ 1024 → n ≤ length before → after ≡ take n from ++ drop n before
 
 -- what comes of the bindings, and the lent flags afterwards: "bytes past the count are untouched"
 pub record IsShrunk (s : Shrunk) (lent flags : List ℕ) (accepted : Bool) (kept total rounds : ℕ) : Type 0 where

@@ -9,7 +9,7 @@ use rounds::shrink;
 use row_places::fill_rows;
 ghost use mathlib.Core.Path.{_≡_};
 ghost use lib.ListN.{length};
-ghost use Rattle.binding_cases.specs.Judging.{StartsAt, FindsStart, Writes, JudgesBindings};
+ghost use Rattle.binding_cases.specs.Judging.{StartsAt, FindsStart, JudgesBindings};
 
 // What comes of the bindings offered: whether the start binding is kept, how many are kept and how many were offered, and
 // how many rounds dropped something.
@@ -34,12 +34,12 @@ fn starts_at(index: &[u16], types: usize, b: usize, flag: u8) -> bool
 }
 
 // Whether the start binding is kept: one of nonterminal 0, whose bindings are the first, with the state 0.
-fn start_kept(index: &[u16], counts: &[u16], groups: &[u16], flags: &[u8; 1024]) -> bool
+fn start_kept(index: &[u16], counts: &[u16], groups: &[u16], flags: &[u8]) -> bool
     ensures { λ r. ⌜ FindsStart (now (index .entry)) (now (counts .entry)) (now (groups .entry)) (now (flags .entry)) r ⌝ }
 {
     let types = place_at(counts, 7);
     let last = place_at(groups, 1);
-    if 1024 < last {
+    if flags.len() < last {
         return false;
     }
     let mut b: usize = 0;
@@ -53,27 +53,9 @@ fn start_kept(index: &[u16], counts: &[u16], groups: &[u16], flags: &[u8; 1024])
     false
 }
 
-// Writes the first n flags; the other lent bytes stay.
-fn write_flags(from: &[u8; 1024], n: usize, to: &mut [u8])
-    ensures { λ _. ⌜ Writes (now (from .entry)) n (now (to .entry)) (now (to .exit)) ⌝ }
-{
-    if 1024 < n {
-        return;
-    }
-    if to.len() < n {
-        return;
-    }
-    let mut i: usize = 0;
-    while i < n {
-        to[i] = from[i];
-        i = i + 1;
-    }
-}
-
 // What comes of the bindings of a file, with the tables of its records; their flags are written, 1 for a kept binding and
-// 0 for a dropped one. Behind its entries the index gets the goals that its types are, and
-// where its transitions lie. What the memo held before does not
-// matter.
+// 0 for a dropped one. Behind its entries the index gets the goals that its types are, and where its transitions lie. What
+// the memo held before does not matter.
 pub fn judge_bindings(
     file: &[u8],
     index: &mut [u16; 8034],
@@ -89,14 +71,12 @@ pub fn judge_bindings(
     fill_goals(file, index, types);
     fill_owns(file, index, types, total);
     fill_rows(file, index, place_at(counts, 6));
-    let mut groups = [0u16; 257];
+    let mut groups = [total as u16; 257];
     fill_groups(file, index, total, &mut groups);
     let mut firsts = [0u16; 257];
     fill_firsts(file, index, place_at(counts, 4), &mut firsts);
-    let ended = shrink(file, index, counts, &groups, &firsts, ends, memo);
-    let kept = ended.flags;
-    let accepted = start_kept(index, counts, &groups, &kept);
-    write_flags(&kept, total, flags);
+    let ended = shrink(file, index, counts, &groups, &firsts, ends, memo, flags);
+    let accepted = start_kept(index, counts, &groups, flags);
     Shrunken {
         accepted,
         kept: ended.kept,

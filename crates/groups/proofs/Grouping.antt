@@ -18,7 +18,7 @@ use Rattle.casefile.proofs.Passed.{Passed, entry}
 use Rattle.casefile.proofs.TypeTable.{count-payloads}
 use Rattle.entries.specs.Index.{Indexed}
 use Rattle.entries.proofs.Earlier.{inOrder, follows-last}
-use Rattle.groups.specs.Groups.{nonterminalIn, nonterminalOf, Sought, Rest, Grouped, Fills, Sofar}
+use Rattle.groups.specs.Groups.{nonterminalIn, nonterminalOf, Sought, Grouped, Fills, Sofar}
 
 -- while a group is sought: the numbers before i were passed
 pub record Seeking (g : ℕ → ℕ) (n from f i : ℕ) : Type 0 where
@@ -45,12 +45,22 @@ module _ (g : ℕ → ℕ) (n from f : ℕ) where
     pub seek-end : n ≤ i → n ≤ 1024 → from ≤ n → Sought g n from f i
     seek-end h k m = record { behind = s .behind; within = s .within m; passed = s .passed; reached = λ z. absurd (omega arith) }
 
-module _ (g : ℕ → ℕ) (n : ℕ) where
-  pub group-none : (groups : List ℕ) → n ≤ 1024 → Sofar g n 0 0 groups
-  group-none groups h =
-      record { few = h; upTo = omega arith; there = omega arith; earlier = λ i k. absurd (omega arith); entries = λ e k. absurd (omega arith); lower = λ e i k. absurd (omega arith); reached = λ e k. absurd (omega arith) }
+module _ (g : ℕ → ℕ) (n : ℕ) (before : List ℕ) where
+  pub group-none : n ≤ 1024 → Sofar g n 0 0 before before
+  group-none h =
+      record {
+        long = refl;
+        ahead = λ e k. refl;
+        few = h;
+        upTo = omega arith;
+        there = omega arith;
+        earlier = λ i k. absurd (omega arith);
+        entries = λ e k. absurd (omega arith);
+        lower = λ e i k. absurd (omega arith);
+        reached = λ e k. absurd (omega arith);
+      }
 
-  module _ (b f : ℕ) (groups : List ℕ) (so : Sofar g n b f groups) (h : f < length groups) (r : ℕ) (s : Sought g n b f r) where
+  module _ (b f : ℕ) (groups : List ℕ) (so : Sofar g n b f before groups) (h : f < length groups) (r : ℕ) (s : Sought g n b f r) where
     before-here : (i : ℕ) → i < r → g i < f
     before-here i k = go (decLt i b)
       where
@@ -66,9 +76,11 @@ module _ (g : ℕ → ℕ) (n : ℕ) where
         go (yes z) = subst (λ x. P x (getD (set groups f r) x 0)) (sym z) (subst (P f) (sym (getD-set-same groups f r 0 h)) new)
         go (no z) = subst (P e) (sym (getD-set-other groups f e r 0 z)) (old e (let w = z in omega arith))
 
-    pub group-more : Sofar g n r (f + 1) (set groups f r)
+    pub group-more : Sofar g n r (f + 1) before (set groups f r)
     group-more =
         record {
+          long = length-set groups f r ∙ so .long;
+          ahead = λ e k. getD-set-other groups f e r 0 (λ z. omega arith) ∙ so .ahead e (omega arith);
           few = so .few;
           upTo = let same = length-set groups f r in omega arith;
           there = s .within;
@@ -78,61 +90,35 @@ module _ (g : ℕ → ℕ) (n : ℕ) where
           reached = each (λ e x. x < n → e ≤ g x) (so .reached) (s .reached);
         }
 
-    -- where no binding is left, the entries from f on get n
-    pub group-rest : n ≤ r → (after : List ℕ) → Rest groups after f n → Sofar g n n (length after) after
-    group-rest l after x =
+    -- where no binding is left, the entries from f on stay n
+    group-rest : n ≤ r → ((e : ℕ) → e < length before → getD before e 0 ≡ n) → Sofar g n n (length groups) before groups
+    group-rest l all =
         record {
+          long = so .long;
+          ahead = λ e k. so .ahead e (omega arith);
           few = so .few;
           upTo = omega arith;
           there = omega arith;
-          earlier = λ i k. let z = before-here i (omega arith) in let y = x .long in omega arith;
+          earlier = λ i k. let z = before-here i (omega arith) in omega arith;
           entries = λ e k. go-entries e k (decLt e f);
           lower = λ e i k. go-lower e k (decLt e f) i;
           reached = λ e k. go-reached e k (decLt e f);
         }
       where
-        new : (e : ℕ) → e < length after → (e < f → ⊥) → getD after e 0 ≡ n
-        new e k z = x .filled e (omega arith) (let y = x .long in omega arith)
+        new : (e : ℕ) → e < length groups → (e < f → ⊥) → getD groups e 0 ≡ n
+        new e k z = so .ahead e (omega arith) ∙ all e (let y = so .long in omega arith)
 
-        go-entries : (e : ℕ) → e < length after → Dec (e < f) → getD after e 0 ≤ n
-        go-entries e k (yes z) = let y = x .kept e z in let w = so .entries e z in omega arith
+        go-entries : (e : ℕ) → e < length groups → Dec (e < f) → getD groups e 0 ≤ n
+        go-entries e k (yes z) = so .entries e z
         go-entries e k (no z) = let y = new e k z in omega arith
 
-        go-lower : (e : ℕ) → e < length after → Dec (e < f) → (i : ℕ) → i < getD after e 0 → g i < e
-        go-lower e k (yes z) i m = let y = x .kept e z in so .lower e i z (omega arith)
+        go-lower : (e : ℕ) → e < length groups → Dec (e < f) → (i : ℕ) → i < getD groups e 0 → g i < e
+        go-lower e k (yes z) i m = so .lower e i z m
         go-lower e k (no z) i m = let y = new e k z in let w = before-here i (omega arith) in omega arith
 
-        go-reached : (e : ℕ) → e < length after → Dec (e < f) → getD after e 0 < n → e ≤ g (getD after e 0)
-        go-reached e k (yes z) m = let y = x .kept e z in subst (λ v. e ≤ g v) (sym y) (so .reached e z (omega arith))
+        go-reached : (e : ℕ) → e < length groups → Dec (e < f) → getD groups e 0 < n → e ≤ g (getD groups e 0)
+        go-reached e k (yes z) m = so .reached e z m
         go-reached e k (no z) m = let y = new e k z in absurd (omega arith)
-
--- while the entries from one on are set: those from `from` up to i are set, the others are as before
-pub record Setting (before after : List ℕ) (from v i : ℕ) : Type 0 where
-  pub long : length after ≡ length before
-  pub behind : from ≤ i
-  pub kept : (e : ℕ) → e < from → getD after e 0 ≡ getD before e 0
-  pub filled : (e : ℕ) → from ≤ e → e < i → getD after e 0 ≡ v
-
-module _ (before : List ℕ) (from v : ℕ) where
-  pub set-none : Setting before before from v from
-  set-none = record { long = refl; behind = omega arith; kept = λ e k. refl; filled = λ e k l. absurd (omega arith) }
-
-  module _ (after : List ℕ) (i : ℕ) (s : Setting before after from v i) where
-    pub set-more : i < length after → Setting before (set after i v) from v (i + 1)
-    set-more h =
-        record {
-          long = length-set after i v ∙ s .long;
-          behind = omega (arith, s .behind);
-          kept = λ e k. getD-set-other after i e v 0 (λ z. omega (arith, s .behind)) ∙ s .kept e k;
-          filled = λ e k l. go e k l (ℕ-discrete e i);
-        }
-      where
-        go : (e : ℕ) → from ≤ e → e < i + 1 → Dec (e ≡ i) → getD (set after i v) e 0 ≡ v
-        go e k l (yes z) = subst (λ x. getD (set after i v) x 0 ≡ v) (sym z) (getD-set-same after i v 0 h)
-        go e k l (no z) = getD-set-other after i e v 0 z ∙ s .filled e k (omega arith)
-
-    pub set-all : length after ≤ i → Rest before after from v
-    set-all h = record { long = s .long; kept = s .kept; filled = λ e k l. s .filled e k (let y = s .long in omega arith) }
 
 before-le : (a b c d : ℕ) → before a b c d ≡ true → a ≤ c
 unfolding before
@@ -168,10 +154,10 @@ nonterminals-ascend {rs} ok i (suc k) h =
     let b = next-nonterminal ok (i + k) (omega arith) in
     subst (λ x. nonterminalOf rs i ≤ nonterminalOf rs x) shift (omega arith)
 
-module _ (file index : List ℕ) (n b f : ℕ) (groups : List ℕ) (so : Sofar (nonterminalIn file index) n b f groups) (h : length groups ≤ f) where
-  pub group-all : Fills file index n groups
+module _ (file index : List ℕ) (n b f : ℕ) (before groups : List ℕ) (so : Sofar (nonterminalIn file index) n b f before groups) where
+  pub group-all : length groups ≤ f → Fills file index n before groups
   unfolding wrongLength
-  group-all rs ok ix few = record { within = λ e k. so .entries e (omega arith); below = below; from-on = from-on }
+  group-all h all rs ok ix few = record { within = λ e k. so .entries e (omega arith); below = below; from-on = from-on }
     where
       many : length (payloads Kind.binding rs) ≡ n
       many = sym (count-payloads Kind.binding rs) ∙ ix .counted
@@ -194,3 +180,7 @@ module _ (file index : List ℕ) (n b f : ℕ) (groups : List ℕ) (so : Sofar (
           let up = nonterminals-ascend ok first (i - first) (omega (arith, many)) in
           let at-i = subst (λ x. nonterminalOf rs first ≤ nonterminalOf rs x) apart up in
           omega arith
+
+module _ (file index : List ℕ) (n b f : ℕ) (before groups : List ℕ) (so : Sofar (nonterminalIn file index) n b f before groups) where
+  pub group-last : f < length groups → (r : ℕ) → Sought (nonterminalIn file index) n b f r → n ≤ r → Fills file index n before groups
+  group-last h r s l all = group-all file index n n (length groups) before groups (group-rest (nonterminalIn file index) n before b f groups so h r s l all) (omega arith) all

@@ -27,24 +27,21 @@ pub record Sought (g : ℕ → ℕ) (n from f r : ℕ) : Type 0 where
 abbrev pub Seeks : List ℕ → List ℕ → ℕ → ℕ → ℕ → ℕ → Type 0
 Seeks file index n from f r = n ≤ 1024 → from ≤ n → Sought (nonterminalIn file index) n from f r
 
--- a table after the entries from one on were set to v
-pub record Rest (before after : List ℕ) (from v : ℕ) : Type 0 where
-  pub long : length after ≡ length before
-  pub kept : (e : ℕ) → e < from → getD after e 0 ≡ getD before e 0
-  pub filled : (e : ℕ) → from ≤ e → e < length before → getD after e 0 ≡ v
-
 -- the groups: the bindings below entry f have earlier nonterminals than f, those from it on have f or a later one
 pub record Grouped (rs : List Record) (n : ℕ) (groups : List ℕ) : Type 0 where
   pub within : (f : ℕ) → f < length groups → getD groups f 0 ≤ n
   pub below : (f i : ℕ) → f < length groups → i < getD groups f 0 → nonterminalOf rs i < f
   pub from-on : (f i : ℕ) → f < length groups → getD groups f 0 ≤ i → i < n → f ≤ nonterminalOf rs i
 
--- the promise, for a file whose records passed
-abbrev pub Fills : List ℕ → List ℕ → ℕ → List ℕ → Type 0
-Fills file index n groups = (rs : List Record) → Passed rs → Indexed file index Kind.binding n rs → n ≤ 1024 → Grouped rs n groups
+-- the promise, for a file whose records passed and a table whose entries were all n
+abbrev pub Fills : List ℕ → List ℕ → ℕ → List ℕ → List ℕ → Type 0
+Fills file index n before groups = ((e : ℕ) → e < length before → getD before e 0 ≡ n) → (rs : List Record) → Passed rs → Indexed file index Kind.binding n rs → n ≤ 1024 → Grouped rs n groups
 
--- while the table is filled: the entries below f are in it, and binding b is the first that the last of them reached
-pub record Sofar (g : ℕ → ℕ) (n b f : ℕ) (groups : List ℕ) : Type 0 where
+-- while the table is filled: the entries below f are in it, the others are as before, and binding b is the first that the last
+-- of them reached
+pub record Sofar (g : ℕ → ℕ) (n b f : ℕ) (before groups : List ℕ) : Type 0 where
+  pub long : length groups ≡ length before
+  pub ahead : (e : ℕ) → f ≤ e → getD groups e 0 ≡ getD before e 0
   pub few : n ≤ 1024
   pub upTo : f ≤ length groups
   pub there : b ≤ n

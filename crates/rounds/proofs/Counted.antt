@@ -140,15 +140,22 @@ module _ {B : Type 0} (test : List B → B → Bool) (bs : List B) where
       pub left-rounds : rounds ≡ Rounds.rounds test bs
       left-rounds = let a = none-more (w .fuel) in let b = w .count in omega arith
 
-      pub left-flags : take (length bs) old ≡ keptFlags test bs
-      left-flags =
+      -- it leaves the flags as they are
+      left-same : roundFlags test bs (take (length bs) old) ≡ take (length bs) old
+      left-same =
           let fs = take (length bs) old in
           let a : chosen fs bs ≡ chosen old bs = chosen-take old bs in
           let b : chosen (roundFlags test bs fs) bs ≡ Rounds.round test (chosen fs bs) = chosen-round test bs fs in
           let g : length (Rounds.round test (chosen fs bs)) ≡ more = ap (λ s. length (Rounds.round test s)) a ∙ sym e in
           let k = w .kept-are in
-          let l : length (chosen fs bs) ≤ length (chosen (roundFlags test bs fs) bs) = let p = ap length a in let q = ap length b in omega arith in
-          sym (after-same test bs (w .fuel) fs (round-same test bs fs (length-take-le (length bs) old long) (w .small) l)) ∙ w .flags
+          round-same test bs fs (length-take-le (length bs) old long) (w .small) (let p = ap length a in let q = ap length b in omega arith)
+
+      left-flags : take (length bs) old ≡ keptFlags test bs
+      left-flags = sym (after-same test bs (w .fuel) (take (length bs) old) left-same) ∙ w .flags
+
+      -- and those that it makes are the ones that are left
+      pub left-made : roundFlags test bs old ≡ keptFlags test bs
+      left-made = sym (round-take test bs old) ∙ left-same ∙ left-flags
 
       pub left-kept : kept ≡ length (Rounds.kept test bs)
       left-kept = w .kept-are ∙ ap length (sym (chosen-take old bs) ∙ ap (λ fs. chosen fs bs) left-flags ∙ chosen-kept test bs)

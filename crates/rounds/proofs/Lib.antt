@@ -1,4 +1,5 @@
 pub mod Flagged
 pub mod Counted
+pub mod Copying
 pub mod Settling
 pub mod Turning

@@ -5,10 +5,10 @@ use native.Mathlib.Decide.{ℕ-discrete}
 use native.Mathlib.Nat.{mul-le-mul}
 use mathlib.Core.Path.{_≡_, refl, sym, ap, ap₂, subst, _∙_}
 use mathlib.Core.Bool.{Bool, true, false, _&&_}
-use mathlib.Core.List.{List}
+use mathlib.Core.List.{List, _++_}
 use mir.Val.{boolByte}
-use lib.ListN.{length, getD, set, take, replicate, length-set, length-map, length-replicate, getD-replicate}
-use lib.Seq.{getD-take}
+use lib.ListN.{length, getD, set, take, drop, replicate, length-set, length-map, length-replicate, getD-replicate, take-append-drop}
+use lib.Seq.{getD-take, drop-set-lt, drop-drop}
 use Rattle.scheme.specs.Rounds
 use Rattle.scheme.specs.Flags.{bit, isKept, chosen, roundFlags}
 use Rattle.scheme.proofs.Flags.{chosen-round}
@@ -26,10 +26,10 @@ use Rattle.rule_bodies.specs.RuleBodies.{ruleOf}
 use Rattle.touched.specs.Touched.{touches}
 use Rattle.touched.proofs.Touching.{untouched}
 use Rattle.binding_tests.specs.BindingTests.{Ready, entriesFor, symbolOf, IsSymbol, TestsBinding}
-use Rattle.rounds.specs.Shrinking.{testOf, Numbered, Settled, Retests, Marks, Turns, Shrinks}
+use Rattle.rounds.specs.Shrinking.{testOf, Numbered, Settled, Retests, Marks, Turns, Copies, Shrinks}
 use Rattle.rounds.proofs.Settling.{kept-byte, rule-there, settle}
-use Rattle.rounds.proofs.Flagged.{bit-small, round-length, round-at}
-use Rattle.rounds.proofs.Counted.{Sofar, sofar-none, sofar-more, sofar-flags, sofar-kept, Left, left-start, left-turn, left-rounds, left-flags, left-kept}
+use Rattle.rounds.proofs.Flagged.{bit-small, chosen-take, round-length, round-at}
+use Rattle.rounds.proofs.Counted.{Sofar, sofar-none, sofar-more, sofar-flags, sofar-kept, Left, left-start, left-turn, left-rounds, left-made, left-kept}
 
 -- the number of entries of a memo is no large number
 pub entries-few : (nodes types : ℕ) → nodes < 65536 → types < 65536 → nodes * (types + 16) ≤ 4295884785
@@ -49,6 +49,16 @@ flag-of false = refl
 pub bindings-many : (rs : List Record) → length (bindingsOf rs) ≡ count Kind.binding rs
 unfolding bindingsOf
 bindings-many rs = length-map (payloads Kind.binding rs) _ ∙ sym (count-payloads Kind.binding rs)
+
+-- flags that are the same up to the last binding
+settled-same : (rs : List Record) (lost flags flags′ : List ℕ) → take (length (bindingsOf rs)) flags′ ≡ take (length (bindingsOf rs)) flags → Settled rs lost flags → Settled rs lost flags′
+settled-same rs lost flags flags′ e s b h k u =
+    let bs = bindingsOf rs in
+    let n = length bs in
+    let many = bindings-many rs in
+    let at : getD flags′ b 0 ≡ getD flags b 0 = sym (getD-take n flags′ b 0 (omega arith)) ∙ ap (λ l. getD l b 0) e ∙ getD-take n flags b 0 (omega arith) in
+    let set : chosen flags′ bs ≡ chosen flags bs = sym (chosen-take flags′ bs) ∙ ap (λ l. chosen l bs) e ∙ chosen-take flags bs in
+    ap (λ l. testOf rs l (getD bs b noBinding)) set ∙ s b h (ap isKept (sym at) ∙ k) u
 
 module _ (file index counts groups firsts ends : List ℕ) where
   -- how many bindings a file has, by its counts
@@ -110,11 +120,12 @@ module _ (file index counts groups firsts ends : List ℕ) where
   pub record Rounding (old gone memo flags cleared : List ℕ) (stamp : ℕ) (memo′ new lost : List ℕ) (last kept b : ℕ) : Type 0 where
     pub long : length new ≡ length flags
     pub lost-long : length lost ≡ length cleared
+    pub stays : drop b new ≡ drop b flags
     pub few : kept ≤ b
     pub numbered : Numbered counts firsts memo stamp → Numbered counts firsts memo′ last
-    pub sofar : (rs : List Record) → Ready file index counts groups firsts ends rs → Numbered counts firsts memo stamp → length old ≡ 1024 → length flags ≡ 1024 → length cleared ≡ 257 → Settled rs gone old
+    pub sofar : (rs : List Record) → Ready file index counts groups firsts ends rs → Numbered counts firsts memo stamp → length old ≡ 1024 → count Kind.binding rs ≤ length flags → length cleared ≡ 257 → Settled rs gone old
         → Sofar (roundFlags (testOf rs) (bindingsOf rs) old) (bindingsOf rs) new b kept
-    pub losing : (rs : List Record) → Ready file index counts groups firsts ends rs → Numbered counts firsts memo stamp → length old ≡ 1024 → length flags ≡ 1024 → length cleared ≡ 257 → Settled rs gone old
+    pub losing : (rs : List Record) → Ready file index counts groups firsts ends rs → Numbered counts firsts memo stamp → length old ≡ 1024 → count Kind.binding rs ≤ length flags → length cleared ≡ 257 → Settled rs gone old
         → (i : ℕ) → i < b → i < count Kind.binding rs → getD lost (symbolOf rs i) 0 ≡ 0 → isKept (getD (roundFlags (testOf rs) (bindingsOf rs) old) i 0) ≡ isKept (getD old i 0)
 
   module _ (old gone memo flags cleared : List ℕ) (stamp : ℕ) where
@@ -123,6 +134,7 @@ module _ (file index counts groups firsts ends : List ℕ) where
         record {
           long = refl;
           lost-long = refl;
+          stays = refl;
           few = omega arith;
           numbered = λ u. u;
           sofar = λ rs w u lo lf lc s. sofar-none (roundFlags (testOf rs) (bindingsOf rs) old) (bindingsOf rs) flags;
@@ -152,6 +164,7 @@ module _ (file index counts groups firsts ends : List ℕ) where
         record {
           long = length-set new b flag ∙ g .long;
           lost-long = m .long ∙ g .lost-long;
+          stays = drop-set-lt (b + 1) new b flag (omega arith) ∙ sym (drop-drop 1 b new) ∙ ap (drop 1) (g .stays) ∙ drop-drop 1 b flags;
           few = let x = g .few in let y = t .small in omega arith;
           numbered = λ u. t .numbered (g .numbered u);
           sofar = λ rs w u lo lf lc s.
@@ -166,7 +179,7 @@ module _ (file index counts groups firsts ends : List ℕ) where
           losing = λ rs w u lo lf lc s i l k z. go rs w u lo lf lc s i l k z (ℕ-discrete i b);
         }
       where
-        flag-is : (rs : List Record) → Ready file index counts groups firsts ends rs → Numbered counts firsts memo stamp → length old ≡ 1024 → length flags ≡ 1024 → length cleared ≡ 257 → Settled rs gone old → flag ≡ getD (roundFlags (testOf rs) (bindingsOf rs) old) b 0
+        flag-is : (rs : List Record) → Ready file index counts groups firsts ends rs → Numbered counts firsts memo stamp → length old ≡ 1024 → count Kind.binding rs ≤ length flags → length cleared ≡ 257 → Settled rs gone old → flag ≡ getD (roundFlags (testOf rs) (bindingsOf rs) old) b 0
         flag-is rs w u lo lf lc s =
             let (many, most) = counted rs w in
             let bs = bindingsOf rs in
@@ -174,7 +187,7 @@ module _ (file index counts groups firsts ends : List ℕ) where
             let is = at .value in
             t .flag-is rs w (omega arith) (g .numbered u) refl s ∙ sym (round-at (testOf rs) bs old b noBinding (omega arith) (omega arith))
 
-        go : (rs : List Record) → Ready file index counts groups firsts ends rs → Numbered counts firsts memo stamp → length old ≡ 1024 → length flags ≡ 1024 → length cleared ≡ 257 → Settled rs gone old
+        go : (rs : List Record) → Ready file index counts groups firsts ends rs → Numbered counts firsts memo stamp → length old ≡ 1024 → count Kind.binding rs ≤ length flags → length cleared ≡ 257 → Settled rs gone old
             → (i : ℕ) → i < b + 1 → i < count Kind.binding rs → getD lost′ (symbolOf rs i) 0 ≡ 0 → Dec (i ≡ b) → isKept (getD (roundFlags (testOf rs) (bindingsOf rs) old) i 0) ≡ isKept (getD old i 0)
         go rs w u lo lf lc s i l k z (no ne) = g .losing rs w u lo lf lc s i (let x = ne in omega arith) k (m .stays (symbolOf rs i) z)
         go rs w u lo lf lc s i l k z (yes e) =
@@ -189,6 +202,7 @@ module _ (file index counts groups firsts ends : List ℕ) where
         record {
           long = g .long;
           lost-long = g .lost-long;
+          stays = λ rs w. subst (λ n. drop n new ≡ drop n flags) (reached rs w ∙ bindings-many rs) (g .stays);
           numbered = g .numbered;
           flags-are = λ rs w u lo lf lc s. ap (λ n. take n new) (sym (bindings-many rs)) ∙ made rs w u lo lf lc s;
           kept-are = λ rs w u lo lf lc s.
@@ -208,65 +222,96 @@ module _ (file index counts groups firsts ends : List ℕ) where
         reached : (rs : List Record) → Ready file index counts groups firsts ends rs → b ≡ length (bindingsOf rs)
         reached rs w = let (many, most) = counted rs w in let is = at .value in omega arith
 
-        made : (rs : List Record) → Ready file index counts groups firsts ends rs → Numbered counts firsts memo stamp → length old ≡ 1024 → length flags ≡ 1024 → length cleared ≡ 257 → Settled rs gone old → take (length (bindingsOf rs)) new ≡ roundFlags (testOf rs) (bindingsOf rs) old
+        made : (rs : List Record) → Ready file index counts groups firsts ends rs → Numbered counts firsts memo stamp → length old ≡ 1024 → count Kind.binding rs ≤ length flags → length cleared ≡ 257 → Settled rs gone old → take (length (bindingsOf rs)) new ≡ roundFlags (testOf rs) (bindingsOf rs) old
         made rs w u lo lf lc s = sofar-flags (roundFlags (testOf rs) (bindingsOf rs) old) (bindingsOf rs) noBinding (as-long rs w lo) new b kept (g .sofar rs w u lo lf lc s) (reached rs w)
 
-        here : (rs : List Record) → Ready file index counts groups firsts ends rs → Numbered counts firsts memo stamp → length old ≡ 1024 → length flags ≡ 1024 → length cleared ≡ 257 → Settled rs gone old
+        here : (rs : List Record) → Ready file index counts groups firsts ends rs → Numbered counts firsts memo stamp → length old ≡ 1024 → count Kind.binding rs ≤ length flags → length cleared ≡ 257 → Settled rs gone old
             → (i : ℕ) → i < count Kind.binding rs → getD new i 0 ≡ getD (roundFlags (testOf rs) (bindingsOf rs) old) i 0
         here rs w u lo lf lc s i x = let all = bindings-many rs in sym (getD-take (length (bindingsOf rs)) new i 0 (omega arith)) ∙ ap (λ l. getD l i 0) (made rs w u lo lf lc s)
 
-    -- a file has no more bindings
-    pub round-refused : (bindings : ℕ) → IsPlace counts 8 bindings → 1024 < bindings → Turns file index counts groups firsts ends old gone memo flags cleared stamp memo flags cleared 0 stamp
-    round-refused bindings at h =
+    -- a file has no more bindings, or there is no flag for each
+    pub round-refused : (bindings : ℕ) → IsPlace counts 8 bindings → (bindings ≤ 1024 → bindings ≤ length flags → ⊥) → Turns file index counts groups firsts ends old gone memo flags cleared stamp memo flags cleared 0 stamp
+    round-refused bindings at no-room =
         record {
           long = refl;
           lost-long = refl;
+          stays = λ rs w. refl;
           numbered = λ u. u;
-          flags-are = λ rs w u lo lf lc s. absurd (too-many rs w);
-          kept-are = λ rs w u lo lf lc s. absurd (too-many rs w);
-          settled = λ rs w u lo lf lc s. absurd (too-many rs w);
+          flags-are = λ rs w u lo lf lc s. absurd (too-many rs w lf);
+          kept-are = λ rs w u lo lf lc s. absurd (too-many rs w lf);
+          settled = λ rs w u lo lf lc s. absurd (too-many rs w lf);
         }
       where
-        too-many : (rs : List Record) → Ready file index counts groups firsts ends rs → ⊥
-        too-many rs w = let (many, most) = counted rs w in let is = at .value in omega arith
+        too-many : (rs : List Record) → Ready file index counts groups firsts ends rs → count Kind.binding rs ≤ length flags → ⊥
+        too-many rs w lf = let (many, most) = counted rs w in let all = bindings-many rs in let is = at .value in no-room (omega arith) (omega arith)
 
-  -- Between rounds.
-  pub record Going (memo old lost : List ℕ) (stamp kept rounds : ℕ) : Type 0 where
+  -- Between rounds: `old` has the flags that the last one made, and past the bindings `flags` is as it was lent.
+  pub record Going (lent memo flags old lost : List ℕ) (stamp kept rounds : ℕ) : Type 0 where
+    pub same : length flags ≡ length lent
+    pub stays : (rs : List Record) → Ready file index counts groups firsts ends rs → drop (count Kind.binding rs) flags ≡ drop (count Kind.binding rs) lent
     pub long : length old ≡ 1024
-    pub settled : (rs : List Record) → Ready file index counts groups firsts ends rs → Settled rs lost old
+    pub settled : (rs : List Record) → Ready file index counts groups firsts ends rs → count Kind.binding rs ≤ length lent → Settled rs lost old
     pub numbered : Numbered counts firsts memo stamp
-    pub left : (rs : List Record) → Ready file index counts groups firsts ends rs → Left (testOf rs) (bindingsOf rs) old kept rounds
+    pub left : (rs : List Record) → Ready file index counts groups firsts ends rs → count Kind.binding rs ≤ length lent → Left (testOf rs) (bindingsOf rs) old kept rounds
 
-  pub going-none : (memo old lost : List ℕ) (bindings : ℕ) → IsPlace counts 8 bindings → old ≡ replicate 1024 1 → lost ≡ replicate 257 1 → Going memo old lost 127 bindings 0
-  going-none memo old lost bindings at e f =
+  pub going-none : (lent memo old lost : List ℕ) (bindings : ℕ) → IsPlace counts 8 bindings → old ≡ replicate 1024 1 → lost ≡ replicate 257 1 → Going lent memo lent old lost 127 bindings 0
+  going-none lent memo old lost bindings at e f =
       record {
+        same = refl;
+        stays = λ rs w. refl;
         long = ap length e ∙ length-replicate {A = ℕ} 1024 1;
-        settled = λ rs w b h k u. absurd (let z = untouched lost (ruleOf rs (symbolOf rs b)) u .0 in let one = ap (λ l. getD l 256 0) f ∙ getD-replicate 257 256 1 0 (omega arith) in omega arith);
+        settled = λ rs w r b h k u. absurd (let z = untouched lost (ruleOf rs (symbolOf rs b)) u .0 in let one = ap (λ l. getD l 256 0) f ∙ getD-replicate 257 256 1 0 (omega arith) in omega arith);
         numbered = λ k. absurd (omega arith);
-        left = λ rs w. let (many, most) = counted rs w in left-start (testOf rs) (bindingsOf rs) old bindings e (omega arith) (at .value ∙ sym many);
+        left = λ rs w r. let (many, most) = counted rs w in left-start (testOf rs) (bindingsOf rs) old bindings e (omega arith) (at .value ∙ sym many);
       }
 
-  module _ (memo old lost : List ℕ) (stamp kept rounds : ℕ) (g : Going memo old lost stamp kept rounds) (flags marks : List ℕ) (many : length flags ≡ 1024) (all : length marks ≡ 257) (memo′ new lost′ : List ℕ) (more next : ℕ)
+  module _ (lent memo flags old lost : List ℕ) (stamp kept rounds : ℕ) (g : Going lent memo flags old lost stamp kept rounds) (marks : List ℕ) (all : length marks ≡ 257) (memo′ new lost′ : List ℕ) (more next : ℕ)
       (t : Turns file index counts groups firsts ends old lost memo flags marks stamp memo′ new lost′ more next) where
-    pub going-more : more < kept → Going memo′ new lost′ next more (rounds + 1)
-    going-more h =
-        record {
-          long = t .long ∙ many;
-          settled = λ rs w. t .settled rs w (g .numbered) (g .long) many all (g .settled rs w);
-          numbered = t .numbered (g .numbered);
-          left = λ rs w.
-              left-turn (testOf rs) (bindingsOf rs) old kept rounds (g .left rs w) new more
-              (ap (λ n. take n new) (bindings-many rs) ∙ t .flags-are rs w (g .numbered) (g .long) many all (g .settled rs w)) (t .kept-are rs w (g .numbered) (g .long) many all (g .settled rs w)) h;
-        }
+    module _ (rs : List Record) (w : Ready file index counts groups firsts ends rs) (r : count Kind.binding rs ≤ length lent) where
+      room : count Kind.binding rs ≤ length flags
+      room = let s = g .same in omega arith
 
-    pub going-all : kept ≤ more → Shrinks file index counts groups firsts ends old kept rounds
-    going-all h =
+      made : take (length (bindingsOf rs)) new ≡ roundFlags (testOf rs) (bindingsOf rs) old
+      made = ap (λ n. take n new) (bindings-many rs) ∙ t .flags-are rs w (g .numbered) (g .long) room all (g .settled rs w r)
+
+      counts-kept : more ≡ length (Rounds.round (testOf rs) (chosen old (bindingsOf rs)))
+      counts-kept = t .kept-are rs w (g .numbered) (g .long) room all (g .settled rs w r)
+
+      inside : length (bindingsOf rs) ≤ length old
+      inside = let (many, most) = counted rs w in let l = g .long in omega arith
+
+    past : (rs : List Record) → Ready file index counts groups firsts ends rs → drop (count Kind.binding rs) new ≡ drop (count Kind.binding rs) lent
+    past rs w = t .stays rs w ∙ g .stays rs w
+
+    pub going-more : more < kept → (bindings : ℕ) → IsPlace counts 8 bindings → (old′ : List ℕ) → Copies new bindings old old′ → Going lent memo′ new old′ lost′ next more (rounds + 1)
+    going-more h bindings at old′ c =
         record {
-          long = g .long;
-          flags-are = λ rs w. ap (λ n. take n old) (sym (bindings-many rs)) ∙ left-flags (testOf rs) (bindingsOf rs) old kept rounds (g .left rs w) more (inside rs w) (t .kept-are rs w (g .numbered) (g .long) many all (g .settled rs w)) h;
-          kept-are = λ rs w. left-kept (testOf rs) (bindingsOf rs) old kept rounds (g .left rs w) more (inside rs w) (t .kept-are rs w (g .numbered) (g .long) many all (g .settled rs w)) h;
-          rounds-are = λ rs w. left-rounds (testOf rs) (bindingsOf rs) old kept rounds (g .left rs w) more (inside rs w) (t .kept-are rs w (g .numbered) (g .long) many all (g .settled rs w)) h;
+          same = t .long ∙ g .same;
+          stays = past;
+          long = c .long ∙ g .long;
+          settled = λ rs w r. settled-same rs lost′ new old′ (copied rs w r) (t .settled rs w (g .numbered) (g .long) (room rs w r) all (g .settled rs w r));
+          numbered = t .numbered (g .numbered);
+          left = λ rs w r. left-turn (testOf rs) (bindingsOf rs) old kept rounds (g .left rs w r) old′ more (copied rs w r ∙ made rs w r) (counts-kept rs w r) h;
         }
       where
-        inside : (rs : List Record) → Ready file index counts groups firsts ends rs → length (bindingsOf rs) ≤ length old
-        inside rs w = let (many, most) = counted rs w in let l = g .long in omega arith
+        copied : (rs : List Record) → Ready file index counts groups firsts ends rs → count Kind.binding rs ≤ length lent → take (length (bindingsOf rs)) old′ ≡ take (length (bindingsOf rs)) new
+        copied rs w r =
+            let (many, most) = counted rs w in
+            let all = bindings-many rs in
+            let is = at .value in
+            let here : bindings ≡ length (bindingsOf rs) = omega arith in
+            let s = g .same in
+            let l = t .long in
+            subst (λ n. take n old′ ≡ take n new) here (c .copied (omega arith) (omega arith) (g .long))
+
+    pub going-all : kept ≤ more → Shrinks file index counts groups firsts ends lent new kept rounds
+    going-all h =
+        record {
+          long = t .long ∙ g .same;
+          flags-are = λ rs w r.
+              let n = count Kind.binding rs in
+              sym (take-append-drop n new)
+              ∙ ap₂ _++_ (ap (λ m. take m new) (sym (bindings-many rs)) ∙ made rs w r ∙ left-made (testOf rs) (bindingsOf rs) old kept rounds (g .left rs w r) more (inside rs w r) (counts-kept rs w r) h) (past rs w);
+          kept-are = λ rs w r. left-kept (testOf rs) (bindingsOf rs) old kept rounds (g .left rs w r) more (inside rs w r) (counts-kept rs w r) h;
+          rounds-are = λ rs w r. left-rounds (testOf rs) (bindingsOf rs) old kept rounds (g .left rs w r) more (inside rs w r) (counts-kept rs w r) h;
+        }

@@ -3,8 +3,8 @@
 use Prim.Native.Nat.{ℕ, _+_, _*_, _<_, _≤_}
 use mathlib.Core.Path.{_≡_}
 use mathlib.Core.Bool.{Bool, true, false, _&&_}
-use mathlib.Core.List.{List}
-use lib.ListN.{length, getD, take}
+use mathlib.Core.List.{List, _++_}
+use lib.ListN.{length, getD, take, drop}
 use Rattle.scheme.specs.Typing.{Binding}
 use Rattle.scheme.specs.Rounds
 use Rattle.scheme.specs.Flags.{bit, isKept, chosen, roundFlags, keptFlags}
@@ -47,21 +47,29 @@ pub record Retests (file index counts groups firsts ends : List ℕ) (old lost m
   pub flag-is : (rs : List Record) → Ready file index counts groups firsts ends rs → b < count Kind.binding rs → Numbered counts firsts memo stamp → was ≡ getD old b 0 → Settled rs lost old
       → flag ≡ bit (isKept was && testOf rs (chosen old (bindingsOf rs)) (getD (bindingsOf rs) b noBinding))
 
--- the flags after a round, with those of the nonterminals that lost a binding in it, how many bindings it keeps, and the number of its last test
+-- the flags after a round, with those of the nonterminals that lost a binding in it, how many bindings it keeps, and the number of its last test;
+-- flags past the bindings stay
 pub record Turns (file index counts groups firsts ends : List ℕ) (old gone memo flags lost : List ℕ) (stamp : ℕ) (memo′ flags′ lost′ : List ℕ) (kept stamp′ : ℕ) : Type 0 where
   pub long : length flags′ ≡ length flags
   pub lost-long : length lost′ ≡ length lost
+  pub stays : (rs : List Record) → Ready file index counts groups firsts ends rs → drop (count Kind.binding rs) flags′ ≡ drop (count Kind.binding rs) flags
   pub numbered : Numbered counts firsts memo stamp → Numbered counts firsts memo′ stamp′
-  pub flags-are : (rs : List Record) → Ready file index counts groups firsts ends rs → Numbered counts firsts memo stamp → length old ≡ 1024 → length flags ≡ 1024 → length lost ≡ 257 → Settled rs gone old
+  pub flags-are : (rs : List Record) → Ready file index counts groups firsts ends rs → Numbered counts firsts memo stamp → length old ≡ 1024 → count Kind.binding rs ≤ length flags → length lost ≡ 257 → Settled rs gone old
       → take (count Kind.binding rs) flags′ ≡ roundFlags (testOf rs) (bindingsOf rs) old
-  pub kept-are : (rs : List Record) → Ready file index counts groups firsts ends rs → Numbered counts firsts memo stamp → length old ≡ 1024 → length flags ≡ 1024 → length lost ≡ 257 → Settled rs gone old
+  pub kept-are : (rs : List Record) → Ready file index counts groups firsts ends rs → Numbered counts firsts memo stamp → length old ≡ 1024 → count Kind.binding rs ≤ length flags → length lost ≡ 257 → Settled rs gone old
       → kept ≡ length (Rounds.round (testOf rs) (chosen old (bindingsOf rs)))
-  pub settled : (rs : List Record) → Ready file index counts groups firsts ends rs → Numbered counts firsts memo stamp → length old ≡ 1024 → length flags ≡ 1024 → length lost ≡ 257 → Settled rs gone old
+  pub settled : (rs : List Record) → Ready file index counts groups firsts ends rs → Numbered counts firsts memo stamp → length old ≡ 1024 → count Kind.binding rs ≤ length flags → length lost ≡ 257 → Settled rs gone old
       → Settled rs lost′ flags′
 
--- what the rounds leave: the flags, how many bindings are kept, and how many rounds dropped something
-pub record Shrinks (file index counts groups firsts ends : List ℕ) (flags : List ℕ) (kept rounds : ℕ) : Type 0 where
-  pub long : length flags ≡ 1024
-  pub flags-are : (rs : List Record) → Ready file index counts groups firsts ends rs → take (count Kind.binding rs) flags ≡ keptFlags (testOf rs) (bindingsOf rs)
-  pub kept-are : (rs : List Record) → Ready file index counts groups firsts ends rs → kept ≡ length (Rounds.kept (testOf rs) (bindingsOf rs))
-  pub rounds-are : (rs : List Record) → Ready file index counts groups firsts ends rs → rounds ≡ Rounds.rounds (testOf rs) (bindingsOf rs)
+-- the first n flags are taken over
+pub record Copies (from : List ℕ) (n : ℕ) (to to′ : List ℕ) : Type 0 where
+  pub long : length to′ ≡ length to
+  pub copied : n ≤ 1024 → n ≤ length from → length to ≡ 1024 → take n to′ ≡ take n from
+
+-- what the rounds leave, where there is a flag for each binding: the flags, how many bindings are kept, and how many rounds dropped
+-- something; "bytes past the count are untouched"
+pub record Shrinks (file index counts groups firsts ends : List ℕ) (flags flags′ : List ℕ) (kept rounds : ℕ) : Type 0 where
+  pub long : length flags′ ≡ length flags
+  pub flags-are : (rs : List Record) → Ready file index counts groups firsts ends rs → count Kind.binding rs ≤ length flags → flags′ ≡ keptFlags (testOf rs) (bindingsOf rs) ++ drop (count Kind.binding rs) flags
+  pub kept-are : (rs : List Record) → Ready file index counts groups firsts ends rs → count Kind.binding rs ≤ length flags → kept ≡ length (Rounds.kept (testOf rs) (bindingsOf rs))
+  pub rounds-are : (rs : List Record) → Ready file index counts groups firsts ends rs → count Kind.binding rs ≤ length flags → rounds ≡ Rounds.rounds (testOf rs) (bindingsOf rs)

@@ -8,7 +8,7 @@ use lookup::entry;
 use memo::ready;
 use touched::touched;
 ghost use mathlib.Core.Path.{_≡_};
-ghost use Rattle.rounds.specs.Shrinking.{Retests, Marks, Turns, Shrinks};
+ghost use Rattle.rounds.specs.Shrinking.{Retests, Marks, Turns, Copies, Shrinks};
 
 // The flag of a binding after its test, and the number of the last test.
 struct Tested {
@@ -22,9 +22,8 @@ struct Turn {
     stamp: usize,
 }
 
-// What the rounds leave: a flag for each binding, how many are kept, and how many rounds dropped something.
+// What the rounds leave beside the flags: how many bindings are kept, and how many rounds dropped something.
 pub struct Ended {
-    pub flags: [u8; 1024],
     pub kept: usize,
     pub rounds: usize,
 }
@@ -91,7 +90,8 @@ fn mark(file: &[u8], index: &[u16], lost: &mut [u8], b: usize, was: u8, flag: us
     }
 }
 
-// One round: the new flags of the bindings, each tested against the old ones; the nonterminals that lost one are marked.
+// One round: the new flags of the bindings, each tested against the old ones, are written; the nonterminals that lost one are
+// marked. Nothing is written where there are too few flags.
 fn round(
     file: &[u8],
     index: &[u16; 8034],
@@ -101,7 +101,7 @@ fn round(
     ends: &[u16],
     old: &[u8; 1024],
     gone: &[u8; 257],
-    flags: &mut [u8; 1024],
+    flags: &mut [u8],
     lost: &mut [u8; 257],
     memo: &mut [u8],
     stamp: usize,
@@ -110,6 +110,9 @@ fn round(
 {
     let bindings = place_at(counts, 8);
     if 1024 < bindings {
+        return Turn { kept: 0, stamp };
+    }
+    if flags.len() < bindings {
         return Turn { kept: 0, stamp };
     }
     let mut last = stamp;
@@ -140,7 +143,26 @@ fn round(
     Turn { kept, stamp: last }
 }
 
-// The bindings that are left when the rounds have ended; all start kept. What the memo held before does not matter.
+// Takes over the first n flags.
+fn copy(from: &[u8], n: usize, to: &mut [u8; 1024])
+    ensures { λ _. ⌜ Copies (now (from .entry)) n (now (to .entry)) (now (to .exit)) ⌝ }
+{
+    if 1024 < n {
+        return;
+    }
+    if from.len() < n {
+        return;
+    }
+    let mut i: usize = 0;
+    while i < n {
+        to[i] = from[i];
+        i = i + 1;
+    }
+}
+
+// The bindings that are left when the rounds have ended, by the lent flags: 1 for a kept binding and 0 for a dropped one. All
+// start kept. A round writes the lent flags, and tests against those of the round before; the last one drops nothing, and what
+// it wrote stands. What the flags and the memo held before does not matter.
 pub fn shrink(
     file: &[u8],
     index: &[u16; 8034],
@@ -149,13 +171,14 @@ pub fn shrink(
     firsts: &[u16],
     ends: &[u16],
     memo: &mut [u8],
+    flags: &mut [u8],
 ) -> Ended
-    ensures { λ r. ⌜ Shrinks (now (file .entry)) (now (index .entry)) (now (counts .entry)) (now (groups .entry)) (now (firsts .entry)) (now (ends .entry)) (r .flags) (r .kept) (r .rounds) ⌝ }
+    ensures { λ r. ⌜ Shrinks (now (file .entry)) (now (index .entry)) (now (counts .entry)) (now (groups .entry)) (now (firsts .entry)) (now (ends .entry)) (now (flags .entry)) (now (flags .exit)) (r .kept) (r .rounds) ⌝ }
 {
-    let mut flags = [1u8; 1024];
+    let total = place_at(counts, 8);
+    let mut old = [1u8; 1024];
     let mut gone = [1u8; 257];
-    let mut next = [0u8; 1024];
-    let mut kept = place_at(counts, 8);
+    let mut kept = total;
     let mut rounds: usize = 0;
     let mut stamp: usize = 127;
     loop {
@@ -167,21 +190,17 @@ pub fn shrink(
             groups,
             firsts,
             ends,
-            &flags,
+            &old,
             &gone,
-            &mut next,
+            flags,
             &mut lost,
             memo,
             stamp,
         );
         if kept <= turn.kept {
-            return Ended {
-                flags,
-                kept,
-                rounds,
-            };
+            return Ended { kept, rounds };
         }
-        flags = next;
+        copy(flags, total, &mut old);
         gone = lost;
         kept = turn.kept;
         rounds = rounds + 1;

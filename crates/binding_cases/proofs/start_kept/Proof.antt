@@ -2,7 +2,7 @@
 use Prim.Native.Nat.{_-_, _≤_}
 use native.Mathlib.Omega.{arith}
 use borrow.Author.Needs.{needs}
-use Rattle.binding_cases.proofs.Starting.{NoneTo, none-yet, none-more, start-found, start-none, start-far}
+use Rattle.binding_cases.proofs.Starting.{NoneTo, none-yet, none-more, start-found, start-none, start-few}
 use Rattle.binding_cases.proofs.start_kept.Statement.{statement}
 use Rattle.binding_cases.proofs.start_kept.Tie as tie
 
@@ -19,13 +19,13 @@ place-at-requires-2 : tie.Need-place-at-requires-2 Inv-loop μ-loop
 place-at-requires-2 c κs = search needs
 
 returns : tie.Need-returns Inv-loop μ-loop
-returns c = start-far _ _ _ _ _ (c .before .place-at2 .ensures) (c .if1 .taken)
+returns c = start-few _ _ _ _ _ (c .before .place-at2 .ensures) (c .if1 .taken)
 
 loop-holds : tie.Need-loop-holds Inv-loop μ-loop
 loop-holds c = (omega arith, none-yet _ _ _ _)
 
-element-copy-out-flag : tie.Need-element-copy-out-flag Inv-loop μ-loop
-element-copy-out-flag c = omega arith
+shared-slice-read-flag : tie.Need-shared-slice-read-flag Inv-loop μ-loop
+shared-slice-read-flag c = omega arith
 
 starts-at-requires : tie.Need-starts-at-requires Inv-loop μ-loop
 starts-at-requires c κs = search needs
@@ -55,7 +55,7 @@ start-kept-spec =
     place-at-requires-2
     returns
     loop-holds
-    element-copy-out-flag
+    shared-slice-read-flag
     starts-at-requires
     returns-2
     add-b

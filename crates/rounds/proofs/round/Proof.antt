@@ -19,7 +19,10 @@ place-at-requires : tie.Need-place-at-requires Inv-loop μ-loop
 place-at-requires c κs = search needs
 
 returns : tie.Need-returns Inv-loop μ-loop
-returns c = round-refused _ _ _ _ _ _ _ _ _ _ _ _ _ (c .before .place-at .ensures) (c .if1 .taken)
+returns c = round-refused _ _ _ _ _ _ _ _ _ _ _ _ _ (c .before .place-at .ensures) (λ few room. let h = c .if1 .taken in omega arith)
+
+returns-2 : tie.Need-returns-2 Inv-loop μ-loop
+returns-2 c = round-refused _ _ _ _ _ _ _ _ _ _ _ _ _ (c .before .before .place-at .ensures) (λ few room. let h = c .if2 .taken in omega arith)
 
 loop-holds : tie.Need-loop-holds Inv-loop μ-loop
 loop-holds c = (omega arith, omega arith, round-none _ _ _ _ _ _ _ _ _ _ _ _)
@@ -33,8 +36,8 @@ retest-requires c κs = search needs
 cast-flags : tie.Need-cast-flags Inv-loop μ-loop
 cast-flags c = omega (arith, c .before .before .before .retest .ensures .small)
 
-element-write-flags : tie.Need-element-write-flags Inv-loop μ-loop
-element-write-flags c = omega arith
+slice-write-flags : tie.Need-slice-write-flags Inv-loop μ-loop
+slice-write-flags c = omega (arith, c .before .before .before .before .before .before .before .loop .inv .2 .long)
 
 mark-requires : tie.Need-mark-requires Inv-loop μ-loop
 mark-requires c κs = search needs
@@ -49,13 +52,16 @@ loop-less : tie.Need-loop-less Inv-loop μ-loop
 loop-less c = omega arith
 
 loop-again : tie.Need-loop-again Inv-loop μ-loop
-loop-again c = (omega arith, omega arith, round-more _ _ _ _ _ _ _ _ _ _ _ _ _ (c .before .before .before .before .before .before .before .before .before .before .before .before .before .place-at .ensures) _ _ _ _ _ _ (c .before .before .before .before .before .before .before .before .before .before .before .loop .inv .2) (c .before .before .before .before .before .before .before .before .before .before .loop-test .taken) _ _ _ (c .before .before .before .before .before .before .before .retest .ensures) _ (c .before .mark .ensures))
+loop-again c = (omega arith, omega arith, round-more _ _ _ _ _ _ _ _ _ _ _ _ _ (c .before .before .before .before .before .before .before .before .before .before .before .before .before .before .place-at .ensures) _ _ _ _ _ _ (c .before .before .before .before .before .before .before .before .before .before .before .loop .inv .2) (c .before .before .before .before .before .before .before .before .before .before .loop-test .taken) _ _ _ (c .before .before .before .before .before .before .before .retest .ensures) _ (c .before .mark .ensures))
 
 same-length : tie.Need-same-length Inv-loop μ-loop
-same-length c = c .before .loop .inv .1
+same-length c = c .before .loop .inv .2 .long
 
-returns-2 : tie.Need-returns-2 Inv-loop μ-loop
-returns-2 c = round-all _ _ _ _ _ _ _ _ _ _ _ _ _ (c .before .before .before .place-at .ensures) _ _ _ _ _ _ (c .before .loop .inv .2) (c .before .loop .inv .0) (c .loop-test .left)
+same-length-2 : tie.Need-same-length-2 Inv-loop μ-loop
+same-length-2 c = c .before .loop .inv .1
+
+returns-3 : tie.Need-returns-3 Inv-loop μ-loop
+returns-3 c = round-all _ _ _ _ _ _ _ _ _ _ _ _ _ (c .before .before .before .before .place-at .ensures) _ _ _ _ _ _ (c .before .loop .inv .2) (c .before .loop .inv .0) (c .loop-test .left)
 
 pub round-spec : {M : Type 1} → statement M
 round-spec =
@@ -65,15 +71,17 @@ round-spec =
     μ-loop
     place-at-requires
     returns
+    returns-2
     loop-holds
     element-copy-out-was
     retest-requires
     cast-flags
-    element-write-flags
+    slice-write-flags
     mark-requires
     add-kept
     add-b
     loop-less
     loop-again
     same-length
-    returns-2)
+    same-length-2
+    returns-3)

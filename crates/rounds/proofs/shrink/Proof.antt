@@ -10,16 +10,16 @@ use Rattle.rounds.proofs.shrink.Statement.{statement}
 use Rattle.rounds.proofs.shrink.Tie as tie
 
 abbrev Inv-loop : tie.InvT-loop
-Inv-loop file index counts groups firsts ends memo₀ flags₀ gone₀ next₀ kept₀ rounds₀ stamp₀ memo flags gone next kept rounds stamp = (length memo ≡ length memo₀) × (rounds + kept ≤ kept₀) × (length next ≡ 1024) × Going file index counts groups firsts ends memo flags gone stamp kept rounds
+Inv-loop file index counts groups firsts ends memo₀ flags₀ total old₀ gone₀ kept₀ rounds₀ stamp₀ memo flags old gone kept rounds stamp = (length memo ≡ length memo₀) × (rounds + kept ≤ kept₀) × Going file index counts groups firsts ends flags₀ memo flags old gone stamp kept rounds
 
 abbrev μ-loop : tie.MeasureT-loop
-μ-loop file index counts groups firsts ends memo₀ flags₀ gone₀ next₀ kept₀ rounds₀ stamp₀ memo flags gone next kept rounds stamp = kept
+μ-loop file index counts groups firsts ends memo₀ flags₀ total old₀ gone₀ kept₀ rounds₀ stamp₀ memo flags old gone kept rounds stamp = kept
 
 place-at-requires : tie.Need-place-at-requires Inv-loop μ-loop
 place-at-requires c κs = search needs
 
 loop-holds : tie.Need-loop-holds Inv-loop μ-loop
-loop-holds c = (omega arith, omega arith, refl, going-none _ _ _ _ _ _ _ _ _ _ (c .place-at .ensures) refl refl)
+loop-holds c = (omega arith, omega arith, going-none _ _ _ _ _ _ _ _ _ _ _ (c .place-at .ensures) refl refl)
 
 round-requires : tie.Need-round-requires Inv-loop μ-loop
 round-requires c κs = search needs
@@ -27,8 +27,14 @@ round-requires c κs = search needs
 same-length : tie.Need-same-length Inv-loop μ-loop
 same-length c = omega arith
 
+same-length-2 : tie.Need-same-length-2 Inv-loop μ-loop
+same-length-2 c = c .before .before .before .before .before .before .round .ensures .long ∙ c .before .before .before .before .before .before .before .before .before .before .before .before .loop .inv .2 .same
+
 returns : tie.Need-returns Inv-loop μ-loop
-returns c = going-all _ _ _ _ _ _ _ _ _ _ _ _ (c .before .before .before .before .before .before .before .before .before .before .loop .inv .3) _ _ (c .before .before .before .before .before .before .before .before .before .before .loop .inv .2) refl _ _ _ _ _ (c .before .before .before .before .round .ensures) (c .if1 .taken)
+returns c = going-all _ _ _ _ _ _ _ _ _ _ _ _ _ _ (c .before .before .before .before .before .before .before .before .before .before .before .before .loop .inv .2) _ refl _ _ _ _ _ (c .before .before .before .before .before .before .round .ensures) (c .if1 .taken)
+
+copy-requires : tie.Need-copy-requires Inv-loop μ-loop
+copy-requires c κs = search needs
 
 add-rounds : tie.Need-add-rounds Inv-loop μ-loop
 add-rounds c = omega arith
@@ -37,7 +43,7 @@ loop-less : tie.Need-loop-less Inv-loop μ-loop
 loop-less c = omega arith
 
 loop-again : tie.Need-loop-again Inv-loop μ-loop
-loop-again c = (omega arith, omega arith, c .before .before .before .before .round .ensures .long ∙ c .before .before .before .before .before .before .before .before .before .before .loop .inv .2, going-more _ _ _ _ _ _ _ _ _ _ _ _ (c .before .before .before .before .before .before .before .before .before .before .loop .inv .3) _ _ (c .before .before .before .before .before .before .before .before .before .before .loop .inv .2) refl _ _ _ _ _ (c .before .before .before .before .round .ensures) (c .if1 .left))
+loop-again c = (omega arith, omega arith, going-more _ _ _ _ _ _ _ _ _ _ _ _ _ _ (c .before .before .before .before .before .before .before .before .before .before .before .before .before .before .before .loop .inv .2) _ refl _ _ _ _ _ (c .before .before .before .before .before .before .before .before .before .round .ensures) (c .before .before .before .if1 .left) _ (c .before .before .before .before .before .before .before .before .before .before .before .before .before .before .before .before .place-at .ensures) _ (c .copy .ensures))
 
 pub shrink-spec : {M : Type 1} → statement M
 shrink-spec =
@@ -49,7 +55,9 @@ shrink-spec =
     loop-holds
     round-requires
     same-length
+    same-length-2
     returns
+    copy-requires
     add-rounds
     loop-less
     loop-again)
