@@ -29,7 +29,7 @@ pub struct Ended {
 }
 
 // Tests binding b against the flags as the round began, where its own flag says kept and its body names a nonterminal that
-// lost a binding in the round before.
+// lost a binding in the round before; entry 256 stands for every body, as in the first round.
 fn retest(
     file: &[u8],
     index: &[u16; 8034],
@@ -49,9 +49,11 @@ fn retest(
     if was == 0 {
         return Tested { flag: 0, stamp };
     }
-    let f = symbol_of(file, index, b);
-    if !touched(lost, entry(file, index, 352 + f)) {
-        return Tested { flag: 1, stamp };
+    if lost[256] == 0 {
+        let f = symbol_of(file, index, b);
+        if !touched(lost, entry(file, index, 352 + f)) {
+            return Tested { flag: 1, stamp };
+        }
     }
     let nodes = place_at(firsts, 256);
     let fresh = ready(memo, nodes * (place_at(counts, 7) + 16), stamp);

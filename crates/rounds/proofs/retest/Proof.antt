@@ -9,6 +9,9 @@ use Rattle.rounds.proofs.retest.Tie as tie
 returns : tie.Need-returns
 returns c = retest-dropped _ _ _ _ _ _ _ _ _ _ _ _ (c .if1 .taken)
 
+element-copy-out-if2 : tie.Need-element-copy-out-if2
+element-copy-out-if2 c = search needs
+
 symbol-of-requires : tie.Need-symbol-of-requires
 symbol-of-requires c κs = search needs
 
@@ -22,7 +25,7 @@ touched-requires : tie.Need-touched-requires
 touched-requires c κs = search needs
 
 returns-2 : tie.Need-returns-2
-returns-2 c = retest-settled _ _ _ _ _ _ _ _ _ _ _ _ (c .before .before .before .before .before .before .if1 .left) _ (c .before .before .before .before .symbol-of .ensures) _ (c .before .before .entry .ensures) _ (c .before .touched .ensures) (not-true _ (c .if2 .taken))
+returns-2 c = retest-settled _ _ _ _ _ _ _ _ _ _ _ _ (c .before .before .before .before .before .before .before .before .if1 .left) _ (c .before .before .before .before .symbol-of .ensures) _ (c .before .before .entry .ensures) _ (c .before .touched .ensures) (not-true _ (c .if3 .taken))
 
 place-at-requires : tie.Need-place-at-requires
 place-at-requires c κs = search needs
@@ -49,13 +52,14 @@ same-length : tie.Need-same-length
 same-length c = search needs
 
 returns-3 : tie.Need-returns-3
-returns-3 c = retest-tested _ _ _ _ _ _ _ _ _ _ _ _ (c .before .before .before .before .before .before .before .before .before .before .before .before .before .before .before .before .if1 .left) _ _ (c .before .before .before .before .before .before .before .before .before .place-at .ensures) (c .before .before .before .before .before .before .before .place-at2 .ensures) _ _ (c .before .before .before .before .before .before .ready .ensures) _ _ (c .before .before .holds .ensures) _ (flag-of _)
+returns-3 c = retest-tested _ _ _ _ _ _ _ _ _ _ _ _ (c .before .before .before .before .before .before .before .before .before .before .before .before .if1 .left) _ _ (c .before .before .before .before .before .before .before .before .before .place-at .ensures) (c .before .before .before .before .before .before .before .place-at2 .ensures) _ _ (c .before .before .before .before .before .before .ready .ensures) _ _ (c .before .before .holds .ensures) _ (flag-of _)
 
 pub retest-spec : {M : Type 1} → statement M
 retest-spec =
     tie.close
     (tie.spec
     returns
+    element-copy-out-if2
     symbol-of-requires
     add-entry
     entry-requires
