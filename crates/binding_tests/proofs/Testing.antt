@@ -1,13 +1,14 @@
 -- The test of a binding is the check of its nonterminal's body, at the final state of its type.
 use Prim.Native.Nat.{ℕ, zero, suc, _+_, _-_, _*_, _/_, _<_, _≤_}
 use native.Mathlib.Omega.{arith}
-use mathlib.Core.Path.{_≡_, sym, ap, ap₂, subst, _∙_}
-use mathlib.Core.Bool.{Bool, false}
+use native.Mathlib.Decide.{decLe}
+use mathlib.Core.Path.{_≡_, refl, sym, ap, ap₂, subst, _∙_}
+use mathlib.Core.Bool.{Bool, true, false}
 use mathlib.Core.List.{List, [], _∷_, map, append-nil}
 use lib.Dec.{leb}
-use lib.ListN.{length, getD, take, drop, length-map, length-drop, drop-of-length-le}
-use lib.Seq.{getD-drop, take-all}
-use Rattle.scheme.specs.Lists.{any}
+use lib.ListN.{length, getD, take, drop, length-map}
+use lib.Seq.{getD-drop}
+use Rattle.scheme.specs.Lists.{any, if_then_else_}
 use Rattle.scheme.specs.Sorts.{o, arguments}
 use Rattle.scheme.specs.Terms.{con, nt, par, node, []ᵗ, nodes}
 use Rattle.scheme.specs.Prefix.{terms, flat}
@@ -26,9 +27,10 @@ use Rattle.casefile.proofs.Passed.{Passed, entry}
 use Rattle.casefile.proofs.Payloads.{arity-small}
 use Rattle.casefile.proofs.TypeTable.{count-payloads}
 use Rattle.casefile.proofs.Cells.{cellAt, cells-length, cells-at, cell-range}
+use Rattle.reading.specs.Reading.{partOf}
 use Rattle.entries.specs.Index.{Indexed}
 use Rattle.lookup.specs.Lookup.{entryOf}
-use Rattle.lookup.proofs.Found.{entry-there}
+use Rattle.lookup.proofs.Found.{entry-none, entry-some, entry-there}
 use Rattle.rule_bodies.specs.RuleBodies.{ruleOf}
 use Rattle.goals.specs.Goals.{Goal, Typed, typeOfBinding, IsOwn}
 use Rattle.goals.proofs.Goals.{fewer, binding-there}
@@ -73,12 +75,22 @@ named-known {rs} ok f h =
     let b = head-nonterminal d g x (length sigs) z q r in
     omega arith)
 
-pub none-from : (l : List ℕ) (i : ℕ) → length l < i → [] ≡ drop i l
-none-from l i h = sym (drop-of-length-le l {i = i} (omega arith))
+-- no bytes are a part of any file
+part-empty : (file : List ℕ) (start : ℕ) → partOf file start 0 ≡ []
+unfolding partOf
+part-empty file start = go (leb (start + 0) (length file))
+  where
+    go : (b : Bool) → (if b then take 0 (drop start file) else []) ≡ []
+    go true = refl
+    go false = refl
 
--- all elements from one on
-pub all-from : (l : List ℕ) (i : ℕ) → take (length l - i) (drop i l) ≡ drop i l
-all-from l i = take-all (length l - i) (drop i l) (let h = length-drop i l in omega arith)
+-- the body of a rule by its place and its length
+pub entry-part : (file index : List ℕ) (i start len : ℕ) → start ≡ getD index i 0 → (4 ≤ start → len ≡ word file (start - 4)) × (start < 4 → len ≡ 0) → partOf file start len ≡ entryOf file index i
+entry-part file index i start len e (there, none-there) = go (decLe 4 start)
+  where
+    go : Dec (4 ≤ start) → partOf file start len ≡ entryOf file index i
+    go (yes h) = ap (partOf file start) (there h) ∙ sym (entry-some file index i start e h)
+    go (no h) = ap (partOf file start) (none-there (omega arith)) ∙ part-empty file start ∙ sym (entry-none file index i start e (omega arith))
 
 -- the nonterminal of a binding
 pub symbol-far : {file index : List ℕ} {b : ℕ} → 1023 < b → IsSymbol file index b 0

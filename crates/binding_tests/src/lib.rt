@@ -2,21 +2,21 @@
 use entries::place_at;
 use finals::final_of;
 use goal_tables::own_of;
-use lookup::entry;
 use records::word_at;
 use term_check::check_term;
 ghost use mathlib.Core.Path.{_≡_};
-ghost use lib.ListN.{drop};
+ghost use Prim.Native.Nat.{_-_, _<_, _≤_};
+ghost use Rattle.records.specs.Fields.{word};
 ghost use Rattle.binding_tests.specs.BindingTests.{IsSymbol, TestsBinding};
 
-// The table of ends from a node on.
-fn from_node(ends: &[u16], first: usize) -> &[u16]
-    ensures { λ r. ⌜ now r ≡ drop first (now (ends .entry)) ⌝ }
+// The length of the payload at a place, by its header; 0 where there is no header before it.
+fn length_at(file: &[u8], start: usize) -> usize
+    ensures { λ r. ⌜ ((4 ≤ start → r ≡ word (now (file .entry)) (start - 4)) × (start < 4 → r ≡ 0)) ⌝ }
 {
-    if ends.len() < first {
-        return &ends[..0];
+    if start < 4 {
+        return 0;
     }
-    &ends[first..]
+    word_at(file, start - 4)
 }
 
 // The nonterminal of binding b.
@@ -36,7 +36,7 @@ pub fn holds(
     counts: &[u16],
     groups: &[u16; 257],
     firsts: &[u16],
-    ends: &[u16],
+    ends: &[u16; 15000],
     kept: &[u8; 1024],
     memo: &mut [u8],
     stamp: usize,
@@ -52,8 +52,9 @@ pub fn holds(
     let f = symbol_of(file, index, b);
     let own = own_of(index, b);
     let goal = final_of(index, types, own);
-    let body = entry(file, index, 352 + f);
-    let here = from_node(ends, place_at(firsts, f));
-    let test = [types, constructors, own, stamp];
-    check_term(file, index, groups, kept, here, body, &test, memo, 0, goal)
+    let start = place_at(index, 352 + f);
+    let len = length_at(file, start);
+    let first = place_at(firsts, f);
+    let test = [types, constructors, own, stamp, start, len, first];
+    check_term(file, index, groups, kept, ends, &test, memo, 0, goal)
 }

@@ -35,6 +35,7 @@ use Rattle.memo.proofs.Remembering.{faithful-yes, faithful-no, faithful-learnt,
 use Rattle.wants.specs.Wants.{HeadType, of-row}
 use Rattle.candidates.specs.Candidates.{headIs}
 use Rattle.term_check.specs.Nodes.{Placed}
+use Rattle.term_check.specs.declared.Front.{Front}
 use Rattle.term_check.specs.Checking.{At, AllAt, Body, ns, width, Setting, hasIn, Right, Remembers, ChecksTerm, ChecksArgs}
 use Rattle.term_check.proofs.Places.{at-inside, at-head}
 use Rattle.term_check.proofs.Arguments.{keeps-all}
@@ -196,16 +197,11 @@ module _ (p : List ℕ) (i tag number : ℕ) (is-tag : tag ≡ field 1 p (i * 4)
       go (suc (suc zero)) e n l = ap (λ t. getD (con (field 2 p (i * 4 + 1)) ∷ nt (field 2 p (i * 4 + 1)) ∷ []) t (par (field 2 p (i * 4 + 1)))) (sym e) ∙ ap par (sym is-number)
       go (suc (suc (suc t))) e n l = absurd (omega arith)
 
--- a node by its tag
-pub placed-by : {body : List ℕ} {i tag number count : ℕ} → Placed body i tag number count → {other : ℕ} → tag ≡ other → Placed body i other number count
-placed-by {body} {i} {tag} {number} {count} p e = subst (λ t. Placed body i t number count) e p
-
 -- the head of a node that has no constructor, and the group of its bindings
 module _ (x : Body) (i : ℕ) where
-  pub placed-head : (tag number count : ℕ) (nonterminal : Bool) → (tag ≡ 0 → ⊥) → nonterminal ≡ eqb tag 1 → Placed (x .body) i tag number count → (rs : List Record) (τ : Ty) → Setting x rs τ → headOf (cellAt (x .body) i) ≡ headIs nonterminal number
+  pub placed-head : (a : Front) → (a .tag ≡ 0 → ⊥) → Placed (x .body) i a → (rs : List Record) (τ : Ty) → Setting x rs τ → headOf (cellAt (x .body) i) ≡ headIs (eqb (a .tag) 1) (a .number)
   unfolding field
-  placed-head tag number count nonterminal other is p rs τ s =
-      tag-other (x .body) i tag number (p .tag-is) (p .number-is) other (let t = s .tags i (p .inside) in let e = p .tag-is in omega arith) ∙ ap (λ b. headIs b number) (sym is)
+  placed-head a other p rs τ s = tag-other (x .body) i (a .tag) (a .number) (p .tag-is) (p .number-is) other (let t = s .tags i (p .inside) in let e = p .tag-is in omega arith)
 
   pub group-there : (nonterminal : Bool) (number : ℕ) → i < length (x .body) / 4 → (rs : List Record) (τ : Ty) → Setting x rs τ → headOf (cellAt (x .body) i) ≡ headIs nonterminal number → nonterminal ≡ true → suc number < length (x .groups)
   unfolding headIs

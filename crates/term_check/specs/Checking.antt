@@ -5,7 +5,6 @@ use mathlib.Core.Path.{_≡_}
 use mathlib.Core.Bool.{Bool}
 use mathlib.Core.List.{List, _++_}
 use mathlib.Core.Option.{some}
-use lib.Dec.{eqb}
 use lib.ListN.{length, getD, drop}
 use Rattle.scheme.specs.Terms.{nt, Term, Terms, countᵗ, nodes}
 use Rattle.scheme.specs.Prefix.{Node, flat, flats, terms}
@@ -27,6 +26,7 @@ use Rattle.serving.specs.Leading.{argsHave}
 use Rattle.memo.specs.Memo.{Under, Faithful}
 use Rattle.wants.specs.Wants.{HeadType}
 use Rattle.term_check.specs.Nodes.{Test, Placed}
+use Rattle.term_check.specs.declared.Front.{Front}
 
 -- term t stands at node i
 abbrev pub At : List Node → ℕ → Term → Type 0
@@ -91,13 +91,13 @@ pub record ChecksTerm (x : Body) (memo : List ℕ) (i goal : ℕ) (after : List 
   pub keeps : Keeps x memo after
   pub answer : (rs : List Record) (τ : Ty) → Setting x rs τ → Remembers x rs τ memo → Right x rs τ i goal r
 
--- the same for a node with a constructor in front, by its number and its arguments' count
-abbrev pub ChecksHead : Body → List ℕ → ℕ → ℕ → ℕ → ℕ → List ℕ → Bool → Type 0
-ChecksHead x memo i number count goal after r = Placed (x .body) i 0 number count → ChecksTerm x memo i goal after r
+-- the same for a node with a constructor in front
+abbrev pub ChecksHead : Body → List ℕ → ℕ → Front → ℕ → List ℕ → Bool → Type 0
+ChecksHead x memo i a goal after r = a .tag ≡ 0 → Placed (x .body) i a → ChecksTerm x memo i goal after r
 
 -- the same for a node with a nonterminal or a parameter in front
-abbrev pub ChecksChoices : Body → List ℕ → ℕ → Bool → ℕ → ℕ → ℕ → List ℕ → Bool → Type 0
-ChecksChoices x memo i nonterminal number count goal after r = (tag : ℕ) → (tag ≡ 0 → ⊥) → nonterminal ≡ eqb tag 1 → Placed (x .body) i tag number count → ChecksTerm x memo i goal after r
+abbrev pub ChecksChoices : Body → List ℕ → ℕ → Front → ℕ → List ℕ → Bool → Type 0
+ChecksChoices x memo i a goal after r = (a .tag ≡ 0 → ⊥) → Placed (x .body) i a → ChecksTerm x memo i goal after r
 
 -- r is the answer for the arguments from a node on, where the head's type, by a row or listed, has an arrow for each
 pub record ChecksArgs (x : Body) (memo : List ℕ) (first count : ℕ) (byRow : Bool) (head : ℕ) (row : List ℕ) (after : List ℕ) (r : Bool) : Type 0 where

@@ -15,87 +15,105 @@ use wants::target_of;
 use wants::wanted;
 ghost use mathlib.Core.Bool.{false};
 ghost use mathlib.Core.List.{[]};
-ghost use Rattle.term_check.specs.Nodes.{IsNode, testBy};
+ghost use mathlib.Core.Path.{_≡_};
+ghost use lib.ListN.{drop, getD};
+ghost use Rattle.reading.specs.Reading.{partOf};
+ghost use Rattle.term_check.specs.Nodes.{IsNode, testBy, bodyBy, endsBy};
 ghost use Rattle.term_check.specs.Checking.{ChecksTerm, ChecksHead, ChecksChoices, ChecksArgs};
 
-// A node of a body: the tag and the number of its head, and how many arguments it has.
-struct Node {
+// What stands in front of a term, if there is one: the tag and the number of its head, how many arguments it has, and the
+// node of the first of them.
+struct Front {
+    there: bool,
     tag: usize,
     number: usize,
     count: usize,
+    first: usize,
 }
 
-// The node of a body by its number.
-fn node_at(body: &[u8], at: usize) -> Node
-    ensures { λ r. ⌜ IsNode (now (body .entry)) at r ⌝ }
+// No term.
+fn nothing() -> Front
+    ensures { λ r. ⌜ r .there ≡ false ⌝ }
 {
-    if body.len() / 4 <= at {
-        return Node {
-            tag: 0,
-            number: 0,
-            count: 0,
-        };
+    Front {
+        there: false,
+        tag: 0,
+        number: 0,
+        count: 0,
+        first: 0,
     }
-    let place = at * 4;
-    let tag = body[place] as usize;
-    let low = body[place + 1] as usize;
-    let high = body[place + 2] as usize;
-    let count = body[place + 3] as usize;
-    Node {
+}
+
+// The node with a number, of the body of so many bytes at a place of the file.
+fn node_at(file: &[u8], start: usize, len: usize, at: usize) -> Front
+    ensures { λ r. ⌜ IsNode (partOf (now (file .entry)) start len) at r ⌝ }
+{
+    if file.len() < start {
+        return nothing();
+    }
+    if file.len() - start < len {
+        return nothing();
+    }
+    if len / 4 <= at {
+        return nothing();
+    }
+    let place = start + at * 4;
+    let tag = file[place] as usize;
+    let low = file[place + 1] as usize;
+    let high = file[place + 2] as usize;
+    let count = file[place + 3] as usize;
+    Front {
+        there: true,
         tag,
         number: low + 256 * high,
         count,
+        first: at + 1,
     }
+}
+
+// The node behind the subterm at a node, by the ends of all subterms and the number of the body's first node.
+fn end_of(ends: &[u16], first: usize, at: usize) -> usize
+    ensures { λ r. ⌜ r ≡ getD (drop first (now (ends .entry))) at 0 ⌝ }
+{
+    if ends.len() < first {
+        return 0;
+    }
+    place_at(&ends[first..], at)
 }
 
 // Whether the term at a node has a type, a goal by its number. What is found of a term with arguments is remembered; what
 // is remembered already the callers know. The numbers of the test are how many types and constructors there are, the goal
-// that the binding's type is, and which test this is for the memo.
+// that the binding's type is, which test this is for the memo, the place and the bytes of the body, and the number of its
+// first node.
 pub fn check_term(
     file: &[u8],
     index: &[u16; 8034],
     groups: &[u16; 257],
     kept: &[u8; 1024],
-    ends: &[u16],
-    body: &[u8],
-    test: &[usize; 4],
+    ends: &[u16; 15000],
+    test: &[usize; 7],
     memo: &mut [u8],
     at: usize,
     goal: usize,
 ) -> bool
-    ensures { λ r. ⌜ ChecksTerm (record { file = now (file .entry); index = now (index .entry); groups = now (groups .entry); kept = now (kept .entry); ends = now (ends .entry); body = now (body .entry); test = testBy (now (test .entry)) }) (now (memo .entry)) at goal (now (memo .exit)) r ⌝ }
+    ensures { λ r. ⌜ ChecksTerm (record { file = now (file .entry); index = now (index .entry); groups = now (groups .entry); kept = now (kept .entry); ends = endsBy (now (ends .entry)) (now (test .entry)); body = bodyBy (now (file .entry)) (now (test .entry)); test = testBy (now (test .entry)) }) (now (memo .entry)) at goal (now (memo .exit)) r ⌝ }
 {
     let types = test[0];
     if 1024 < types {
         return false;
     }
-    if body.len() / 4 <= at {
+    let front = node_at(file, test[4], test[5], at);
+    if !front.there {
         return false;
     }
-    let node = node_at(body, at);
-    let number = node.number;
-    let count = node.count;
-    if node.tag == 0 {
-        let yes = check_head(
-            file,
-            index,
-            groups,
-            kept,
-            ends,
-            body,
-            test,
-            memo,
-            at,
-            number,
-            count,
-            goal,
-        );
+    if front.tag == 0 {
+        let yes = check_head(file, index, groups, kept, ends, test, memo, at, front, goal);
         learn(memo, types + 16, test[3], at, goal, yes);
         return yes;
     }
-    let nonterminal = node.tag == 1;
-    if count == 0 {
+    if front.count == 0 {
         let own = test[2];
+        let nonterminal = front.tag == 1;
         return bare_has(
             file,
             index,
@@ -104,56 +122,45 @@ pub fn check_term(
             kept,
             own,
             nonterminal,
-            number,
+            front.number,
             goal,
         );
     }
-    let yes = check_choices(
-        file,
-        index,
-        groups,
-        kept,
-        ends,
-        body,
-        test,
-        memo,
-        at,
-        nonterminal,
-        number,
-        count,
-        goal,
-    );
+    let yes = check_choices(file, index, groups, kept, ends, test, memo, at, front, goal);
     learn(memo, types + 16, test[3], at, goal, yes);
     yes
 }
 
-// Whether the type of constructor c in front of a node, with so many arguments, leads to the goal: it does if the targets
-// of its transition, at the state in which the goal ends, give the goal, and each argument has its target.
+// Whether the type of the constructor in front of a term leads to the goal: it does if the targets of its transition, at the
+// state in which the goal ends, give the goal, and each argument has its target.
 fn check_head(
     file: &[u8],
     index: &[u16; 8034],
     groups: &[u16; 257],
     kept: &[u8; 1024],
-    ends: &[u16],
-    body: &[u8],
-    test: &[usize; 4],
+    ends: &[u16; 15000],
+    test: &[usize; 7],
     memo: &mut [u8],
     at: usize,
-    c: usize,
-    count: usize,
+    front: Front,
     goal: usize,
 ) -> bool
-    ensures { λ r. ⌜ ChecksHead (record { file = now (file .entry); index = now (index .entry); groups = now (groups .entry); kept = now (kept .entry); ends = now (ends .entry); body = now (body .entry); test = testBy (now (test .entry)) }) (now (memo .entry)) at c count goal (now (memo .exit)) r ⌝ }
+    ensures { λ r. ⌜ ChecksHead (record { file = now (file .entry); index = now (index .entry); groups = now (groups .entry); kept = now (kept .entry); ends = endsBy (now (ends .entry)) (now (test .entry)); body = bodyBy (now (file .entry)) (now (test .entry)); test = testBy (now (test .entry)) }) (now (memo .entry)) at front goal (now (memo .exit)) r ⌝ }
 {
-    if body.len() / 4 <= at {
-        return false;
-    }
     let types = test[0];
     if 1024 < types {
         return false;
     }
     let constructors = test[1];
-    let mut next = at + 1;
+    let c = front.number;
+    let count = front.count;
+    if 255 < count {
+        return false;
+    }
+    let mut next = front.first;
+    if next <= at {
+        return false;
+    }
     let q = state_at(file, index, types, constructors, c, count, goal);
     if 16 <= q {
         return false;
@@ -171,7 +178,7 @@ fn check_head(
         if target == 65535 {
             return false;
         }
-        let end = place_at(ends, next);
+        let end = end_of(ends, test[6], next);
         if end <= next {
             return false;
         }
@@ -181,18 +188,7 @@ fn check_head(
             return false;
         }
         if old != 2 {
-            if !check_term(
-                file,
-                index,
-                groups,
-                kept,
-                ends,
-                body,
-                test,
-                memo,
-                next,
-                target,
-            ) {
+            if !check_term(file, index, groups, kept, ends, test, memo, next, target) {
                 return false;
             }
         }
@@ -201,29 +197,29 @@ fn check_head(
     true
 }
 
-// The same with a nonterminal or a parameter in front, by its number: one of its types leads to the goal, and the arguments
-// have what it asks for.
+// The same with a nonterminal or a parameter in front: one of its types leads to the goal, and the arguments have what it
+// asks for.
 fn check_choices(
     file: &[u8],
     index: &[u16; 8034],
     groups: &[u16; 257],
     kept: &[u8; 1024],
-    ends: &[u16],
-    body: &[u8],
-    test: &[usize; 4],
+    ends: &[u16; 15000],
+    test: &[usize; 7],
     memo: &mut [u8],
     at: usize,
-    nonterminal: bool,
-    number: usize,
-    count: usize,
+    front: Front,
     goal: usize,
 ) -> bool
-    ensures { λ r. ⌜ ChecksChoices (record { file = now (file .entry); index = now (index .entry); groups = now (groups .entry); kept = now (kept .entry); ends = now (ends .entry); body = now (body .entry); test = testBy (now (test .entry)) }) (now (memo .entry)) at nonterminal number count goal (now (memo .exit)) r ⌝ }
+    ensures { λ r. ⌜ ChecksChoices (record { file = now (file .entry); index = now (index .entry); groups = now (groups .entry); kept = now (kept .entry); ends = endsBy (now (ends .entry)) (now (test .entry)); body = bodyBy (now (file .entry)) (now (test .entry)); test = testBy (now (test .entry)) }) (now (memo .entry)) at front goal (now (memo .exit)) r ⌝ }
 {
-    if body.len() / 4 <= at {
+    let first = front.first;
+    if first <= at {
         return false;
     }
-    let first = at + 1;
+    let nonterminal = front.tag == 1;
+    let number = front.number;
+    let count = front.count;
     let types = test[0];
     let span = span_of(file, index, types, groups, test[2], nonterminal, number);
     let given = span.given;
@@ -238,7 +234,6 @@ fn check_choices(
                 groups,
                 kept,
                 ends,
-                body,
                 test,
                 memo,
                 first,
@@ -258,15 +253,14 @@ fn check_args(
     index: &[u16; 8034],
     groups: &[u16; 257],
     kept: &[u8; 1024],
-    ends: &[u16],
-    body: &[u8],
-    test: &[usize; 4],
+    ends: &[u16; 15000],
+    test: &[usize; 7],
     memo: &mut [u8],
     first: usize,
     count: usize,
     head: usize,
 ) -> bool
-    ensures { λ r. ⌜ ChecksArgs (record { file = now (file .entry); index = now (index .entry); groups = now (groups .entry); kept = now (kept .entry); ends = now (ends .entry); body = now (body .entry); test = testBy (now (test .entry)) }) (now (memo .entry)) first count false head [] (now (memo .exit)) r ⌝ }
+    ensures { λ r. ⌜ ChecksArgs (record { file = now (file .entry); index = now (index .entry); groups = now (groups .entry); kept = now (kept .entry); ends = endsBy (now (ends .entry)) (now (test .entry)); body = bodyBy (now (file .entry)) (now (test .entry)); test = testBy (now (test .entry)) }) (now (memo .entry)) first count false head [] (now (memo .exit)) r ⌝ }
 {
     let types = test[0];
     if 1024 < types {
@@ -280,7 +274,7 @@ fn check_args(
     while i < count {
         let member = wanted(file, index, types, asked, many, j);
         if member == 65535 {
-            let next = place_at(ends, at);
+            let next = end_of(ends, test[6], at);
             if next <= at {
                 return false;
             }
@@ -298,18 +292,7 @@ fn check_args(
             if old == 2 {
                 j = known_until(file, index, memo, types, test[3], at, asked, many, j);
             } else {
-                if !check_term(
-                    file,
-                    index,
-                    groups,
-                    kept,
-                    ends,
-                    body,
-                    test,
-                    memo,
-                    at,
-                    member,
-                ) {
+                if !check_term(file, index, groups, kept, ends, test, memo, at, member) {
                     return false;
                 }
             }

@@ -6,11 +6,10 @@ use mathlib.Core.List.{[]}
 use native.Mathlib.Omega.{arith}
 use borrow.Author.Needs.{needs}
 use borrow.Author.Tests.{not-true, not-false}
-use lib.ListN.{length}
 use Rattle.goals.specs.Goals.{CountsMembers}
-use Rattle.term_check.specs.Nodes.{testBy}
+use Rattle.term_check.specs.Nodes.{testBy, bodyBy, endsBy}
 use Rattle.term_check.proofs.Arguments.{Args, member-few, args-start, args-many, args-end, args-stuck, args-next, args-lacks, args-has}
-use Rattle.term_check.proofs.Heads.{types-many, term-past, known-yes, known-no, term-learnt, placed-head, placed-by}
+use Rattle.term_check.proofs.Heads.{types-many, term-past, known-yes, known-no, term-learnt, placed-head}
 use Rattle.term_check.proofs.Runs.{args-run}
 use Rattle.term_check.proofs.Targets.{targets-no-state, targets-no-constructor, targets-not-served, targets-told, target-past, target-stuck, target-lacks, target-has}
 use Rattle.term_check.proofs.Choices.{bare-checked, Tried, tried-start, tried-end, tried-miss, tried-fails, tried-leads}
@@ -33,7 +32,6 @@ use Rattle.term_check.proofs.+check_args+check_choices+check_head+check
 use Rattle.bare_heads.proofs.bare_has.Reads as bare-has-reads
 use Rattle.candidates.proofs.candidate.Reads as candidate-reads
 use Rattle.candidates.proofs.span_of.Reads as span-of-reads
-use Rattle.entries.proofs.place_at.Reads as place-at-reads
 use Rattle.goal_tables.proofs.members_of.Reads as members-of-reads
 use Rattle.goal_tables.proofs.result_of.Reads as result-of-reads
 use Rattle.known_runs.proofs.known_until.Reads as known-until-reads
@@ -42,73 +40,74 @@ use Rattle.memo.proofs.learn.Reads as learn-reads
 use Rattle.row_places.proofs.row_in.Reads as row-in-reads
 use Rattle.serving.proofs.row_serves.Reads as row-serves-reads
 use Rattle.serving.proofs.state_at.Reads as state-at-reads
+use Rattle.term_check.proofs.end_of.Reads as end-of-reads
 use Rattle.term_check.proofs.node_at.Reads as node-at-reads
 use Rattle.wants.proofs.target_of.Reads as target-of-reads
 use Rattle.wants.proofs.wanted.Reads as wanted-reads
 use Rattle.term_check.proofs.+check_args+check_choices+check_head+check_term.{statement}
 use Rattle.term_check.proofs.+check_args+check_choices+check_head+check_term.Tie.{close}
 
-abbrev μ-check-args : Measures 8 check-args-kinds.ps ℕ
-μ-check-args κs a = (length (a .1 .1 .1 .1 .1 .0 .now) / 4 - a .1 .1 .1 .1 .1 .1 .1 .1 .0) * 4 + 4
+abbrev μ-check-args : Measures 7 check-args-kinds.ps ℕ
+μ-check-args κs a = (18446744073709551616 - a .1 .1 .1 .1 .1 .1 .1 .0) * 4 + 4
 
-abbrev μ-check-choices : Measures 8 check-choices-kinds.ps ℕ
-μ-check-choices κs a = (length (a .1 .1 .1 .1 .1 .0 .now) / 4 - a .1 .1 .1 .1 .1 .1 .1 .1 .0) * 4 + 1
+abbrev μ-check-choices : Measures 7 check-choices-kinds.ps ℕ
+μ-check-choices κs a = (18446744073709551616 - a .1 .1 .1 .1 .1 .1 .1 .0) * 4 + 1
 
-abbrev μ-check-head : Measures 8 check-head-kinds.ps ℕ
-μ-check-head κs a = (length (a .1 .1 .1 .1 .1 .0 .now) / 4 - a .1 .1 .1 .1 .1 .1 .1 .1 .0) * 4 + 2
+abbrev μ-check-head : Measures 7 check-head-kinds.ps ℕ
+μ-check-head κs a = (18446744073709551616 - a .1 .1 .1 .1 .1 .1 .1 .0) * 4 + 2
 
-abbrev μ-check-term : Measures 8 check-term-kinds.ps ℕ
-μ-check-term κs a = (length (a .1 .1 .1 .1 .1 .0 .now) / 4 - a .1 .1 .1 .1 .1 .1 .1 .1 .0) * 4 + 3
+abbrev μ-check-term : Measures 7 check-term-kinds.ps ℕ
+μ-check-term κs a = (18446744073709551616 - a .1 .1 .1 .1 .1 .1 .1 .0) * 4 + 3
 
-abbrev check-args-at : ℕ → In 8 check-args-kinds.ps
+abbrev check-args-at : ℕ → In 7 check-args-kinds.ps
 check-args-at t =
-    and 8 check-args-kinds.ps (is 8 check-args-kinds.ps μ-check-args t) check-args.Pre
+    and 7 check-args-kinds.ps (is 7 check-args-kinds.ps μ-check-args t) check-args.Pre
 
-abbrev check-args-below : ℕ → In 8 check-args-kinds.ps
+abbrev check-args-below : ℕ → In 7 check-args-kinds.ps
 check-args-below t =
-    and 8 check-args-kinds.ps (falls 8 check-args-kinds.ps _<_ μ-check-args t) check-args.Pre
+    and 7 check-args-kinds.ps (falls 7 check-args-kinds.ps _<_ μ-check-args t) check-args.Pre
 
-abbrev check-choices-at : ℕ → In 8 check-choices-kinds.ps
+abbrev check-choices-at : ℕ → In 7 check-choices-kinds.ps
 check-choices-at t =
-    and 8 check-choices-kinds.ps (is 8 check-choices-kinds.ps μ-check-choices t) check-choices.Pre
+    and 7 check-choices-kinds.ps (is 7 check-choices-kinds.ps μ-check-choices t) check-choices.Pre
 
-abbrev check-choices-below : ℕ → In 8 check-choices-kinds.ps
+abbrev check-choices-below : ℕ → In 7 check-choices-kinds.ps
 check-choices-below t =
     and
-    8
+    7
     check-choices-kinds.ps
-    (falls 8 check-choices-kinds.ps _<_ μ-check-choices t)
+    (falls 7 check-choices-kinds.ps _<_ μ-check-choices t)
     check-choices.Pre
 
-abbrev check-head-at : ℕ → In 8 check-head-kinds.ps
+abbrev check-head-at : ℕ → In 7 check-head-kinds.ps
 check-head-at t =
-    and 8 check-head-kinds.ps (is 8 check-head-kinds.ps μ-check-head t) check-head.Pre
+    and 7 check-head-kinds.ps (is 7 check-head-kinds.ps μ-check-head t) check-head.Pre
 
-abbrev check-head-below : ℕ → In 8 check-head-kinds.ps
+abbrev check-head-below : ℕ → In 7 check-head-kinds.ps
 check-head-below t =
-    and 8 check-head-kinds.ps (falls 8 check-head-kinds.ps _<_ μ-check-head t) check-head.Pre
+    and 7 check-head-kinds.ps (falls 7 check-head-kinds.ps _<_ μ-check-head t) check-head.Pre
 
-abbrev check-term-at : ℕ → In 8 check-term-kinds.ps
+abbrev check-term-at : ℕ → In 7 check-term-kinds.ps
 check-term-at t =
-    and 8 check-term-kinds.ps (is 8 check-term-kinds.ps μ-check-term t) check-term.Pre
+    and 7 check-term-kinds.ps (is 7 check-term-kinds.ps μ-check-term t) check-term.Pre
 
-abbrev check-term-below : ℕ → In 8 check-term-kinds.ps
+abbrev check-term-below : ℕ → In 7 check-term-kinds.ps
 check-term-below t =
-    and 8 check-term-kinds.ps (falls 8 check-term-kinds.ps _<_ μ-check-term t) check-term.Pre
+    and 7 check-term-kinds.ps (falls 7 check-term-kinds.ps _<_ μ-check-term t) check-term.Pre
 
 abbrev check-args-Inv-loop : check-args-lts.InvT-loop
-check-args-Inv-loop file index groups kept ends body test memo₀ first count head types at₀ i₀ j₀ asked₀ many₀ memo at i j asked many = (Args (record { file = file; index = index; groups = groups; kept = kept; ends = ends; body = body; test = testBy test }) memo₀ first count false head [] memo at i j asked) × CountsMembers file index types asked many
+check-args-Inv-loop file index groups kept ends test memo₀ first count head types at₀ i₀ j₀ asked₀ many₀ memo at i j asked many = (Args (record { file = file; index = index; groups = groups; kept = kept; ends = endsBy ends test; body = bodyBy file test; test = testBy test }) memo₀ first count false head [] memo at i j asked) × CountsMembers file index types asked many
 
 abbrev check-args-μ-loop : check-args-lts.MeasureT-loop
-check-args-μ-loop file index groups kept ends body test memo₀ first count head types at₀ i₀ j₀ asked₀ many₀ memo at i j asked many = (count - i) * 17 + (16 - j)
+check-args-μ-loop file index groups kept ends test memo₀ first count head types at₀ i₀ j₀ asked₀ many₀ memo at i j asked many = (count - i) * 17 + (16 - j)
 
 check-args-element-copy-out-types : (t : ℕ) → check-args-lts.Need-element-copy-out-types (
   members-of-reads.Asked,
   members-of-reads.Learnt,
   wanted-reads.Asked,
   wanted-reads.Learnt,
-  place-at-reads.Asked,
-  place-at-reads.Learnt,
+  end-of-reads.Asked,
+  end-of-reads.Learnt,
   result-of-reads.Asked,
   result-of-reads.Learnt,
   known-reads.Asked,
@@ -125,8 +124,8 @@ check-args-returns : (t : ℕ) → check-args-lts.Need-returns (
   members-of-reads.Learnt,
   wanted-reads.Asked,
   wanted-reads.Learnt,
-  place-at-reads.Asked,
-  place-at-reads.Learnt,
+  end-of-reads.Asked,
+  end-of-reads.Learnt,
   result-of-reads.Asked,
   result-of-reads.Learnt,
   known-reads.Asked,
@@ -143,8 +142,8 @@ check-args-members-of-requires : (t : ℕ) → check-args-lts.Need-members-of-re
   members-of-reads.Learnt,
   wanted-reads.Asked,
   wanted-reads.Learnt,
-  place-at-reads.Asked,
-  place-at-reads.Learnt,
+  end-of-reads.Asked,
+  end-of-reads.Learnt,
   result-of-reads.Asked,
   result-of-reads.Learnt,
   known-reads.Asked,
@@ -161,8 +160,8 @@ check-args-loop-holds : (t : ℕ) → check-args-lts.Need-loop-holds (
   members-of-reads.Learnt,
   wanted-reads.Asked,
   wanted-reads.Learnt,
-  place-at-reads.Asked,
-  place-at-reads.Learnt,
+  end-of-reads.Asked,
+  end-of-reads.Learnt,
   result-of-reads.Asked,
   result-of-reads.Learnt,
   known-reads.Asked,
@@ -179,8 +178,8 @@ check-args-wanted-requires : (t : ℕ) → check-args-lts.Need-wanted-requires (
   members-of-reads.Learnt,
   wanted-reads.Asked,
   wanted-reads.Learnt,
-  place-at-reads.Asked,
-  place-at-reads.Learnt,
+  end-of-reads.Asked,
+  end-of-reads.Learnt,
   result-of-reads.Asked,
   result-of-reads.Learnt,
   known-reads.Asked,
@@ -192,13 +191,13 @@ check-args-wanted-requires : (t : ℕ) → check-args-lts.Need-wanted-requires (
 ) (check-args-at t) check-args.Post check-args-Inv-loop check-args-μ-loop
 check-args-wanted-requires t c κs = search needs
 
-check-args-place-at-requires : (t : ℕ) → check-args-lts.Need-place-at-requires (
+check-args-element-copy-out-end-of : (t : ℕ) → check-args-lts.Need-element-copy-out-end-of (
   members-of-reads.Asked,
   members-of-reads.Learnt,
   wanted-reads.Asked,
   wanted-reads.Learnt,
-  place-at-reads.Asked,
-  place-at-reads.Learnt,
+  end-of-reads.Asked,
+  end-of-reads.Learnt,
   result-of-reads.Asked,
   result-of-reads.Learnt,
   known-reads.Asked,
@@ -208,15 +207,33 @@ check-args-place-at-requires : (t : ℕ) → check-args-lts.Need-place-at-requir
   check-term-below t,
   check-term.Post,
 ) (check-args-at t) check-args.Post check-args-Inv-loop check-args-μ-loop
-check-args-place-at-requires t c κs = search needs
+check-args-element-copy-out-end-of t c = search needs
+
+check-args-end-of-requires : (t : ℕ) → check-args-lts.Need-end-of-requires (
+  members-of-reads.Asked,
+  members-of-reads.Learnt,
+  wanted-reads.Asked,
+  wanted-reads.Learnt,
+  end-of-reads.Asked,
+  end-of-reads.Learnt,
+  result-of-reads.Asked,
+  result-of-reads.Learnt,
+  known-reads.Asked,
+  known-reads.Learnt,
+  known-until-reads.Asked,
+  known-until-reads.Learnt,
+  check-term-below t,
+  check-term.Post,
+) (check-args-at t) check-args.Post check-args-Inv-loop check-args-μ-loop
+check-args-end-of-requires t c κs = search needs
 
 check-args-same-length : (t : ℕ) → check-args-lts.Need-same-length (
   members-of-reads.Asked,
   members-of-reads.Learnt,
   wanted-reads.Asked,
   wanted-reads.Learnt,
-  place-at-reads.Asked,
-  place-at-reads.Learnt,
+  end-of-reads.Asked,
+  end-of-reads.Learnt,
   result-of-reads.Asked,
   result-of-reads.Learnt,
   known-reads.Asked,
@@ -226,15 +243,15 @@ check-args-same-length : (t : ℕ) → check-args-lts.Need-same-length (
   check-term-below t,
   check-term.Post,
 ) (check-args-at t) check-args.Post check-args-Inv-loop check-args-μ-loop
-check-args-same-length t c = c .before .before .before .before .before .before .loop .inv .0 .keeps .long
+check-args-same-length t c = c .before .before .before .before .before .before .before .before .loop .inv .0 .keeps .long
 
 check-args-returns-2 : (t : ℕ) → check-args-lts.Need-returns-2 (
   members-of-reads.Asked,
   members-of-reads.Learnt,
   wanted-reads.Asked,
   wanted-reads.Learnt,
-  place-at-reads.Asked,
-  place-at-reads.Learnt,
+  end-of-reads.Asked,
+  end-of-reads.Learnt,
   result-of-reads.Asked,
   result-of-reads.Learnt,
   known-reads.Asked,
@@ -244,15 +261,15 @@ check-args-returns-2 : (t : ℕ) → check-args-lts.Need-returns-2 (
   check-term-below t,
   check-term.Post,
 ) (check-args-at t) check-args.Post check-args-Inv-loop check-args-μ-loop
-check-args-returns-2 t c = args-stuck _ (c .before .before .before .before .before .before .loop .inv .0) (c .before .before .before .before .before .loop-test .taken) _ (c .before .before .before .wanted .ensures (c .before .before .before .before .before .before .loop .inv .1) _ _) _ (c .before .place-at .ensures .value) (c .if3 .taken)
+check-args-returns-2 t c = args-stuck _ (c .before .before .before .before .before .before .before .before .loop .inv .0) (c .before .before .before .before .before .before .before .loop-test .taken) _ (c .before .before .before .before .before .wanted .ensures (c .before .before .before .before .before .before .before .before .loop .inv .1) _ _) _ (c .before .end-of .ensures) (c .if3 .taken)
 
 check-args-result-of-requires : (t : ℕ) → check-args-lts.Need-result-of-requires (
   members-of-reads.Asked,
   members-of-reads.Learnt,
   wanted-reads.Asked,
   wanted-reads.Learnt,
-  place-at-reads.Asked,
-  place-at-reads.Learnt,
+  end-of-reads.Asked,
+  end-of-reads.Learnt,
   result-of-reads.Asked,
   result-of-reads.Learnt,
   known-reads.Asked,
@@ -269,8 +286,8 @@ check-args-members-of-requires-2 : (t : ℕ) → check-args-lts.Need-members-of-
   members-of-reads.Learnt,
   wanted-reads.Asked,
   wanted-reads.Learnt,
-  place-at-reads.Asked,
-  place-at-reads.Learnt,
+  end-of-reads.Asked,
+  end-of-reads.Learnt,
   result-of-reads.Asked,
   result-of-reads.Learnt,
   known-reads.Asked,
@@ -287,8 +304,8 @@ check-args-add-i : (t : ℕ) → check-args-lts.Need-add-i (
   members-of-reads.Learnt,
   wanted-reads.Asked,
   wanted-reads.Learnt,
-  place-at-reads.Asked,
-  place-at-reads.Learnt,
+  end-of-reads.Asked,
+  end-of-reads.Learnt,
   result-of-reads.Asked,
   result-of-reads.Learnt,
   known-reads.Asked,
@@ -298,15 +315,15 @@ check-args-add-i : (t : ℕ) → check-args-lts.Need-add-i (
   check-term-below t,
   check-term.Post,
 ) (check-args-at t) check-args.Post check-args-Inv-loop check-args-μ-loop
-check-args-add-i t c = let h = c .before .before .before .before .before .before .before .before .before .loop-test .taken in omega arith
+check-args-add-i t c = let h = c .before .before .before .before .before .before .before .before .before .before .before .loop-test .taken in omega arith
 
 check-args-loop-less : (t : ℕ) → check-args-lts.Need-loop-less (
   members-of-reads.Asked,
   members-of-reads.Learnt,
   wanted-reads.Asked,
   wanted-reads.Learnt,
-  place-at-reads.Asked,
-  place-at-reads.Learnt,
+  end-of-reads.Asked,
+  end-of-reads.Learnt,
   result-of-reads.Asked,
   result-of-reads.Learnt,
   known-reads.Asked,
@@ -316,15 +333,15 @@ check-args-loop-less : (t : ℕ) → check-args-lts.Need-loop-less (
   check-term-below t,
   check-term.Post,
 ) (check-args-at t) check-args.Post check-args-Inv-loop check-args-μ-loop
-check-args-loop-less t c = let h = c .before .before .before .before .before .before .before .before .before .loop-test .taken in let f = c .before .before .before .before .before .before .before .before .before .before .loop .inv .0 .few in omega arith
+check-args-loop-less t c = let h = c .before .before .before .before .before .before .before .before .before .before .before .loop-test .taken in let f = c .before .before .before .before .before .before .before .before .before .before .before .before .loop .inv .0 .few in omega arith
 
 check-args-loop-again : (t : ℕ) → check-args-lts.Need-loop-again (
   members-of-reads.Asked,
   members-of-reads.Learnt,
   wanted-reads.Asked,
   wanted-reads.Learnt,
-  place-at-reads.Asked,
-  place-at-reads.Learnt,
+  end-of-reads.Asked,
+  end-of-reads.Learnt,
   result-of-reads.Asked,
   result-of-reads.Learnt,
   known-reads.Asked,
@@ -334,15 +351,15 @@ check-args-loop-again : (t : ℕ) → check-args-lts.Need-loop-again (
   check-term-below t,
   check-term.Post,
 ) (check-args-at t) check-args.Post check-args-Inv-loop check-args-μ-loop
-check-args-loop-again t c = (args-next _ (c .before .before .before .before .before .before .before .before .before .before .loop .inv .0) (c .before .before .before .before .before .before .before .before .before .loop-test .taken) _ (c .before .before .before .before .before .before .before .wanted .ensures (c .before .before .before .before .before .before .before .before .before .before .loop .inv .1) _ _) (c .before .before .before .before .before .before .if2 .taken) _ _ _ (c .before .before .before .before .before .place-at .ensures .value) (let h = c .before .before .before .before .if3 .left in omega arith) (follow-result _ (c .before .before .result-of .ensures)) (omega arith), c .members-of2 .ensures)
+check-args-loop-again t c = (args-next _ (c .before .before .before .before .before .before .before .before .before .before .before .before .loop .inv .0) (c .before .before .before .before .before .before .before .before .before .before .before .loop-test .taken) _ (c .before .before .before .before .before .before .before .before .before .wanted .ensures (c .before .before .before .before .before .before .before .before .before .before .before .before .loop .inv .1) _ _) (c .before .before .before .before .before .before .before .before .if2 .taken) _ _ _ (c .before .before .before .before .before .end-of .ensures) (let h = c .before .before .before .before .if3 .left in omega arith) (follow-result _ (c .before .before .result-of .ensures)) (omega arith), c .members-of2 .ensures)
 
 check-args-add-j : (t : ℕ) → check-args-lts.Need-add-j (
   members-of-reads.Asked,
   members-of-reads.Learnt,
   wanted-reads.Asked,
   wanted-reads.Learnt,
-  place-at-reads.Asked,
-  place-at-reads.Learnt,
+  end-of-reads.Asked,
+  end-of-reads.Learnt,
   result-of-reads.Asked,
   result-of-reads.Learnt,
   known-reads.Asked,
@@ -359,8 +376,8 @@ check-args-add-known : (t : ℕ) → check-args-lts.Need-add-known (
   members-of-reads.Learnt,
   wanted-reads.Asked,
   wanted-reads.Learnt,
-  place-at-reads.Asked,
-  place-at-reads.Learnt,
+  end-of-reads.Asked,
+  end-of-reads.Learnt,
   result-of-reads.Asked,
   result-of-reads.Learnt,
   known-reads.Asked,
@@ -377,8 +394,8 @@ check-args-element-copy-out-known : (t : ℕ) → check-args-lts.Need-element-co
   members-of-reads.Learnt,
   wanted-reads.Asked,
   wanted-reads.Learnt,
-  place-at-reads.Asked,
-  place-at-reads.Learnt,
+  end-of-reads.Asked,
+  end-of-reads.Learnt,
   result-of-reads.Asked,
   result-of-reads.Learnt,
   known-reads.Asked,
@@ -395,8 +412,8 @@ check-args-known-requires : (t : ℕ) → check-args-lts.Need-known-requires (
   members-of-reads.Learnt,
   wanted-reads.Asked,
   wanted-reads.Learnt,
-  place-at-reads.Asked,
-  place-at-reads.Learnt,
+  end-of-reads.Asked,
+  end-of-reads.Learnt,
   result-of-reads.Asked,
   result-of-reads.Learnt,
   known-reads.Asked,
@@ -413,8 +430,8 @@ check-args-same-length-2 : (t : ℕ) → check-args-lts.Need-same-length-2 (
   members-of-reads.Learnt,
   wanted-reads.Asked,
   wanted-reads.Learnt,
-  place-at-reads.Asked,
-  place-at-reads.Learnt,
+  end-of-reads.Asked,
+  end-of-reads.Learnt,
   result-of-reads.Asked,
   result-of-reads.Learnt,
   known-reads.Asked,
@@ -431,8 +448,8 @@ check-args-returns-3 : (t : ℕ) → check-args-lts.Need-returns-3 (
   members-of-reads.Learnt,
   wanted-reads.Asked,
   wanted-reads.Learnt,
-  place-at-reads.Asked,
-  place-at-reads.Learnt,
+  end-of-reads.Asked,
+  end-of-reads.Learnt,
   result-of-reads.Asked,
   result-of-reads.Learnt,
   known-reads.Asked,
@@ -450,8 +467,8 @@ check-args-element-copy-out-known-until :
       members-of-reads.Learnt,
       wanted-reads.Asked,
       wanted-reads.Learnt,
-      place-at-reads.Asked,
-      place-at-reads.Learnt,
+      end-of-reads.Asked,
+      end-of-reads.Learnt,
       result-of-reads.Asked,
       result-of-reads.Learnt,
       known-reads.Asked,
@@ -468,8 +485,8 @@ check-args-known-until-requires : (t : ℕ) → check-args-lts.Need-known-until-
   members-of-reads.Learnt,
   wanted-reads.Asked,
   wanted-reads.Learnt,
-  place-at-reads.Asked,
-  place-at-reads.Learnt,
+  end-of-reads.Asked,
+  end-of-reads.Learnt,
   result-of-reads.Asked,
   result-of-reads.Learnt,
   known-reads.Asked,
@@ -486,8 +503,8 @@ check-args-loop-less-2 : (t : ℕ) → check-args-lts.Need-loop-less-2 (
   members-of-reads.Learnt,
   wanted-reads.Asked,
   wanted-reads.Learnt,
-  place-at-reads.Asked,
-  place-at-reads.Learnt,
+  end-of-reads.Asked,
+  end-of-reads.Learnt,
   result-of-reads.Asked,
   result-of-reads.Learnt,
   known-reads.Asked,
@@ -504,8 +521,8 @@ check-args-loop-again-2 : (t : ℕ) → check-args-lts.Need-loop-again-2 (
   members-of-reads.Learnt,
   wanted-reads.Asked,
   wanted-reads.Learnt,
-  place-at-reads.Asked,
-  place-at-reads.Learnt,
+  end-of-reads.Asked,
+  end-of-reads.Learnt,
   result-of-reads.Asked,
   result-of-reads.Learnt,
   known-reads.Asked,
@@ -522,8 +539,8 @@ check-args-check-term-requires : (t : ℕ) → check-args-lts.Need-check-term-re
   members-of-reads.Learnt,
   wanted-reads.Asked,
   wanted-reads.Learnt,
-  place-at-reads.Asked,
-  place-at-reads.Learnt,
+  end-of-reads.Asked,
+  end-of-reads.Learnt,
   result-of-reads.Asked,
   result-of-reads.Learnt,
   known-reads.Asked,
@@ -533,15 +550,15 @@ check-args-check-term-requires : (t : ℕ) → check-args-lts.Need-check-term-re
   check-term-below t,
   check-term.Post,
 ) (check-args-at t) check-args.Post check-args-Inv-loop check-args-μ-loop
-check-args-check-term-requires t c κs = let p = c .before .before .before .before .before .before .before .before .before .before .before .before .before .before .before .before .before .before .before .pre .0 in let f = c .before .before .before .before .before .before .before .before .before .before .loop .inv .0 .forward in (omega arith, Prim.tt)
+check-args-check-term-requires t c κs = let p = c .before .before .before .before .before .before .before .before .before .before .before .before .before .before .before .before .before .pre .0 in let f = c .before .before .before .before .before .before .before .before .before .before .loop .inv .0 .forward in (omega arith, Prim.tt)
 
 check-args-same-length-3 : (t : ℕ) → check-args-lts.Need-same-length-3 (
   members-of-reads.Asked,
   members-of-reads.Learnt,
   wanted-reads.Asked,
   wanted-reads.Learnt,
-  place-at-reads.Asked,
-  place-at-reads.Learnt,
+  end-of-reads.Asked,
+  end-of-reads.Learnt,
   result-of-reads.Asked,
   result-of-reads.Learnt,
   known-reads.Asked,
@@ -558,8 +575,8 @@ check-args-returns-4 : (t : ℕ) → check-args-lts.Need-returns-4 (
   members-of-reads.Learnt,
   wanted-reads.Asked,
   wanted-reads.Learnt,
-  place-at-reads.Asked,
-  place-at-reads.Learnt,
+  end-of-reads.Asked,
+  end-of-reads.Learnt,
   result-of-reads.Asked,
   result-of-reads.Learnt,
   known-reads.Asked,
@@ -576,8 +593,8 @@ check-args-loop-less-3 : (t : ℕ) → check-args-lts.Need-loop-less-3 (
   members-of-reads.Learnt,
   wanted-reads.Asked,
   wanted-reads.Learnt,
-  place-at-reads.Asked,
-  place-at-reads.Learnt,
+  end-of-reads.Asked,
+  end-of-reads.Learnt,
   result-of-reads.Asked,
   result-of-reads.Learnt,
   known-reads.Asked,
@@ -594,8 +611,8 @@ check-args-loop-again-3 : (t : ℕ) → check-args-lts.Need-loop-again-3 (
   members-of-reads.Learnt,
   wanted-reads.Asked,
   wanted-reads.Learnt,
-  place-at-reads.Asked,
-  place-at-reads.Learnt,
+  end-of-reads.Asked,
+  end-of-reads.Learnt,
   result-of-reads.Asked,
   result-of-reads.Learnt,
   known-reads.Asked,
@@ -612,8 +629,8 @@ check-args-same-length-4 : (t : ℕ) → check-args-lts.Need-same-length-4 (
   members-of-reads.Learnt,
   wanted-reads.Asked,
   wanted-reads.Learnt,
-  place-at-reads.Asked,
-  place-at-reads.Learnt,
+  end-of-reads.Asked,
+  end-of-reads.Learnt,
   result-of-reads.Asked,
   result-of-reads.Learnt,
   known-reads.Asked,
@@ -630,8 +647,8 @@ check-args-returns-5 : (t : ℕ) → check-args-lts.Need-returns-5 (
   members-of-reads.Learnt,
   wanted-reads.Asked,
   wanted-reads.Learnt,
-  place-at-reads.Asked,
-  place-at-reads.Learnt,
+  end-of-reads.Asked,
+  end-of-reads.Learnt,
   result-of-reads.Asked,
   result-of-reads.Learnt,
   known-reads.Asked,
@@ -644,10 +661,10 @@ check-args-returns-5 : (t : ℕ) → check-args-lts.Need-returns-5 (
 check-args-returns-5 t c = args-end _ (c .before .loop .inv .0) (omega arith)
 
 abbrev check-choices-Inv-loop : check-choices-lts.InvT-loop
-check-choices-Inv-loop file index groups kept ends body test memo₀ at nonterminal number count goal first types span given j₀ memo j = Tried (record { file = file; index = index; groups = groups; kept = kept; ends = ends; body = body; test = testBy test }) at goal nonterminal number count span memo₀ memo j
+check-choices-Inv-loop file index groups kept ends test memo₀ at goal first nonterminal number count types span given j₀ memo j = Tried (record { file = file; index = index; groups = groups; kept = kept; ends = endsBy ends test; body = bodyBy file test; test = testBy test }) at goal first nonterminal number count span memo₀ memo j
 
 abbrev check-choices-μ-loop : check-choices-lts.MeasureT-loop
-check-choices-μ-loop file index groups kept ends body test memo₀ at nonterminal number count goal first types span given j₀ memo j = span .high - j
+check-choices-μ-loop file index groups kept ends test memo₀ at goal first nonterminal number count types span given j₀ memo j = span .high - j
 
 check-choices-returns : (t : ℕ) → check-choices-lts.Need-returns (
   span-of-reads.Asked,
@@ -657,17 +674,7 @@ check-choices-returns : (t : ℕ) → check-choices-lts.Need-returns (
   check-args-below t,
   check-args.Post,
 ) (check-choices-at t) check-choices.Post check-choices-Inv-loop check-choices-μ-loop
-check-choices-returns t c = λ tag other nt p. term-past _ _ _ _ (c .if1 .taken)
-
-check-choices-add-first : (t : ℕ) → check-choices-lts.Need-add-first (
-  span-of-reads.Asked,
-  span-of-reads.Learnt,
-  candidate-reads.Asked,
-  candidate-reads.Learnt,
-  check-args-below t,
-  check-args.Post,
-) (check-choices-at t) check-choices.Post check-choices-Inv-loop check-choices-μ-loop
-check-choices-add-first t c = search needs
+check-choices-returns t c = λ other p. absurd (let e = p .first-is in let h = c .if1 .taken in omega arith)
 
 check-choices-element-copy-out-types : (t : ℕ) → check-choices-lts.Need-element-copy-out-types (
   span-of-reads.Asked,
@@ -707,7 +714,7 @@ check-choices-loop-holds : (t : ℕ) → check-choices-lts.Need-loop-holds (
   check-args-below t,
   check-args.Post,
 ) (check-choices-at t) check-choices.Post check-choices-Inv-loop check-choices-μ-loop
-check-choices-loop-holds t c = tried-start _ _ _ _ _ _ _ (let h = c .before .before .before .before .before .if1 .left in omega arith) (c .span-of .ensures) _ _ refl
+check-choices-loop-holds t c = tried-start _ _ _ _ _ _ _ _ (c .span-of .ensures) _ _ refl
 
 check-choices-candidate-requires : (t : ℕ) → check-choices-lts.Need-candidate-requires (
   span-of-reads.Asked,
@@ -737,7 +744,7 @@ check-choices-check-args-requires : (t : ℕ) → check-choices-lts.Need-check-a
   check-args-below t,
   check-args.Post,
 ) (check-choices-at t) check-choices.Post check-choices-Inv-loop check-choices-μ-loop
-check-choices-check-args-requires t c κs = let p = c .before .before .before .before .before .before .before .before .before .before .before .before .before .before .before .before .before .before .pre .0 in let h = c .before .before .before .before .before .before .before .before .before .before .before .before .before .if1 .left in (omega arith, Prim.tt)
+check-choices-check-args-requires t c κs = let p = c .before .before .before .before .before .before .before .before .before .before .before .before .before .before .before .before .before .pre .0 in let h = c .before .before .before .before .before .before .before .before .before .before .before .before .before .before .if1 .left in let f = c .before .before .before .before .before .before .before .before .before .before .before .before .before .before .before .before .before .fits .at in (omega arith, Prim.tt)
 
 check-choices-same-length : (t : ℕ) → check-choices-lts.Need-same-length (
   span-of-reads.Asked,
@@ -757,7 +764,7 @@ check-choices-returns-2 : (t : ℕ) → check-choices-lts.Need-returns-2 (
   check-args-below t,
   check-args.Post,
 ) (check-choices-at t) check-choices.Post check-choices-Inv-loop check-choices-μ-loop
-check-choices-returns-2 t c = λ tag other nt p. tried-leads _ _ _ _ _ _ _ (let h = c .before .before .before .before .before .before .before .before .before .before .before .before .before .before .before .before .before .if1 .left in omega arith) (c .before .before .before .before .before .before .before .before .before .before .before .before .span-of .ensures) (c .before .before .before .before .before .before .before .before .before .before .before .loop .inv) (c .before .before .before .before .before .before .before .before .before .if2 .taken) _ (c .before .before .before .before .before .before .candidate .ensures) (c .before .before .before .before .before .if3 .taken) _ (omega arith) _ _ _ (c .before .before .before .check-args .ensures) (p .count-is) (placed-head _ _ _ _ _ _ other nt p) (c .if4 .taken)
+check-choices-returns-2 t c = λ other p. tried-leads _ _ _ _ _ _ _ _ (c .before .before .before .before .before .before .before .before .before .before .before .before .span-of .ensures) (c .before .before .before .before .before .before .before .before .before .before .before .loop .inv) (c .before .before .before .before .before .before .before .before .before .if2 .taken) _ (c .before .before .before .before .before .before .candidate .ensures) (c .before .before .before .before .before .if3 .taken) _ _ _ (c .before .before .before .check-args .ensures) (p .count-is) (p .inside, p .first-is) (placed-head _ _ _ other p) (c .if4 .taken)
 
 check-choices-loop-less : (t : ℕ) → check-choices-lts.Need-loop-less (
   span-of-reads.Asked,
@@ -777,7 +784,7 @@ check-choices-loop-again : (t : ℕ) → check-choices-lts.Need-loop-again (
   check-args-below t,
   check-args.Post,
 ) (check-choices-at t) check-choices.Post check-choices-Inv-loop check-choices-μ-loop
-check-choices-loop-again t c = tried-fails _ _ _ _ _ _ _ (let h = c .before .before .before .before .before .before .before .before .before .before .before .before .before .before .before .before .before .if1 .left in omega arith) (c .before .before .before .before .before .before .before .before .before .before .before .before .span-of .ensures) (c .before .before .before .before .before .before .before .before .before .before .before .loop .inv) (c .before .before .before .before .before .before .before .before .before .if2 .taken) _ (c .before .before .before .before .before .before .candidate .ensures) (c .before .before .before .before .before .if3 .taken) _ (omega arith) _ _ _ (c .before .before .before .check-args .ensures) (c .if4 .left) _ (omega arith)
+check-choices-loop-again t c = tried-fails _ _ _ _ _ _ _ _ (c .before .before .before .before .before .before .before .before .before .before .before .before .span-of .ensures) (c .before .before .before .before .before .before .before .before .before .before .before .loop .inv) (c .before .before .before .before .before .before .before .before .before .if2 .taken) _ (c .before .before .before .before .before .before .candidate .ensures) (c .before .before .before .before .before .if3 .taken) _ _ _ (c .before .before .before .check-args .ensures) (c .if4 .left) _ (omega arith)
 
 check-choices-loop-less-2 : (t : ℕ) → check-choices-lts.Need-loop-less-2 (
   span-of-reads.Asked,
@@ -797,7 +804,7 @@ check-choices-loop-again-2 : (t : ℕ) → check-choices-lts.Need-loop-again-2 (
   check-args-below t,
   check-args.Post,
 ) (check-choices-at t) check-choices.Post check-choices-Inv-loop check-choices-μ-loop
-check-choices-loop-again-2 t c = tried-miss _ _ _ _ _ _ _ (let h = c .before .before .before .before .before .before .before .before .before .before .before .before .if1 .left in omega arith) (c .before .before .before .before .before .before .before .span-of .ensures) (c .before .before .before .before .before .before .loop .inv) (c .before .before .before .before .if2 .taken) _ (c .before .candidate .ensures) (c .if3 .left) _ (omega arith)
+check-choices-loop-again-2 t c = tried-miss _ _ _ _ _ _ _ _ (c .before .before .before .before .before .before .before .span-of .ensures) (c .before .before .before .before .before .before .loop .inv) (c .before .before .before .before .if2 .taken) _ (c .before .candidate .ensures) (c .if3 .left) _ (omega arith)
 
 check-choices-same-length-2 : (t : ℕ) → check-choices-lts.Need-same-length-2 (
   span-of-reads.Asked,
@@ -817,31 +824,13 @@ check-choices-returns-3 : (t : ℕ) → check-choices-lts.Need-returns-3 (
   check-args-below t,
   check-args.Post,
 ) (check-choices-at t) check-choices.Post check-choices-Inv-loop check-choices-μ-loop
-check-choices-returns-3 t c = λ tag other nt p. tried-end _ _ _ _ _ _ _ (let h = c .before .before .before .before .before .before .before .before .if1 .left in omega arith) (c .before .before .before .span-of .ensures) (c .before .before .loop .inv) (p .count-is) (placed-head _ _ _ _ _ _ other nt p) (c .if2 .left)
+check-choices-returns-3 t c = λ other p. tried-end _ _ _ _ _ _ _ _ (c .before .before .before .span-of .ensures) (c .before .before .loop .inv) (p .count-is) (p .inside, p .first-is) (placed-head _ _ _ other p) (c .if2 .left)
 
 abbrev check-head-Inv-loop : check-head-lts.InvT-loop
-check-head-Inv-loop file index groups kept ends body test memo₀ at c count goal types constructors next₀ q row i₀ memo next i = Args (record { file = file; index = index; groups = groups; kept = kept; ends = ends; body = body; test = testBy test }) memo₀ next₀ count true 0 row memo next i 0 0
+check-head-Inv-loop file index groups kept ends test memo₀ at goal types constructors c count next₀ q row i₀ memo next i = Args (record { file = file; index = index; groups = groups; kept = kept; ends = endsBy ends test; body = bodyBy file test; test = testBy test }) memo₀ next₀ count true 0 row memo next i 0 0
 
 abbrev check-head-μ-loop : check-head-lts.MeasureT-loop
-check-head-μ-loop file index groups kept ends body test memo₀ at c count goal types constructors next₀ q row i₀ memo next i = count - i
-
-check-head-returns : (t : ℕ) → check-head-lts.Need-returns (
-  state-at-reads.Asked,
-  state-at-reads.Learnt,
-  row-in-reads.Asked,
-  row-in-reads.Learnt,
-  row-serves-reads.Asked,
-  row-serves-reads.Learnt,
-  target-of-reads.Asked,
-  target-of-reads.Learnt,
-  place-at-reads.Asked,
-  place-at-reads.Learnt,
-  known-reads.Asked,
-  known-reads.Learnt,
-  check-term-below t,
-  check-term.Post,
-) (check-head-at t) check-head.Post check-head-Inv-loop check-head-μ-loop
-check-head-returns t c = λ p. term-past _ _ _ _ (c .if1 .taken)
+check-head-μ-loop file index groups kept ends test memo₀ at goal types constructors c count next₀ q row i₀ memo next i = count - i
 
 check-head-element-copy-out-types : (t : ℕ) → check-head-lts.Need-element-copy-out-types (
   state-at-reads.Asked,
@@ -852,8 +841,8 @@ check-head-element-copy-out-types : (t : ℕ) → check-head-lts.Need-element-co
   row-serves-reads.Learnt,
   target-of-reads.Asked,
   target-of-reads.Learnt,
-  place-at-reads.Asked,
-  place-at-reads.Learnt,
+  end-of-reads.Asked,
+  end-of-reads.Learnt,
   known-reads.Asked,
   known-reads.Learnt,
   check-term-below t,
@@ -861,7 +850,7 @@ check-head-element-copy-out-types : (t : ℕ) → check-head-lts.Need-element-co
 ) (check-head-at t) check-head.Post check-head-Inv-loop check-head-μ-loop
 check-head-element-copy-out-types t c = search needs
 
-check-head-returns-2 : (t : ℕ) → check-head-lts.Need-returns-2 (
+check-head-returns : (t : ℕ) → check-head-lts.Need-returns (
   state-at-reads.Asked,
   state-at-reads.Learnt,
   row-in-reads.Asked,
@@ -870,14 +859,14 @@ check-head-returns-2 : (t : ℕ) → check-head-lts.Need-returns-2 (
   row-serves-reads.Learnt,
   target-of-reads.Asked,
   target-of-reads.Learnt,
-  place-at-reads.Asked,
-  place-at-reads.Learnt,
+  end-of-reads.Asked,
+  end-of-reads.Learnt,
   known-reads.Asked,
   known-reads.Learnt,
   check-term-below t,
   check-term.Post,
 ) (check-head-at t) check-head.Post check-head-Inv-loop check-head-μ-loop
-check-head-returns-2 t c = λ p. types-many _ _ _ _ (c .if2 .taken)
+check-head-returns t c = λ z p. types-many _ _ _ _ (c .if1 .taken)
 
 check-head-element-copy-out-constructors :
     (t : ℕ) → check-head-lts.Need-element-copy-out-constructors (
@@ -889,8 +878,8 @@ check-head-element-copy-out-constructors :
       row-serves-reads.Learnt,
       target-of-reads.Asked,
       target-of-reads.Learnt,
-      place-at-reads.Asked,
-      place-at-reads.Learnt,
+      end-of-reads.Asked,
+      end-of-reads.Learnt,
       known-reads.Asked,
       known-reads.Learnt,
       check-term-below t,
@@ -898,7 +887,7 @@ check-head-element-copy-out-constructors :
     ) (check-head-at t) check-head.Post check-head-Inv-loop check-head-μ-loop
 check-head-element-copy-out-constructors t c = search needs
 
-check-head-add-next : (t : ℕ) → check-head-lts.Need-add-next (
+check-head-returns-2 : (t : ℕ) → check-head-lts.Need-returns-2 (
   state-at-reads.Asked,
   state-at-reads.Learnt,
   row-in-reads.Asked,
@@ -907,32 +896,14 @@ check-head-add-next : (t : ℕ) → check-head-lts.Need-add-next (
   row-serves-reads.Learnt,
   target-of-reads.Asked,
   target-of-reads.Learnt,
-  place-at-reads.Asked,
-  place-at-reads.Learnt,
+  end-of-reads.Asked,
+  end-of-reads.Learnt,
   known-reads.Asked,
   known-reads.Learnt,
   check-term-below t,
   check-term.Post,
 ) (check-head-at t) check-head.Post check-head-Inv-loop check-head-μ-loop
-check-head-add-next t c = search needs
-
-check-head-state-at-requires : (t : ℕ) → check-head-lts.Need-state-at-requires (
-  state-at-reads.Asked,
-  state-at-reads.Learnt,
-  row-in-reads.Asked,
-  row-in-reads.Learnt,
-  row-serves-reads.Asked,
-  row-serves-reads.Learnt,
-  target-of-reads.Asked,
-  target-of-reads.Learnt,
-  place-at-reads.Asked,
-  place-at-reads.Learnt,
-  known-reads.Asked,
-  known-reads.Learnt,
-  check-term-below t,
-  check-term.Post,
-) (check-head-at t) check-head.Post check-head-Inv-loop check-head-μ-loop
-check-head-state-at-requires t c κs = search needs
+check-head-returns-2 t c = λ z p. absurd (let f = p .few in let h = c .if2 .taken in omega arith)
 
 check-head-returns-3 : (t : ℕ) → check-head-lts.Need-returns-3 (
   state-at-reads.Asked,
@@ -943,14 +914,32 @@ check-head-returns-3 : (t : ℕ) → check-head-lts.Need-returns-3 (
   row-serves-reads.Learnt,
   target-of-reads.Asked,
   target-of-reads.Learnt,
-  place-at-reads.Asked,
-  place-at-reads.Learnt,
+  end-of-reads.Asked,
+  end-of-reads.Learnt,
   known-reads.Asked,
   known-reads.Learnt,
   check-term-below t,
   check-term.Post,
 ) (check-head-at t) check-head.Post check-head-Inv-loop check-head-μ-loop
-check-head-returns-3 t c = λ p. targets-no-state _ _ _ _ _ _ _ (p .number-is) (p .count-is) (c .before .state-at .ensures) _ (p .tag-is) refl (c .if3 .taken)
+check-head-returns-3 t c = λ z p. absurd (let e = p .first-is in let h = c .if3 .taken in omega arith)
+
+check-head-state-at-requires : (t : ℕ) → check-head-lts.Need-state-at-requires (
+  state-at-reads.Asked,
+  state-at-reads.Learnt,
+  row-in-reads.Asked,
+  row-in-reads.Learnt,
+  row-serves-reads.Asked,
+  row-serves-reads.Learnt,
+  target-of-reads.Asked,
+  target-of-reads.Learnt,
+  end-of-reads.Asked,
+  end-of-reads.Learnt,
+  known-reads.Asked,
+  known-reads.Learnt,
+  check-term-below t,
+  check-term.Post,
+) (check-head-at t) check-head.Post check-head-Inv-loop check-head-μ-loop
+check-head-state-at-requires t c κs = search needs
 
 check-head-returns-4 : (t : ℕ) → check-head-lts.Need-returns-4 (
   state-at-reads.Asked,
@@ -961,14 +950,32 @@ check-head-returns-4 : (t : ℕ) → check-head-lts.Need-returns-4 (
   row-serves-reads.Learnt,
   target-of-reads.Asked,
   target-of-reads.Learnt,
-  place-at-reads.Asked,
-  place-at-reads.Learnt,
+  end-of-reads.Asked,
+  end-of-reads.Learnt,
   known-reads.Asked,
   known-reads.Learnt,
   check-term-below t,
   check-term.Post,
 ) (check-head-at t) check-head.Post check-head-Inv-loop check-head-μ-loop
-check-head-returns-4 t c = λ p. targets-no-constructor _ _ _ _ _ _ _ (p .number-is) (p .count-is) (c .before .before .state-at .ensures) _ (p .tag-is) refl (c .if4 .taken)
+check-head-returns-4 t c = λ z p. targets-no-state _ _ _ _ _ _ _ (p .number-is) (p .count-is) (c .before .state-at .ensures) _ (p .tag-is) z (c .if4 .taken)
+
+check-head-returns-5 : (t : ℕ) → check-head-lts.Need-returns-5 (
+  state-at-reads.Asked,
+  state-at-reads.Learnt,
+  row-in-reads.Asked,
+  row-in-reads.Learnt,
+  row-serves-reads.Asked,
+  row-serves-reads.Learnt,
+  target-of-reads.Asked,
+  target-of-reads.Learnt,
+  end-of-reads.Asked,
+  end-of-reads.Learnt,
+  known-reads.Asked,
+  known-reads.Learnt,
+  check-term-below t,
+  check-term.Post,
+) (check-head-at t) check-head.Post check-head-Inv-loop check-head-μ-loop
+check-head-returns-5 t c = λ z p. targets-no-constructor _ _ _ _ _ _ _ (p .number-is) (p .count-is) (c .before .before .state-at .ensures) _ (p .tag-is) z (c .if5 .taken)
 
 check-head-row-in-requires : (t : ℕ) → check-head-lts.Need-row-in-requires (
   state-at-reads.Asked,
@@ -979,8 +986,8 @@ check-head-row-in-requires : (t : ℕ) → check-head-lts.Need-row-in-requires (
   row-serves-reads.Learnt,
   target-of-reads.Asked,
   target-of-reads.Learnt,
-  place-at-reads.Asked,
-  place-at-reads.Learnt,
+  end-of-reads.Asked,
+  end-of-reads.Learnt,
   known-reads.Asked,
   known-reads.Learnt,
   check-term-below t,
@@ -997,8 +1004,8 @@ check-head-row-serves-requires : (t : ℕ) → check-head-lts.Need-row-serves-re
   row-serves-reads.Learnt,
   target-of-reads.Asked,
   target-of-reads.Learnt,
-  place-at-reads.Asked,
-  place-at-reads.Learnt,
+  end-of-reads.Asked,
+  end-of-reads.Learnt,
   known-reads.Asked,
   known-reads.Learnt,
   check-term-below t,
@@ -1006,7 +1013,7 @@ check-head-row-serves-requires : (t : ℕ) → check-head-lts.Need-row-serves-re
 ) (check-head-at t) check-head.Post check-head-Inv-loop check-head-μ-loop
 check-head-row-serves-requires t c κs = search needs
 
-check-head-returns-5 : (t : ℕ) → check-head-lts.Need-returns-5 (
+check-head-returns-6 : (t : ℕ) → check-head-lts.Need-returns-6 (
   state-at-reads.Asked,
   state-at-reads.Learnt,
   row-in-reads.Asked,
@@ -1015,14 +1022,14 @@ check-head-returns-5 : (t : ℕ) → check-head-lts.Need-returns-5 (
   row-serves-reads.Learnt,
   target-of-reads.Asked,
   target-of-reads.Learnt,
-  place-at-reads.Asked,
-  place-at-reads.Learnt,
+  end-of-reads.Asked,
+  end-of-reads.Learnt,
   known-reads.Asked,
   known-reads.Learnt,
   check-term-below t,
   check-term.Post,
 ) (check-head-at t) check-head.Post check-head-Inv-loop check-head-μ-loop
-check-head-returns-5 t c = λ p. targets-not-served _ _ _ _ _ _ _ (p .number-is) (p .count-is) (c .before .before .before .before .before .before .before .state-at .ensures) _ (p .tag-is) refl (let h = c .before .before .before .before .before .before .if3 .left in omega arith) (let h = c .before .before .before .before .before .if4 .left in omega arith) _ (c .before .before .before .row-in .ensures) _ (c .before .row-serves .ensures) (not-true _ (c .if5 .taken))
+check-head-returns-6 t c = λ z p. targets-not-served _ _ _ _ _ _ _ (p .number-is) (p .count-is) (c .before .before .before .before .before .before .before .state-at .ensures) _ (p .tag-is) z (let h = c .before .before .before .before .before .before .if4 .left in omega arith) (let h = c .before .before .before .before .before .if5 .left in omega arith) _ (c .before .before .before .row-in .ensures) _ (c .before .row-serves .ensures) (not-true _ (c .if6 .taken))
 
 check-head-loop-holds : (t : ℕ) → check-head-lts.Need-loop-holds (
   state-at-reads.Asked,
@@ -1033,8 +1040,8 @@ check-head-loop-holds : (t : ℕ) → check-head-lts.Need-loop-holds (
   row-serves-reads.Learnt,
   target-of-reads.Asked,
   target-of-reads.Learnt,
-  place-at-reads.Asked,
-  place-at-reads.Learnt,
+  end-of-reads.Asked,
+  end-of-reads.Learnt,
   known-reads.Asked,
   known-reads.Learnt,
   check-term-below t,
@@ -1051,8 +1058,8 @@ check-head-target-of-requires : (t : ℕ) → check-head-lts.Need-target-of-requ
   row-serves-reads.Learnt,
   target-of-reads.Asked,
   target-of-reads.Learnt,
-  place-at-reads.Asked,
-  place-at-reads.Learnt,
+  end-of-reads.Asked,
+  end-of-reads.Learnt,
   known-reads.Asked,
   known-reads.Learnt,
   check-term-below t,
@@ -1069,68 +1076,14 @@ check-head-same-length : (t : ℕ) → check-head-lts.Need-same-length (
   row-serves-reads.Learnt,
   target-of-reads.Asked,
   target-of-reads.Learnt,
-  place-at-reads.Asked,
-  place-at-reads.Learnt,
+  end-of-reads.Asked,
+  end-of-reads.Learnt,
   known-reads.Asked,
   known-reads.Learnt,
   check-term-below t,
   check-term.Post,
 ) (check-head-at t) check-head.Post check-head-Inv-loop check-head-μ-loop
 check-head-same-length t c = c .before .before .before .loop .inv .keeps .long
-
-check-head-returns-6 : (t : ℕ) → check-head-lts.Need-returns-6 (
-  state-at-reads.Asked,
-  state-at-reads.Learnt,
-  row-in-reads.Asked,
-  row-in-reads.Learnt,
-  row-serves-reads.Asked,
-  row-serves-reads.Learnt,
-  target-of-reads.Asked,
-  target-of-reads.Learnt,
-  place-at-reads.Asked,
-  place-at-reads.Learnt,
-  known-reads.Asked,
-  known-reads.Learnt,
-  check-term-below t,
-  check-term.Post,
-) (check-head-at t) check-head.Post check-head-Inv-loop check-head-μ-loop
-check-head-returns-6 t c = λ p. targets-told _ _ _ _ _ _ _ (p .number-is) (p .count-is) (c .before .before .before .before .before .before .before .before .before .before .before .state-at .ensures) _ (p .tag-is) refl (let h = c .before .before .before .before .before .before .before .before .before .before .if3 .left in omega arith) (let h = c .before .before .before .before .before .before .before .before .before .if4 .left in omega arith) _ (c .before .before .before .before .before .before .before .row-in .ensures) _ (c .before .before .before .before .before .row-serves .ensures) (not-false _ (c .before .before .before .before .if5 .left)) _ (omega arith) _ _ (target-past _ (c .before .before .before .loop .inv) (c .before .before .loop-test .taken) _ (c .before .target-of .ensures) (c .if6 .taken))
-
-check-head-place-at-requires : (t : ℕ) → check-head-lts.Need-place-at-requires (
-  state-at-reads.Asked,
-  state-at-reads.Learnt,
-  row-in-reads.Asked,
-  row-in-reads.Learnt,
-  row-serves-reads.Asked,
-  row-serves-reads.Learnt,
-  target-of-reads.Asked,
-  target-of-reads.Learnt,
-  place-at-reads.Asked,
-  place-at-reads.Learnt,
-  known-reads.Asked,
-  known-reads.Learnt,
-  check-term-below t,
-  check-term.Post,
-) (check-head-at t) check-head.Post check-head-Inv-loop check-head-μ-loop
-check-head-place-at-requires t c κs = search needs
-
-check-head-same-length-2 : (t : ℕ) → check-head-lts.Need-same-length-2 (
-  state-at-reads.Asked,
-  state-at-reads.Learnt,
-  row-in-reads.Asked,
-  row-in-reads.Learnt,
-  row-serves-reads.Asked,
-  row-serves-reads.Learnt,
-  target-of-reads.Asked,
-  target-of-reads.Learnt,
-  place-at-reads.Asked,
-  place-at-reads.Learnt,
-  known-reads.Asked,
-  known-reads.Learnt,
-  check-term-below t,
-  check-term.Post,
-) (check-head-at t) check-head.Post check-head-Inv-loop check-head-μ-loop
-check-head-same-length-2 t c = c .before .before .before .before .before .loop .inv .keeps .long
 
 check-head-returns-7 : (t : ℕ) → check-head-lts.Need-returns-7 (
   state-at-reads.Asked,
@@ -1141,14 +1094,86 @@ check-head-returns-7 : (t : ℕ) → check-head-lts.Need-returns-7 (
   row-serves-reads.Learnt,
   target-of-reads.Asked,
   target-of-reads.Learnt,
-  place-at-reads.Asked,
-  place-at-reads.Learnt,
+  end-of-reads.Asked,
+  end-of-reads.Learnt,
   known-reads.Asked,
   known-reads.Learnt,
   check-term-below t,
   check-term.Post,
 ) (check-head-at t) check-head.Post check-head-Inv-loop check-head-μ-loop
-check-head-returns-7 t c = λ p. targets-told _ _ _ _ _ _ _ (p .number-is) (p .count-is) (c .before .before .before .before .before .before .before .before .before .before .before .before .before .state-at .ensures) _ (p .tag-is) refl (let h = c .before .before .before .before .before .before .before .before .before .before .before .before .if3 .left in omega arith) (let h = c .before .before .before .before .before .before .before .before .before .before .before .if4 .left in omega arith) _ (c .before .before .before .before .before .before .before .before .before .row-in .ensures) _ (c .before .before .before .before .before .before .before .row-serves .ensures) (not-false _ (c .before .before .before .before .before .before .if5 .left)) _ (omega arith) _ _ (target-stuck _ (c .before .before .before .before .before .loop .inv) (c .before .before .before .before .loop-test .taken) _ (c .before .before .before .target-of .ensures) (c .before .before .if6 .left) _ (c .before .place-at .ensures .value) (c .if7 .taken))
+check-head-returns-7 t c = λ z p. targets-told _ _ _ _ _ _ _ (p .number-is) (p .count-is) (c .before .before .before .before .before .before .before .before .before .before .before .state-at .ensures) _ (p .tag-is) z (let h = c .before .before .before .before .before .before .before .before .before .before .if4 .left in omega arith) (let h = c .before .before .before .before .before .before .before .before .before .if5 .left in omega arith) _ (c .before .before .before .before .before .before .before .row-in .ensures) _ (c .before .before .before .before .before .row-serves .ensures) (not-false _ (c .before .before .before .before .if6 .left)) _ (p .first-is) _ _ (target-past _ (c .before .before .before .loop .inv) (c .before .before .loop-test .taken) _ (c .before .target-of .ensures) (c .if7 .taken))
+
+check-head-element-copy-out-end-of : (t : ℕ) → check-head-lts.Need-element-copy-out-end-of (
+  state-at-reads.Asked,
+  state-at-reads.Learnt,
+  row-in-reads.Asked,
+  row-in-reads.Learnt,
+  row-serves-reads.Asked,
+  row-serves-reads.Learnt,
+  target-of-reads.Asked,
+  target-of-reads.Learnt,
+  end-of-reads.Asked,
+  end-of-reads.Learnt,
+  known-reads.Asked,
+  known-reads.Learnt,
+  check-term-below t,
+  check-term.Post,
+) (check-head-at t) check-head.Post check-head-Inv-loop check-head-μ-loop
+check-head-element-copy-out-end-of t c = search needs
+
+check-head-end-of-requires : (t : ℕ) → check-head-lts.Need-end-of-requires (
+  state-at-reads.Asked,
+  state-at-reads.Learnt,
+  row-in-reads.Asked,
+  row-in-reads.Learnt,
+  row-serves-reads.Asked,
+  row-serves-reads.Learnt,
+  target-of-reads.Asked,
+  target-of-reads.Learnt,
+  end-of-reads.Asked,
+  end-of-reads.Learnt,
+  known-reads.Asked,
+  known-reads.Learnt,
+  check-term-below t,
+  check-term.Post,
+) (check-head-at t) check-head.Post check-head-Inv-loop check-head-μ-loop
+check-head-end-of-requires t c κs = search needs
+
+check-head-same-length-2 : (t : ℕ) → check-head-lts.Need-same-length-2 (
+  state-at-reads.Asked,
+  state-at-reads.Learnt,
+  row-in-reads.Asked,
+  row-in-reads.Learnt,
+  row-serves-reads.Asked,
+  row-serves-reads.Learnt,
+  target-of-reads.Asked,
+  target-of-reads.Learnt,
+  end-of-reads.Asked,
+  end-of-reads.Learnt,
+  known-reads.Asked,
+  known-reads.Learnt,
+  check-term-below t,
+  check-term.Post,
+) (check-head-at t) check-head.Post check-head-Inv-loop check-head-μ-loop
+check-head-same-length-2 t c = c .before .before .before .before .before .before .before .loop .inv .keeps .long
+
+check-head-returns-8 : (t : ℕ) → check-head-lts.Need-returns-8 (
+  state-at-reads.Asked,
+  state-at-reads.Learnt,
+  row-in-reads.Asked,
+  row-in-reads.Learnt,
+  row-serves-reads.Asked,
+  row-serves-reads.Learnt,
+  target-of-reads.Asked,
+  target-of-reads.Learnt,
+  end-of-reads.Asked,
+  end-of-reads.Learnt,
+  known-reads.Asked,
+  known-reads.Learnt,
+  check-term-below t,
+  check-term.Post,
+) (check-head-at t) check-head.Post check-head-Inv-loop check-head-μ-loop
+check-head-returns-8 t c = λ z p. targets-told _ _ _ _ _ _ _ (p .number-is) (p .count-is) (c .before .before .before .before .before .before .before .before .before .before .before .before .before .before .before .state-at .ensures) _ (p .tag-is) z (let h = c .before .before .before .before .before .before .before .before .before .before .before .before .before .before .if4 .left in omega arith) (let h = c .before .before .before .before .before .before .before .before .before .before .before .before .before .if5 .left in omega arith) _ (c .before .before .before .before .before .before .before .before .before .before .before .row-in .ensures) _ (c .before .before .before .before .before .before .before .before .before .row-serves .ensures) (not-false _ (c .before .before .before .before .before .before .before .before .if6 .left)) _ (p .first-is) _ _ (target-stuck _ (c .before .before .before .before .before .before .before .loop .inv) (c .before .before .before .before .before .before .loop-test .taken) _ (c .before .before .before .before .before .target-of .ensures) (c .before .before .before .before .if7 .left) _ (c .before .end-of .ensures) (c .if8 .taken))
 
 check-head-add-i : (t : ℕ) → check-head-lts.Need-add-i (
   state-at-reads.Asked,
@@ -1159,14 +1184,14 @@ check-head-add-i : (t : ℕ) → check-head-lts.Need-add-i (
   row-serves-reads.Learnt,
   target-of-reads.Asked,
   target-of-reads.Learnt,
-  place-at-reads.Asked,
-  place-at-reads.Learnt,
+  end-of-reads.Asked,
+  end-of-reads.Learnt,
   known-reads.Asked,
   known-reads.Learnt,
   check-term-below t,
   check-term.Post,
 ) (check-head-at t) check-head.Post check-head-Inv-loop check-head-μ-loop
-check-head-add-i t c = let h = c .before .before .before .before .loop-test .taken in let f = c .before .before .before .before .before .before .before .before .before .before .before .before .before .before .before .before .before .before .before .before .before .before .before .fits .count in omega arith
+check-head-add-i t c = let h = c .before .before .before .before .before .before .loop-test .taken in omega arith
 
 check-head-add-known : (t : ℕ) → check-head-lts.Need-add-known (
   state-at-reads.Asked,
@@ -1177,14 +1202,14 @@ check-head-add-known : (t : ℕ) → check-head-lts.Need-add-known (
   row-serves-reads.Learnt,
   target-of-reads.Asked,
   target-of-reads.Learnt,
-  place-at-reads.Asked,
-  place-at-reads.Learnt,
+  end-of-reads.Asked,
+  end-of-reads.Learnt,
   known-reads.Asked,
   known-reads.Learnt,
   check-term-below t,
   check-term.Post,
 ) (check-head-at t) check-head.Post check-head-Inv-loop check-head-μ-loop
-check-head-add-known t c = let h = c .before .before .before .before .before .before .before .before .before .before .before .before .before .before .before .before .before .if2 .left in omega arith
+check-head-add-known t c = let h = c .before .before .before .before .before .before .before .before .before .before .before .before .before .before .before .before .before .before .before .before .before .if1 .left in omega arith
 
 check-head-element-copy-out-known : (t : ℕ) → check-head-lts.Need-element-copy-out-known (
   state-at-reads.Asked,
@@ -1195,8 +1220,8 @@ check-head-element-copy-out-known : (t : ℕ) → check-head-lts.Need-element-co
   row-serves-reads.Learnt,
   target-of-reads.Asked,
   target-of-reads.Learnt,
-  place-at-reads.Asked,
-  place-at-reads.Learnt,
+  end-of-reads.Asked,
+  end-of-reads.Learnt,
   known-reads.Asked,
   known-reads.Learnt,
   check-term-below t,
@@ -1213,8 +1238,8 @@ check-head-known-requires : (t : ℕ) → check-head-lts.Need-known-requires (
   row-serves-reads.Learnt,
   target-of-reads.Asked,
   target-of-reads.Learnt,
-  place-at-reads.Asked,
-  place-at-reads.Learnt,
+  end-of-reads.Asked,
+  end-of-reads.Learnt,
   known-reads.Asked,
   known-reads.Learnt,
   check-term-below t,
@@ -1231,68 +1256,14 @@ check-head-same-length-3 : (t : ℕ) → check-head-lts.Need-same-length-3 (
   row-serves-reads.Learnt,
   target-of-reads.Asked,
   target-of-reads.Learnt,
-  place-at-reads.Asked,
-  place-at-reads.Learnt,
+  end-of-reads.Asked,
+  end-of-reads.Learnt,
   known-reads.Asked,
   known-reads.Learnt,
   check-term-below t,
   check-term.Post,
 ) (check-head-at t) check-head.Post check-head-Inv-loop check-head-μ-loop
-check-head-same-length-3 t c = c .before .before .before .before .before .before .before .before .before .loop .inv .keeps .long
-
-check-head-returns-8 : (t : ℕ) → check-head-lts.Need-returns-8 (
-  state-at-reads.Asked,
-  state-at-reads.Learnt,
-  row-in-reads.Asked,
-  row-in-reads.Learnt,
-  row-serves-reads.Asked,
-  row-serves-reads.Learnt,
-  target-of-reads.Asked,
-  target-of-reads.Learnt,
-  place-at-reads.Asked,
-  place-at-reads.Learnt,
-  known-reads.Asked,
-  known-reads.Learnt,
-  check-term-below t,
-  check-term.Post,
-) (check-head-at t) check-head.Post check-head-Inv-loop check-head-μ-loop
-check-head-returns-8 t c = λ p. targets-told _ _ _ _ _ _ _ (p .number-is) (p .count-is) (c .before .before .before .before .before .before .before .before .before .before .before .before .before .before .before .before .before .state-at .ensures) _ (p .tag-is) refl (let h = c .before .before .before .before .before .before .before .before .before .before .before .before .before .before .before .before .if3 .left in omega arith) (let h = c .before .before .before .before .before .before .before .before .before .before .before .before .before .before .before .if4 .left in omega arith) _ (c .before .before .before .before .before .before .before .before .before .before .before .before .before .row-in .ensures) _ (c .before .before .before .before .before .before .before .before .before .before .before .row-serves .ensures) (not-false _ (c .before .before .before .before .before .before .before .before .before .before .if5 .left)) _ (omega arith) _ _ (target-lacks _ (c .before .before .before .before .before .before .before .before .before .loop .inv) (c .before .before .before .before .before .before .before .before .loop-test .taken) _ (c .before .before .before .before .before .before .before .target-of .ensures) (c .before .before .before .before .before .before .if6 .left) _ _ (known-no _ _ _ _ _ (c .before .known .ensures) (c .if8 .taken)) refl)
-
-check-head-check-term-requires : (t : ℕ) → check-head-lts.Need-check-term-requires (
-  state-at-reads.Asked,
-  state-at-reads.Learnt,
-  row-in-reads.Asked,
-  row-in-reads.Learnt,
-  row-serves-reads.Asked,
-  row-serves-reads.Learnt,
-  target-of-reads.Asked,
-  target-of-reads.Learnt,
-  place-at-reads.Asked,
-  place-at-reads.Learnt,
-  known-reads.Asked,
-  known-reads.Learnt,
-  check-term-below t,
-  check-term.Post,
-) (check-head-at t) check-head.Post check-head-Inv-loop check-head-μ-loop
-check-head-check-term-requires t c κs = let p = c .before .before .before .before .before .before .before .before .before .before .before .before .before .before .before .before .before .before .before .before .before .before .before .before .before .before .before .before .before .pre .0 in let f = c .before .before .before .before .before .before .before .before .before .before .before .loop .inv .forward in let h = c .before .before .before .before .before .before .before .before .before .before .before .before .before .before .before .before .before .before .before .before .before .before .before .before .if1 .left in (omega arith, Prim.tt)
-
-check-head-same-length-4 : (t : ℕ) → check-head-lts.Need-same-length-4 (
-  state-at-reads.Asked,
-  state-at-reads.Learnt,
-  row-in-reads.Asked,
-  row-in-reads.Learnt,
-  row-serves-reads.Asked,
-  row-serves-reads.Learnt,
-  target-of-reads.Asked,
-  target-of-reads.Learnt,
-  place-at-reads.Asked,
-  place-at-reads.Learnt,
-  known-reads.Asked,
-  known-reads.Learnt,
-  check-term-below t,
-  check-term.Post,
-) (check-head-at t) check-head.Post check-head-Inv-loop check-head-μ-loop
-check-head-same-length-4 t c = c .before .before .before .check-term .ensures .keeps .long ∙ c .before .before .before .before .before .before .before .before .before .before .before .before .before .before .before .loop .inv .keeps .long
+check-head-same-length-3 t c = c .before .before .before .before .before .before .before .before .before .before .before .loop .inv .keeps .long
 
 check-head-returns-9 : (t : ℕ) → check-head-lts.Need-returns-9 (
   state-at-reads.Asked,
@@ -1303,16 +1274,16 @@ check-head-returns-9 : (t : ℕ) → check-head-lts.Need-returns-9 (
   row-serves-reads.Learnt,
   target-of-reads.Asked,
   target-of-reads.Learnt,
-  place-at-reads.Asked,
-  place-at-reads.Learnt,
+  end-of-reads.Asked,
+  end-of-reads.Learnt,
   known-reads.Asked,
   known-reads.Learnt,
   check-term-below t,
   check-term.Post,
 ) (check-head-at t) check-head.Post check-head-Inv-loop check-head-μ-loop
-check-head-returns-9 t c = λ p. targets-told _ _ _ _ _ _ _ (p .number-is) (p .count-is) (c .before .before .before .before .before .before .before .before .before .before .before .before .before .before .before .before .before .before .before .before .before .before .before .state-at .ensures) _ (p .tag-is) refl (let h = c .before .before .before .before .before .before .before .before .before .before .before .before .before .before .before .before .before .before .before .before .before .before .if3 .left in omega arith) (let h = c .before .before .before .before .before .before .before .before .before .before .before .before .before .before .before .before .before .before .before .before .before .if4 .left in omega arith) _ (c .before .before .before .before .before .before .before .before .before .before .before .before .before .before .before .before .before .before .before .row-in .ensures) _ (c .before .before .before .before .before .before .before .before .before .before .before .before .before .before .before .before .before .row-serves .ensures) (not-false _ (c .before .before .before .before .before .before .before .before .before .before .before .before .before .before .before .before .if5 .left)) _ (omega arith) _ _ (target-lacks _ (c .before .before .before .before .before .before .before .before .before .before .before .before .before .before .before .loop .inv) (c .before .before .before .before .before .before .before .before .before .before .before .before .before .before .loop-test .taken) _ (c .before .before .before .before .before .before .before .before .before .before .before .before .before .target-of .ensures) (c .before .before .before .before .before .before .before .before .before .before .before .before .if6 .left) _ _ (c .before .before .before .check-term .ensures) (not-true _ (c .if10 .taken)))
+check-head-returns-9 t c = λ z p. targets-told _ _ _ _ _ _ _ (p .number-is) (p .count-is) (c .before .before .before .before .before .before .before .before .before .before .before .before .before .before .before .before .before .before .before .state-at .ensures) _ (p .tag-is) z (let h = c .before .before .before .before .before .before .before .before .before .before .before .before .before .before .before .before .before .before .if4 .left in omega arith) (let h = c .before .before .before .before .before .before .before .before .before .before .before .before .before .before .before .before .before .if5 .left in omega arith) _ (c .before .before .before .before .before .before .before .before .before .before .before .before .before .before .before .row-in .ensures) _ (c .before .before .before .before .before .before .before .before .before .before .before .before .before .row-serves .ensures) (not-false _ (c .before .before .before .before .before .before .before .before .before .before .before .before .if6 .left)) _ (p .first-is) _ _ (target-lacks _ (c .before .before .before .before .before .before .before .before .before .before .before .loop .inv) (c .before .before .before .before .before .before .before .before .before .before .loop-test .taken) _ (c .before .before .before .before .before .before .before .before .before .target-of .ensures) (c .before .before .before .before .before .before .before .before .if7 .left) _ _ (known-no _ _ _ _ _ (c .before .known .ensures) (c .if9 .taken)) refl)
 
-check-head-loop-less : (t : ℕ) → check-head-lts.Need-loop-less (
+check-head-check-term-requires : (t : ℕ) → check-head-lts.Need-check-term-requires (
   state-at-reads.Asked,
   state-at-reads.Learnt,
   row-in-reads.Asked,
@@ -1321,16 +1292,16 @@ check-head-loop-less : (t : ℕ) → check-head-lts.Need-loop-less (
   row-serves-reads.Learnt,
   target-of-reads.Asked,
   target-of-reads.Learnt,
-  place-at-reads.Asked,
-  place-at-reads.Learnt,
+  end-of-reads.Asked,
+  end-of-reads.Learnt,
   known-reads.Asked,
   known-reads.Learnt,
   check-term-below t,
   check-term.Post,
 ) (check-head-at t) check-head.Post check-head-Inv-loop check-head-μ-loop
-check-head-loop-less t c = let h = c .before .before .before .before .before .before .before .before .before .before .before .before .before .before .loop-test .taken in omega arith
+check-head-check-term-requires t c κs = let p = c .before .before .before .before .before .before .before .before .before .before .before .before .before .before .before .before .before .before .before .before .before .before .before .before .before .before .before .before .before .before .pre .0 in let f = c .before .before .before .before .before .before .before .before .before .before .before .before .before .loop .inv .forward in let h = c .before .before .before .before .before .before .before .before .before .before .before .before .before .before .before .before .before .before .before .before .before .before .before .if3 .left in let g = c .before .before .before .before .before .before .before .before .before .before .before .before .before .before .before .before .before .before .before .before .before .before .before .before .before .before .before .before .before .before .fits .at in (omega arith, Prim.tt)
 
-check-head-loop-again : (t : ℕ) → check-head-lts.Need-loop-again (
+check-head-same-length-4 : (t : ℕ) → check-head-lts.Need-same-length-4 (
   state-at-reads.Asked,
   state-at-reads.Learnt,
   row-in-reads.Asked,
@@ -1339,68 +1310,14 @@ check-head-loop-again : (t : ℕ) → check-head-lts.Need-loop-again (
   row-serves-reads.Learnt,
   target-of-reads.Asked,
   target-of-reads.Learnt,
-  place-at-reads.Asked,
-  place-at-reads.Learnt,
+  end-of-reads.Asked,
+  end-of-reads.Learnt,
   known-reads.Asked,
   known-reads.Learnt,
   check-term-below t,
   check-term.Post,
 ) (check-head-at t) check-head.Post check-head-Inv-loop check-head-μ-loop
-check-head-loop-again t c = target-has _ (c .before .before .before .before .before .before .before .before .before .before .before .before .before .before .before .loop .inv) (c .before .before .before .before .before .before .before .before .before .before .before .before .before .before .loop-test .taken) _ (c .before .before .before .before .before .before .before .before .before .before .before .before .before .target-of .ensures) (c .before .before .before .before .before .before .before .before .before .before .before .before .if6 .left) _ _ (c .before .before .before .check-term .ensures) (not-false _ (c .if10 .left)) _ _ (c .before .before .before .before .before .before .before .before .before .before .before .place-at .ensures .value) (let h = c .before .before .before .before .before .before .before .before .before .before .if7 .left in omega arith) (omega arith)
-
-check-head-loop-less-2 : (t : ℕ) → check-head-lts.Need-loop-less-2 (
-  state-at-reads.Asked,
-  state-at-reads.Learnt,
-  row-in-reads.Asked,
-  row-in-reads.Learnt,
-  row-serves-reads.Asked,
-  row-serves-reads.Learnt,
-  target-of-reads.Asked,
-  target-of-reads.Learnt,
-  place-at-reads.Asked,
-  place-at-reads.Learnt,
-  known-reads.Asked,
-  known-reads.Learnt,
-  check-term-below t,
-  check-term.Post,
-) (check-head-at t) check-head.Post check-head-Inv-loop check-head-μ-loop
-check-head-loop-less-2 t c = let h = c .before .before .before .before .before .before .before .before .before .loop-test .taken in omega arith
-
-check-head-loop-again-2 : (t : ℕ) → check-head-lts.Need-loop-again-2 (
-  state-at-reads.Asked,
-  state-at-reads.Learnt,
-  row-in-reads.Asked,
-  row-in-reads.Learnt,
-  row-serves-reads.Asked,
-  row-serves-reads.Learnt,
-  target-of-reads.Asked,
-  target-of-reads.Learnt,
-  place-at-reads.Asked,
-  place-at-reads.Learnt,
-  known-reads.Asked,
-  known-reads.Learnt,
-  check-term-below t,
-  check-term.Post,
-) (check-head-at t) check-head.Post check-head-Inv-loop check-head-μ-loop
-check-head-loop-again-2 t c = target-has _ (c .before .before .before .before .before .before .before .before .before .before .loop .inv) (c .before .before .before .before .before .before .before .before .before .loop-test .taken) _ (c .before .before .before .before .before .before .before .before .target-of .ensures) (c .before .before .before .before .before .before .before .if6 .left) _ _ (known-yes _ _ _ _ _ (c .before .before .known .ensures) (c .if9 .left)) refl _ _ (c .before .before .before .before .before .before .place-at .ensures .value) (let h = c .before .before .before .before .before .if7 .left in omega arith) (omega arith)
-
-check-head-same-length-5 : (t : ℕ) → check-head-lts.Need-same-length-5 (
-  state-at-reads.Asked,
-  state-at-reads.Learnt,
-  row-in-reads.Asked,
-  row-in-reads.Learnt,
-  row-serves-reads.Asked,
-  row-serves-reads.Learnt,
-  target-of-reads.Asked,
-  target-of-reads.Learnt,
-  place-at-reads.Asked,
-  place-at-reads.Learnt,
-  known-reads.Asked,
-  known-reads.Learnt,
-  check-term-below t,
-  check-term.Post,
-) (check-head-at t) check-head.Post check-head-Inv-loop check-head-μ-loop
-check-head-same-length-5 t c = c .before .loop .inv .keeps .long
+check-head-same-length-4 t c = c .before .before .before .check-term .ensures .keeps .long ∙ c .before .before .before .before .before .before .before .before .before .before .before .before .before .before .before .before .before .loop .inv .keeps .long
 
 check-head-returns-10 : (t : ℕ) → check-head-lts.Need-returns-10 (
   state-at-reads.Asked,
@@ -1411,14 +1328,122 @@ check-head-returns-10 : (t : ℕ) → check-head-lts.Need-returns-10 (
   row-serves-reads.Learnt,
   target-of-reads.Asked,
   target-of-reads.Learnt,
-  place-at-reads.Asked,
-  place-at-reads.Learnt,
+  end-of-reads.Asked,
+  end-of-reads.Learnt,
   known-reads.Asked,
   known-reads.Learnt,
   check-term-below t,
   check-term.Post,
 ) (check-head-at t) check-head.Post check-head-Inv-loop check-head-μ-loop
-check-head-returns-10 t c = λ p. targets-told _ _ _ _ _ _ _ (p .number-is) (p .count-is) (c .before .before .before .before .before .before .before .before .before .state-at .ensures) _ (p .tag-is) refl (let h = c .before .before .before .before .before .before .before .before .if3 .left in omega arith) (let h = c .before .before .before .before .before .before .before .if4 .left in omega arith) _ (c .before .before .before .before .before .row-in .ensures) _ (c .before .before .before .row-serves .ensures) (not-false _ (c .before .before .if5 .left)) _ (omega arith) _ _ (args-end _ (c .before .loop .inv) (c .loop-test .left))
+check-head-returns-10 t c = λ z p. targets-told _ _ _ _ _ _ _ (p .number-is) (p .count-is) (c .before .before .before .before .before .before .before .before .before .before .before .before .before .before .before .before .before .before .before .before .before .before .before .before .before .state-at .ensures) _ (p .tag-is) z (let h = c .before .before .before .before .before .before .before .before .before .before .before .before .before .before .before .before .before .before .before .before .before .before .before .before .if4 .left in omega arith) (let h = c .before .before .before .before .before .before .before .before .before .before .before .before .before .before .before .before .before .before .before .before .before .before .before .if5 .left in omega arith) _ (c .before .before .before .before .before .before .before .before .before .before .before .before .before .before .before .before .before .before .before .before .before .row-in .ensures) _ (c .before .before .before .before .before .before .before .before .before .before .before .before .before .before .before .before .before .before .before .row-serves .ensures) (not-false _ (c .before .before .before .before .before .before .before .before .before .before .before .before .before .before .before .before .before .before .if6 .left)) _ (p .first-is) _ _ (target-lacks _ (c .before .before .before .before .before .before .before .before .before .before .before .before .before .before .before .before .before .loop .inv) (c .before .before .before .before .before .before .before .before .before .before .before .before .before .before .before .before .loop-test .taken) _ (c .before .before .before .before .before .before .before .before .before .before .before .before .before .before .before .target-of .ensures) (c .before .before .before .before .before .before .before .before .before .before .before .before .before .before .if7 .left) _ _ (c .before .before .before .check-term .ensures) (not-true _ (c .if11 .taken)))
+
+check-head-loop-less : (t : ℕ) → check-head-lts.Need-loop-less (
+  state-at-reads.Asked,
+  state-at-reads.Learnt,
+  row-in-reads.Asked,
+  row-in-reads.Learnt,
+  row-serves-reads.Asked,
+  row-serves-reads.Learnt,
+  target-of-reads.Asked,
+  target-of-reads.Learnt,
+  end-of-reads.Asked,
+  end-of-reads.Learnt,
+  known-reads.Asked,
+  known-reads.Learnt,
+  check-term-below t,
+  check-term.Post,
+) (check-head-at t) check-head.Post check-head-Inv-loop check-head-μ-loop
+check-head-loop-less t c = let h = c .before .before .before .before .before .before .before .before .before .before .before .before .before .before .before .before .loop-test .taken in omega arith
+
+check-head-loop-again : (t : ℕ) → check-head-lts.Need-loop-again (
+  state-at-reads.Asked,
+  state-at-reads.Learnt,
+  row-in-reads.Asked,
+  row-in-reads.Learnt,
+  row-serves-reads.Asked,
+  row-serves-reads.Learnt,
+  target-of-reads.Asked,
+  target-of-reads.Learnt,
+  end-of-reads.Asked,
+  end-of-reads.Learnt,
+  known-reads.Asked,
+  known-reads.Learnt,
+  check-term-below t,
+  check-term.Post,
+) (check-head-at t) check-head.Post check-head-Inv-loop check-head-μ-loop
+check-head-loop-again t c = target-has _ (c .before .before .before .before .before .before .before .before .before .before .before .before .before .before .before .before .before .loop .inv) (c .before .before .before .before .before .before .before .before .before .before .before .before .before .before .before .before .loop-test .taken) _ (c .before .before .before .before .before .before .before .before .before .before .before .before .before .before .before .target-of .ensures) (c .before .before .before .before .before .before .before .before .before .before .before .before .before .before .if7 .left) _ _ (c .before .before .before .check-term .ensures) (not-false _ (c .if11 .left)) _ _ (c .before .before .before .before .before .before .before .before .before .before .before .end-of .ensures) (let h = c .before .before .before .before .before .before .before .before .before .before .if8 .left in omega arith) (omega arith)
+
+check-head-loop-less-2 : (t : ℕ) → check-head-lts.Need-loop-less-2 (
+  state-at-reads.Asked,
+  state-at-reads.Learnt,
+  row-in-reads.Asked,
+  row-in-reads.Learnt,
+  row-serves-reads.Asked,
+  row-serves-reads.Learnt,
+  target-of-reads.Asked,
+  target-of-reads.Learnt,
+  end-of-reads.Asked,
+  end-of-reads.Learnt,
+  known-reads.Asked,
+  known-reads.Learnt,
+  check-term-below t,
+  check-term.Post,
+) (check-head-at t) check-head.Post check-head-Inv-loop check-head-μ-loop
+check-head-loop-less-2 t c = let h = c .before .before .before .before .before .before .before .before .before .before .before .loop-test .taken in omega arith
+
+check-head-loop-again-2 : (t : ℕ) → check-head-lts.Need-loop-again-2 (
+  state-at-reads.Asked,
+  state-at-reads.Learnt,
+  row-in-reads.Asked,
+  row-in-reads.Learnt,
+  row-serves-reads.Asked,
+  row-serves-reads.Learnt,
+  target-of-reads.Asked,
+  target-of-reads.Learnt,
+  end-of-reads.Asked,
+  end-of-reads.Learnt,
+  known-reads.Asked,
+  known-reads.Learnt,
+  check-term-below t,
+  check-term.Post,
+) (check-head-at t) check-head.Post check-head-Inv-loop check-head-μ-loop
+check-head-loop-again-2 t c = target-has _ (c .before .before .before .before .before .before .before .before .before .before .before .before .loop .inv) (c .before .before .before .before .before .before .before .before .before .before .before .loop-test .taken) _ (c .before .before .before .before .before .before .before .before .before .before .target-of .ensures) (c .before .before .before .before .before .before .before .before .before .if7 .left) _ _ (known-yes _ _ _ _ _ (c .before .before .known .ensures) (c .if10 .left)) refl _ _ (c .before .before .before .before .before .before .end-of .ensures) (let h = c .before .before .before .before .before .if8 .left in omega arith) (omega arith)
+
+check-head-same-length-5 : (t : ℕ) → check-head-lts.Need-same-length-5 (
+  state-at-reads.Asked,
+  state-at-reads.Learnt,
+  row-in-reads.Asked,
+  row-in-reads.Learnt,
+  row-serves-reads.Asked,
+  row-serves-reads.Learnt,
+  target-of-reads.Asked,
+  target-of-reads.Learnt,
+  end-of-reads.Asked,
+  end-of-reads.Learnt,
+  known-reads.Asked,
+  known-reads.Learnt,
+  check-term-below t,
+  check-term.Post,
+) (check-head-at t) check-head.Post check-head-Inv-loop check-head-μ-loop
+check-head-same-length-5 t c = c .before .loop .inv .keeps .long
+
+check-head-returns-11 : (t : ℕ) → check-head-lts.Need-returns-11 (
+  state-at-reads.Asked,
+  state-at-reads.Learnt,
+  row-in-reads.Asked,
+  row-in-reads.Learnt,
+  row-serves-reads.Asked,
+  row-serves-reads.Learnt,
+  target-of-reads.Asked,
+  target-of-reads.Learnt,
+  end-of-reads.Asked,
+  end-of-reads.Learnt,
+  known-reads.Asked,
+  known-reads.Learnt,
+  check-term-below t,
+  check-term.Post,
+) (check-head-at t) check-head.Post check-head-Inv-loop check-head-μ-loop
+check-head-returns-11 t c = λ z p. targets-told _ _ _ _ _ _ _ (p .number-is) (p .count-is) (c .before .before .before .before .before .before .before .before .before .state-at .ensures) _ (p .tag-is) z (let h = c .before .before .before .before .before .before .before .before .if4 .left in omega arith) (let h = c .before .before .before .before .before .before .before .if5 .left in omega arith) _ (c .before .before .before .before .before .row-in .ensures) _ (c .before .before .before .row-serves .ensures) (not-false _ (c .before .before .if6 .left)) _ (p .first-is) _ _ (args-end _ (c .before .loop .inv) (c .loop-test .left))
 
 check-term-element-copy-out-types : (t : ℕ) → check-term-lts.Need-element-copy-out-types (
   node-at-reads.Asked,
@@ -1448,7 +1473,7 @@ check-term-returns : (t : ℕ) → check-term-lts.Need-returns (
 ) (check-term-at t) check-term.Post
 check-term-returns t c = types-many _ _ _ _ (c .if1 .taken)
 
-check-term-returns-2 : (t : ℕ) → check-term-lts.Need-returns-2 (
+check-term-element-copy-out-node-at : (t : ℕ) → check-term-lts.Need-element-copy-out-node-at (
   node-at-reads.Asked,
   node-at-reads.Learnt,
   check-head-below t,
@@ -1460,7 +1485,21 @@ check-term-returns-2 : (t : ℕ) → check-term-lts.Need-returns-2 (
   check-choices-below t,
   check-choices.Post,
 ) (check-term-at t) check-term.Post
-check-term-returns-2 t c = term-past _ _ _ _ (c .if2 .taken)
+check-term-element-copy-out-node-at t c = search needs
+
+check-term-element-copy-out-node-at-2 : (t : ℕ) → check-term-lts.Need-element-copy-out-node-at-2 (
+  node-at-reads.Asked,
+  node-at-reads.Learnt,
+  check-head-below t,
+  check-head.Post,
+  learn-reads.Asked,
+  learn-reads.Learnt,
+  bare-has-reads.Asked,
+  bare-has-reads.Learnt,
+  check-choices-below t,
+  check-choices.Post,
+) (check-term-at t) check-term.Post
+check-term-element-copy-out-node-at-2 t c = search needs
 
 check-term-node-at-requires : (t : ℕ) → check-term-lts.Need-node-at-requires (
   node-at-reads.Asked,
@@ -1476,6 +1515,20 @@ check-term-node-at-requires : (t : ℕ) → check-term-lts.Need-node-at-requires
 ) (check-term-at t) check-term.Post
 check-term-node-at-requires t c κs = search needs
 
+check-term-returns-2 : (t : ℕ) → check-term-lts.Need-returns-2 (
+  node-at-reads.Asked,
+  node-at-reads.Learnt,
+  check-head-below t,
+  check-head.Post,
+  learn-reads.Asked,
+  learn-reads.Learnt,
+  bare-has-reads.Asked,
+  bare-has-reads.Learnt,
+  check-choices-below t,
+  check-choices.Post,
+) (check-term-at t) check-term.Post
+check-term-returns-2 t c = term-past _ _ _ _ (c .before .before .node-at .ensures .past (not-true _ (c .if2 .taken)))
+
 check-term-check-head-requires : (t : ℕ) → check-term-lts.Need-check-head-requires (
   node-at-reads.Asked,
   node-at-reads.Learnt,
@@ -1488,7 +1541,7 @@ check-term-check-head-requires : (t : ℕ) → check-term-lts.Need-check-head-re
   check-choices-below t,
   check-choices.Post,
 ) (check-term-at t) check-term.Post
-check-term-check-head-requires t c κs = let p = c .before .before .before .before .before .before .before .before .before .before .before .pre .0 in (omega arith, Prim.tt)
+check-term-check-head-requires t c κs = let p = c .before .before .before .before .before .before .before .before .before .before .before .before .pre .0 in (omega arith, Prim.tt)
 
 check-term-add-learn : (t : ℕ) → check-term-lts.Need-add-learn (
   node-at-reads.Asked,
@@ -1544,7 +1597,7 @@ check-term-same-length : (t : ℕ) → check-term-lts.Need-same-length (
   check-choices-below t,
   check-choices.Post,
 ) (check-term-at t) check-term.Post
-check-term-same-length t c = (term-learnt _ _ _ _ _ _ (c .before .before .before .before .before .before .before .check-head .ensures (placed-by (c .before .before .before .before .before .before .before .before .before .before .before .node-at .ensures (let h = c .before .before .before .before .before .before .before .before .before .before .before .before .if2 .left in omega arith)) (c .before .before .before .before .before .before .before .before .before .if3 .taken))) _ (c .before .before .learn .ensures)) .keeps .long
+check-term-same-length t c = (term-learnt _ _ _ _ _ _ (c .before .before .before .before .before .before .before .check-head .ensures (c .before .before .before .before .before .before .before .before .before .if3 .taken) (c .before .before .before .before .before .before .before .before .before .before .before .before .before .node-at .ensures .placed (not-false _ (c .before .before .before .before .before .before .before .before .before .before .before .if2 .left)))) _ (c .before .before .learn .ensures)) .keeps .long
 
 check-term-returns-3 : (t : ℕ) → check-term-lts.Need-returns-3 (
   node-at-reads.Asked,
@@ -1558,7 +1611,7 @@ check-term-returns-3 : (t : ℕ) → check-term-lts.Need-returns-3 (
   check-choices-below t,
   check-choices.Post,
 ) (check-term-at t) check-term.Post
-check-term-returns-3 t c = term-learnt _ _ _ _ _ _ (c .before .before .before .before .before .before .before .check-head .ensures (placed-by (c .before .before .before .before .before .before .before .before .before .before .before .node-at .ensures (let h = c .before .before .before .before .before .before .before .before .before .before .before .before .if2 .left in omega arith)) (c .before .before .before .before .before .before .before .before .before .if3 .taken))) _ (c .before .before .learn .ensures)
+check-term-returns-3 t c = term-learnt _ _ _ _ _ _ (c .before .before .before .before .before .before .before .check-head .ensures (c .before .before .before .before .before .before .before .before .before .if3 .taken) (c .before .before .before .before .before .before .before .before .before .before .before .before .before .node-at .ensures .placed (not-false _ (c .before .before .before .before .before .before .before .before .before .before .before .if2 .left)))) _ (c .before .before .learn .ensures)
 
 check-term-element-copy-out-own : (t : ℕ) → check-term-lts.Need-element-copy-out-own (
   node-at-reads.Asked,
@@ -1600,7 +1653,7 @@ check-term-returns-4 : (t : ℕ) → check-term-lts.Need-returns-4 (
   check-choices-below t,
   check-choices.Post,
 ) (check-term-at t) check-term.Post
-check-term-returns-4 t c = bare-checked _ _ _ _ _ _ _ (placed-head _ _ _ _ _ _ (c .before .before .before .before .if3 .left) refl (c .before .before .before .before .before .before .node-at .ensures (let h = c .before .before .before .before .before .before .before .if2 .left in omega arith))) (c .before .before .before .before .before .before .node-at .ensures (let h = c .before .before .before .before .before .before .before .if2 .left in omega arith) .count-is) (c .before .before .if4 .taken) (let h = c .before .before .before .before .before .before .before .if2 .left in omega arith) _ (c .bare-has .ensures)
+check-term-returns-4 t c = bare-checked _ _ _ _ _ _ _ (placed-head _ _ _ (c .before .before .before .before .before .if3 .left) (c .before .before .before .before .before .before .before .before .before .node-at .ensures .placed (not-false _ (c .before .before .before .before .before .before .before .if2 .left)))) (c .before .before .before .before .before .before .before .before .before .node-at .ensures .placed (not-false _ (c .before .before .before .before .before .before .before .if2 .left)) .count-is) (c .before .before .before .if4 .taken) (c .before .before .before .before .before .before .before .before .before .node-at .ensures .placed (not-false _ (c .before .before .before .before .before .before .before .if2 .left)) .inside) _ (c .bare-has .ensures)
 
 check-term-check-choices-requires : (t : ℕ) → check-term-lts.Need-check-choices-requires (
   node-at-reads.Asked,
@@ -1614,7 +1667,7 @@ check-term-check-choices-requires : (t : ℕ) → check-term-lts.Need-check-choi
   check-choices-below t,
   check-choices.Post,
 ) (check-term-at t) check-term.Post
-check-term-check-choices-requires t c κs = let p = c .before .before .before .before .before .before .before .before .before .before .before .before .before .pre .0 in (omega arith, Prim.tt)
+check-term-check-choices-requires t c κs = let p = c .before .before .before .before .before .before .before .before .before .before .before .before .before .before .pre .0 in (omega arith, Prim.tt)
 
 check-term-add-learn-2 : (t : ℕ) → check-term-lts.Need-add-learn-2 (
   node-at-reads.Asked,
@@ -1670,7 +1723,7 @@ check-term-same-length-2 : (t : ℕ) → check-term-lts.Need-same-length-2 (
   check-choices-below t,
   check-choices.Post,
 ) (check-term-at t) check-term.Post
-check-term-same-length-2 t c = (term-learnt _ _ _ _ _ _ (c .before .before .before .before .before .before .before .check-choices .ensures _ (c .before .before .before .before .before .before .before .before .before .before .before .if3 .left) refl (c .before .before .before .before .before .before .before .before .before .before .before .before .before .node-at .ensures (let h = c .before .before .before .before .before .before .before .before .before .before .before .before .before .before .if2 .left in omega arith))) _ (c .before .before .learn2 .ensures)) .keeps .long
+check-term-same-length-2 t c = (term-learnt _ _ _ _ _ _ (c .before .before .before .before .before .before .before .check-choices .ensures (c .before .before .before .before .before .before .before .before .before .before .before .if3 .left) (c .before .before .before .before .before .before .before .before .before .before .before .before .before .before .before .node-at .ensures .placed (not-false _ (c .before .before .before .before .before .before .before .before .before .before .before .before .before .if2 .left)))) _ (c .before .before .learn2 .ensures)) .keeps .long
 
 check-term-returns-5 : (t : ℕ) → check-term-lts.Need-returns-5 (
   node-at-reads.Asked,
@@ -1684,7 +1737,7 @@ check-term-returns-5 : (t : ℕ) → check-term-lts.Need-returns-5 (
   check-choices-below t,
   check-choices.Post,
 ) (check-term-at t) check-term.Post
-check-term-returns-5 t c = term-learnt _ _ _ _ _ _ (c .before .before .before .before .before .before .before .check-choices .ensures _ (c .before .before .before .before .before .before .before .before .before .before .before .if3 .left) refl (c .before .before .before .before .before .before .before .before .before .before .before .before .before .node-at .ensures (let h = c .before .before .before .before .before .before .before .before .before .before .before .before .before .before .if2 .left in omega arith))) _ (c .before .before .learn2 .ensures)
+check-term-returns-5 t c = term-learnt _ _ _ _ _ _ (c .before .before .before .before .before .before .before .check-choices .ensures (c .before .before .before .before .before .before .before .before .before .before .before .if3 .left) (c .before .before .before .before .before .before .before .before .before .before .before .before .before .before .before .node-at .ensures .placed (not-false _ (c .before .before .before .before .before .before .before .before .before .before .before .before .before .if2 .left)))) _ (c .before .before .learn2 .ensures)
 
 pub +check-args+check-choices+check-head+check-term-spec : {M : Type 1} → statement M
 +check-args+check-choices+check-head+check-term-spec =
@@ -1693,8 +1746,8 @@ pub +check-args+check-choices+check-head+check-term-spec : {M : Type 1} → stat
       members-of-reads.Learnt,
       wanted-reads.Asked,
       wanted-reads.Learnt,
-      place-at-reads.Asked,
-      place-at-reads.Learnt,
+      end-of-reads.Asked,
+      end-of-reads.Learnt,
       result-of-reads.Asked,
       result-of-reads.Learnt,
       known-reads.Asked,
@@ -1713,7 +1766,8 @@ pub +check-args+check-choices+check-head+check-term-spec : {M : Type 1} → stat
     (check-args-members-of-requires t)
     (check-args-loop-holds t)
     (check-args-wanted-requires t)
-    (check-args-place-at-requires t)
+    (check-args-element-copy-out-end-of t)
+    (check-args-end-of-requires t)
     (check-args-same-length t)
     (check-args-returns-2 t)
     (check-args-result-of-requires t)
@@ -1751,7 +1805,6 @@ pub +check-args+check-choices+check-head+check-term-spec : {M : Type 1} → stat
     check-choices-Inv-loop
     check-choices-μ-loop
     (check-choices-returns t)
-    (check-choices-add-first t)
     (check-choices-element-copy-out-types t)
     (check-choices-element-copy-out-span-of t)
     (check-choices-span-of-requires t)
@@ -1776,8 +1829,8 @@ pub +check-args+check-choices+check-head+check-term-spec : {M : Type 1} → stat
       row-serves-reads.Learnt,
       target-of-reads.Asked,
       target-of-reads.Learnt,
-      place-at-reads.Asked,
-      place-at-reads.Learnt,
+      end-of-reads.Asked,
+      end-of-reads.Learnt,
       known-reads.Asked,
       known-reads.Learnt,
       check-term-below t,
@@ -1787,39 +1840,40 @@ pub +check-args+check-choices+check-head+check-term-spec : {M : Type 1} → stat
     check-head.Post
     check-head-Inv-loop
     check-head-μ-loop
-    (check-head-returns t)
     (check-head-element-copy-out-types t)
-    (check-head-returns-2 t)
+    (check-head-returns t)
     (check-head-element-copy-out-constructors t)
-    (check-head-add-next t)
-    (check-head-state-at-requires t)
+    (check-head-returns-2 t)
     (check-head-returns-3 t)
+    (check-head-state-at-requires t)
     (check-head-returns-4 t)
+    (check-head-returns-5 t)
     (check-head-row-in-requires t)
     (check-head-row-serves-requires t)
-    (check-head-returns-5 t)
+    (check-head-returns-6 t)
     (check-head-loop-holds t)
     (check-head-target-of-requires t)
     (check-head-same-length t)
-    (check-head-returns-6 t)
-    (check-head-place-at-requires t)
-    (check-head-same-length-2 t)
     (check-head-returns-7 t)
+    (check-head-element-copy-out-end-of t)
+    (check-head-end-of-requires t)
+    (check-head-same-length-2 t)
+    (check-head-returns-8 t)
     (check-head-add-i t)
     (check-head-add-known t)
     (check-head-element-copy-out-known t)
     (check-head-known-requires t)
     (check-head-same-length-3 t)
-    (check-head-returns-8 t)
+    (check-head-returns-9 t)
     (check-head-check-term-requires t)
     (check-head-same-length-4 t)
-    (check-head-returns-9 t)
+    (check-head-returns-10 t)
     (check-head-loop-less t)
     (check-head-loop-again t)
     (check-head-loop-less-2 t)
     (check-head-loop-again-2 t)
     (check-head-same-length-5 t)
-    (check-head-returns-10 t))
+    (check-head-returns-11 t))
     λ t. check-term-lts.spec (
       node-at-reads.Asked,
       node-at-reads.Learnt,
@@ -1836,8 +1890,10 @@ pub +check-args+check-choices+check-head+check-term-spec : {M : Type 1} → stat
     check-term.Post
     (check-term-element-copy-out-types t)
     (check-term-returns t)
-    (check-term-returns-2 t)
+    (check-term-element-copy-out-node-at t)
+    (check-term-element-copy-out-node-at-2 t)
     (check-term-node-at-requires t)
+    (check-term-returns-2 t)
     (check-term-check-head-requires t)
     (check-term-add-learn t)
     (check-term-element-copy-out-learn t)
