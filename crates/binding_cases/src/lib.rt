@@ -7,8 +7,6 @@ use goals::fill_owns;
 use groups::fill_groups;
 use rounds::shrink;
 use row_places::fill_rows;
-ghost use mathlib.Core.Path.{_≡_};
-ghost use lib.ListN.{length};
 ghost use Rattle.binding_cases.specs.Judging.{StartsAt, FindsStart, JudgesBindings};
 
 // What comes of the bindings offered: whether the start binding is kept, how many are kept and how many were offered, and

@@ -7,7 +7,7 @@ use sort_steps::parameter;
 use sort_steps::parameter_sorts;
 ghost use mathlib.Core.Path.{_≡_};
 ghost use mathlib.Core.Bool.{_&&_, true, false};
-ghost use Prim.Native.Nat.{_+_, _<_, _≤_, _/_};
+ghost use Prim.Native.Nat.{_+_, _<_, _/_};
 ghost use lib.Dec.{eqb};
 ghost use lib.ListN.{length, getD};
 ghost use Rattle.records.specs.Fields.{IsField};

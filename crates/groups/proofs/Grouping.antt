@@ -4,11 +4,11 @@ use native.Mathlib.Nat.{add-zero}
 use native.Mathlib.Omega.{arith}
 use native.Mathlib.Decide.{decLt, ℕ-discrete}
 use mathlib.Core.Path.{_≡_, refl, sym, ap, subst, _∙_}
-use mathlib.Core.Bool.{Bool, true, false, _&&_, _||_, not}
-use mathlib.Core.List.{List, [], _∷_}
+use mathlib.Core.Bool.{Bool, true, false, _&&_, _||_}
+use mathlib.Core.List.{List, []}
 use borrow.Author.Tests.{eqb-true, ltb-true, not-false}
 use lib.Dec.{eqb, ltb}
-use lib.ListN.{length, getD, set, take, length-set}
+use lib.ListN.{length, getD, set, length-set}
 use lib.Seq.{getD-set-same, getD-set-other, getD-take, length-take-le}
 use Rattle.records.specs.Fields.{word}
 use Rattle.records.specs.Records.{Record}
@@ -16,9 +16,8 @@ use Rattle.casefile.specs.Kinds.{Kind, payloads}
 use Rattle.casefile.specs.Refusals.{wrongLength, before, follows, misplaced}
 use Rattle.casefile.proofs.Passed.{Passed, entry}
 use Rattle.casefile.proofs.TypeTable.{count-payloads}
-use Rattle.entries.specs.Index.{Indexed}
 use Rattle.entries.proofs.Earlier.{inOrder, follows-last}
-use Rattle.groups.specs.Groups.{nonterminalIn, nonterminalOf, Sought, Grouped, Fills, Sofar}
+use Rattle.groups.specs.Groups.{nonterminalIn, nonterminalOf, Sought, Fills, Sofar}
 
 -- while a group is sought: the numbers before i were passed
 pub record Seeking (g : ℕ → ℕ) (n from f i : ℕ) : Type 0 where

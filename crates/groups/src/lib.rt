@@ -1,7 +1,6 @@
 // The bindings of a file, grouped by nonterminal.
 use entries::place_at;
 use records::word_at;
-ghost use mathlib.Core.Path.{_≡_};
 ghost use Rattle.groups.specs.Groups.{Seeks, Fills};
 
 // The number of the first binding, from one on, whose nonterminal is f or a later one; n where there is none.

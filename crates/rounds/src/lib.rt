@@ -7,7 +7,6 @@ use entries::place_at;
 use lookup::entry;
 use memo::ready;
 use touched::touched;
-ghost use mathlib.Core.Path.{_≡_};
 ghost use Rattle.rounds.specs.Shrinking.{Retests, Marks, Turns, Copies, Shrinks};
 
 // The flag of a binding after its test, and the number of the last test.

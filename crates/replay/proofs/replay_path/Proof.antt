@@ -28,7 +28,7 @@ run-requires : tie.Need-run-requires
 run-requires c κs = search needs
 
 returns : tie.Need-returns
-returns c = replay-answer (c .before .before .before .before .before .before .before .before .before .before .before .before .place-at .ensures .value) (c .before .before .before .before .before .before .before .place-at2 .ensures .value) (c .before .before .before .before .before .place-at3 .ensures .value) (c .before .before .before .before .before .before .before .before .before .before .before .moves .ensures) _ (c .before .before .before .before .before .before .before .before .before .entry .ensures) 520 refl (λ short. let few = c .before .before .before .before .if1 .taken in omega arith) (c .before .run .ensures)
+returns c = replay-answer (c .before .before .before .before .before .before .before .before .before .before .before .before .place-at .ensures .value) (c .before .before .before .before .before .before .before .place-at2 .ensures .value) (c .before .before .before .before .before .place-at3 .ensures .value) (c .before .before .before .before .before .before .before .before .before .before .before .moves .ensures) _ (c .before .before .before .before .before .before .before .before .before .entry .ensures) 136 refl (λ short. let few = c .before .before .before .before .if1 .taken in omega arith) (c .before .run .ensures)
 
 slice-aggregate-run-2 : tie.Need-slice-aggregate-run-2
 slice-aggregate-run-2 c = search needs
@@ -37,7 +37,7 @@ run-requires-2 : tie.Need-run-requires-2
 run-requires-2 c κs = search needs
 
 returns-2 : tie.Need-returns-2
-returns-2 c = replay-answer (c .before .before .before .before .before .before .before .before .before .before .before .before .before .place-at .ensures .value) (c .before .before .before .before .before .before .before .before .place-at2 .ensures .value) (c .before .before .before .before .before .before .place-at3 .ensures .value) (c .before .before .before .before .before .before .before .before .before .before .before .before .moves .ensures) _ (c .before .before .before .before .before .before .before .before .before .before .entry .ensures) 4104 refl (λ short. let few = c .before .before .before .before .if2 .taken in omega arith) (c .before .run2 .ensures)
+returns-2 c = replay-answer (c .before .before .before .before .before .before .before .before .before .before .before .before .before .place-at .ensures .value) (c .before .before .before .before .before .before .before .before .place-at2 .ensures .value) (c .before .before .before .before .before .before .place-at3 .ensures .value) (c .before .before .before .before .before .before .before .before .before .before .before .before .moves .ensures) _ (c .before .before .before .before .before .before .before .before .before .before .entry .ensures) 520 refl (λ short. let few = c .before .before .before .before .if2 .taken in omega arith) (c .before .run2 .ensures)
 
 slice-aggregate-run-3 : tie.Need-slice-aggregate-run-3
 slice-aggregate-run-3 c = search needs
@@ -46,7 +46,16 @@ run-requires-3 : tie.Need-run-requires-3
 run-requires-3 c κs = search needs
 
 returns-3 : tie.Need-returns-3
-returns-3 c = replay-answer (c .before .before .before .before .before .before .before .before .before .before .before .before .before .place-at .ensures .value) (c .before .before .before .before .before .before .before .before .place-at2 .ensures .value) (c .before .before .before .before .before .before .place-at3 .ensures .value) (c .before .before .before .before .before .before .before .before .before .before .before .before .moves .ensures) _ (c .before .before .before .before .before .before .before .before .before .before .entry .ensures) 32776 refl (λ short. omega arith) (c .before .run3 .ensures)
+returns-3 c = replay-answer (c .before .before .before .before .before .before .before .before .before .before .before .before .before .before .place-at .ensures .value) (c .before .before .before .before .before .before .before .before .before .place-at2 .ensures .value) (c .before .before .before .before .before .before .before .place-at3 .ensures .value) (c .before .before .before .before .before .before .before .before .before .before .before .before .before .moves .ensures) _ (c .before .before .before .before .before .before .before .before .before .before .before .entry .ensures) 4104 refl (λ short. let few = c .before .before .before .before .if3 .taken in omega arith) (c .before .run3 .ensures)
+
+slice-aggregate-run-4 : tie.Need-slice-aggregate-run-4
+slice-aggregate-run-4 c = search needs
+
+run-requires-4 : tie.Need-run-requires-4
+run-requires-4 c κs = search needs
+
+returns-4 : tie.Need-returns-4
+returns-4 c = replay-answer (c .before .before .before .before .before .before .before .before .before .before .before .before .before .before .place-at .ensures .value) (c .before .before .before .before .before .before .before .before .before .place-at2 .ensures .value) (c .before .before .before .before .before .before .before .place-at3 .ensures .value) (c .before .before .before .before .before .before .before .before .before .before .before .before .before .moves .ensures) _ (c .before .before .before .before .before .before .before .before .before .before .before .entry .ensures) 32776 refl (λ short. omega arith) (c .before .run4 .ensures)
 
 pub replay-path-spec : {M : Type 1} → statement M
 replay-path-spec =
@@ -65,4 +74,7 @@ replay-path-spec =
     returns-2
     slice-aggregate-run-3
     run-requires-3
-    returns-3)
+    returns-3
+    slice-aggregate-run-4
+    run-requires-4
+    returns-4)

@@ -1,5 +1,5 @@
 -- `check_term`, `check_head`, `check_choices` and `check_args` meet their contracts.
-use Prim.Native.Nat.{_+_, _-_, _*_, _/_}
+use Prim.Native.Nat.{_+_, _-_, _*_}
 use mathlib.Core.Path.{refl, _∙_}
 use mathlib.Core.Bool.{true, false}
 use mathlib.Core.List.{[]}
