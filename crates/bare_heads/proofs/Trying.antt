@@ -15,7 +15,7 @@ use Rattle.records.specs.Records.{Record}
 use Rattle.casefile.specs.Kinds.{Kind}
 use Rattle.casefile.specs.Tables.{bindingsOf}
 use Rattle.entries.specs.Index.{Indexed}
-use Rattle.groups.specs.Groups.{Grouped}
+use Rattle.groups.specs.Groups.{Grouped, HasGroup}
 use Rattle.goals.specs.Goals.{Goal, Typed}
 use Rattle.goals.proofs.Goals.{goal-below}
 use Rattle.arrows.specs.Arrows.{off}
@@ -37,7 +37,7 @@ module _ (file index : List ℕ) (n : ℕ) (groups kept : List ℕ) (own : ℕ) 
 
   -- none of those before number j is
   pub record Tried (j : ℕ) : Type 0 where
-    pub rest : (rs : List Record) (m : ℕ) → Typed file index n rs → Indexed file index Kind.binding m rs → m ≤ 1024 → Grouped rs m groups → (nonterminal ≡ true → suc number < length groups)
+    pub rest : (rs : List Record) (m : ℕ) → Typed file index n rs → Indexed file index Kind.binding m rs → m ≤ 1024 → Grouped rs m groups → (nonterminal ≡ true → HasGroup rs groups number)
         → (aut : Automaton) (τ σ : Ty) → Goal rs n own τ → Goal rs n goal σ → any (λ υ. same υ σ) (headTypes aut (chosen kept (bindingsOf rs)) (domains τ) (headIs nonterminal number)) ≡ anyIn (span .high - j) j (Is rs τ σ)
 
   module _ (spans : Spans file index n groups own nonterminal number span) where
@@ -49,7 +49,7 @@ module _ (file index : List ℕ) (n : ℕ) (groups kept : List ℕ) (own : ℕ) 
       tried-end h = record { answer = λ rs m ty ix few g room aut τ σ x y. sym (w .rest rs m ty ix few g room aut τ σ x y ∙ anyIn-end (span .high) j (Is rs τ σ) h) }
 
       module _ (l : j < span .high) (t : ℕ) (cand : Candidates file index n kept nonterminal (span .given) j 0 goal t) where
-        found-here : (rs : List Record) (m : ℕ) → Typed file index n rs → Indexed file index Kind.binding m rs → m ≤ 1024 → Grouped rs m groups → (nonterminal ≡ true → suc number < length groups)
+        found-here : (rs : List Record) (m : ℕ) → Typed file index n rs → Indexed file index Kind.binding m rs → m ≤ 1024 → Grouped rs m groups → (nonterminal ≡ true → HasGroup rs groups number)
             → (τ σ : Ty) → Goal rs n own τ → Goal rs n goal σ → Found rs n (candidateTy rs kept τ nonterminal number j) 0 σ t
         found-here rs m ty ix few g room τ σ x y = go nonterminal refl
           where

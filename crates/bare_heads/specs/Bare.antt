@@ -13,11 +13,11 @@ use Rattle.records.specs.Records.{Record}
 use Rattle.casefile.specs.Kinds.{Kind}
 use Rattle.casefile.specs.Tables.{bindingsOf}
 use Rattle.entries.specs.Index.{Indexed}
-use Rattle.groups.specs.Groups.{Grouped}
+use Rattle.groups.specs.Groups.{Grouped, HasGroup}
 use Rattle.goals.specs.Goals.{Goal, Typed}
 use Rattle.candidates.specs.Candidates.{headIs}
 
 -- r says whether the goal is among the types of a nonterminal or a parameter, in the body of a binding with type `own`
 pub record HasBare (file index : List ℕ) (n : ℕ) (groups kept : List ℕ) (own : ℕ) (nonterminal : Bool) (number goal : ℕ) (r : Bool) : Type 0 where
-  pub answer : (rs : List Record) (m : ℕ) → Typed file index n rs → Indexed file index Kind.binding m rs → m ≤ 1024 → Grouped rs m groups → (nonterminal ≡ true → suc number < length groups)
+  pub answer : (rs : List Record) (m : ℕ) → Typed file index n rs → Indexed file index Kind.binding m rs → m ≤ 1024 → Grouped rs m groups → (nonterminal ≡ true → HasGroup rs groups number)
       → (aut : Automaton) (τ σ : Ty) → Goal rs n own τ → Goal rs n goal σ → r ≡ any (λ υ. same υ σ) (headTypes aut (chosen kept (bindingsOf rs)) (domains τ) (headIs nonterminal number))

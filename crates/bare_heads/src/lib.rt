@@ -9,7 +9,7 @@ pub fn bare_has(
     index: &[u16; 8034],
     types: usize,
     groups: &[u16; 257],
-    kept: &[u8; 1024],
+    kept: &[u8; 66560],
     own: usize,
     nonterminal: bool,
     number: usize,

@@ -19,7 +19,7 @@ use Rattle.scheme.specs.Acceptance.{isStart}
 use Rattle.scheme.proofs.Lists.{and-no, getD-map-in}
 use Rattle.records.specs.Fields.{word}
 use Rattle.records.specs.Records.{Record}
-use Rattle.casefile.specs.Kinds.{Kind, payloads}
+use Rattle.casefile.specs.Kinds.{Kind, payloads, count}
 use Rattle.casefile.specs.Tables.{typesOf, bindingsOf}
 use Rattle.casefile.proofs.Passed.{entry}
 use Rattle.casefile.proofs.TypeTable.{count-payloads}
@@ -93,9 +93,9 @@ none-yet index counts flags last = record { none-starts = λ n rs w ix few l i h
 
 module _ (index counts groups flags : List ℕ) where
   -- a binding below the entry of nonterminal 1 is of nonterminal 0, and no other
-  module _ {file : List ℕ} (n last : ℕ) (rs : List Record) (ix : Indexed file index Kind.binding n rs) (grouped : Grouped rs n groups) (room : 1 < length groups) (is : IsPlace groups 1 last) where
+  module _ {file : List ℕ} (n last : ℕ) (rs : List Record) (ix : Indexed file index Kind.binding n rs) (grouped : Grouped rs n groups) (some : 1 ≤ count Kind.nonterminal rs) (is : IsPlace groups 1 last) where
     within : last ≤ n
-    within = let a = grouped .within 1 room in let b = is .value in omega arith
+    within = let a = grouped .within 1 some in let b = is .value in omega arith
 
     listed : n ≡ length (payloads Kind.binding rs)
     listed = sym (ix .counted) ∙ count-payloads Kind.binding rs
@@ -104,7 +104,7 @@ module _ (index counts groups flags : List ℕ) where
     unfolding isStart
     starts-low i h =
         let v = is .value in
-        let low = grouped .below 1 i room (omega arith) in
+        let low = grouped .below 1 i some (omega arith) in
         let w = within in
         let l = listed in
         let zero-there : getD (bindingsOf rs) i noBinding .nonterminal ≡ 0 = ap (λ (x : Binding). x .nonterminal) (binding-at rs i (omega arith)) ∙ (let z : nonterminalOf rs i ≡ 0 = omega arith in z) in
@@ -114,7 +114,7 @@ module _ (index counts groups flags : List ℕ) where
     unfolding isStart
     starts-high i h k =
         let v = is .value in
-        let high = grouped .from-on 1 i room (omega arith) k in
+        let high = grouped .from-on 1 i some (omega arith) k in
         let l = listed in
         let there : getD (bindingsOf rs) i noBinding .nonterminal ≡ nonterminalOf rs i = ap (λ (x : Binding). x .nonterminal) (binding-at rs i (omega arith)) in
         ap (λ x. x && same (getD (bindingsOf rs) i noBinding .type) (state 0)) (ne-eqb (getD (bindingsOf rs) i noBinding .nonterminal) 0 (λ z. omega arith))
@@ -130,29 +130,29 @@ module _ (index counts groups flags : List ℕ) where
       pub start-found : r ≡ true → FindsStart index counts groups flags true
       start-found e =
           record {
-            answer = λ n rs w ix few grouped room enough.
-                let l = within n last rs ix grouped room is in
+            answer = λ n rs w ix few grouped some enough.
+                let l = within n last rs ix grouped some is in
                 let many = bindings-many rs in
                 let counted = ix .counted in
                 sym (any-some isStart flags (bindingsOf rs) b noBinding (omega arith)
-                (ap (isKept (getD flags b 0) &&_) (starts-low n last rs ix grouped room is b h) ∙ sym (here n rs w ix few l) ∙ e));
+                (ap (isKept (getD flags b 0) &&_) (starts-low n last rs ix grouped some is b h) ∙ sym (here n rs w ix few l) ∙ e));
           }
 
     pub start-none : last ≤ b → FindsStart index counts groups flags false
     start-none h =
         record {
-          answer = λ n rs w ix few grouped room enough.
-              let l = within n last rs ix grouped room is in
+          answer = λ n rs w ix few grouped some enough.
+              let l = within n last rs ix grouped some is in
               let many = bindings-many rs in
               let counted = ix .counted in
-              sym (any-none isStart flags (bindingsOf rs) noBinding (λ i k. each n rs w ix few grouped room l i (omega arith) (decLt i last)));
+              sym (any-none isStart flags (bindingsOf rs) noBinding (λ i k. each n rs w ix few grouped some l i (omega arith) (decLt i last)));
         }
       where
-        each : {file : List ℕ} (n : ℕ) (rs : List Record) → Typed file index (getD counts 7 0) rs → Indexed file index Kind.binding n rs → n ≤ 1024 → Grouped rs n groups → 1 < length groups → last ≤ n → (i : ℕ) → i < n → Dec (i < last)
+        each : {file : List ℕ} (n : ℕ) (rs : List Record) → Typed file index (getD counts 7 0) rs → Indexed file index Kind.binding n rs → n ≤ 1024 → Grouped rs n groups → 1 ≤ count Kind.nonterminal rs → last ≤ n → (i : ℕ) → i < n → Dec (i < last)
             → (isKept (getD flags i 0) && isStart (getD (bindingsOf rs) i noBinding)) ≡ false
-        each n rs w ix few grouped room l i k (yes j) = ap (isKept (getD flags i 0) &&_) (starts-low n last rs ix grouped room is i j) ∙ none .none-starts n rs w ix few l i (omega arith)
-        each n rs w ix few grouped room l i k (no j) = ap (isKept (getD flags i 0) &&_) (starts-high n last rs ix grouped room is i (omega arith) k) ∙ and-no (isKept (getD flags i 0))
+        each n rs w ix few grouped some l i k (yes j) = ap (isKept (getD flags i 0) &&_) (starts-low n last rs ix grouped some is i j) ∙ none .none-starts n rs w ix few l i (omega arith)
+        each n rs w ix few grouped some l i k (no j) = ap (isKept (getD flags i 0) &&_) (starts-high n last rs ix grouped some is i (omega arith) k) ∙ and-no (isKept (getD flags i 0))
 
   -- there is no flag for each
   pub start-few : (last : ℕ) → IsPlace groups 1 last → length flags < last → FindsStart index counts groups flags false
-  start-few last is h = record { answer = λ n rs w ix few grouped room enough. absurd (let l = within n last rs ix grouped room is in omega arith) }
+  start-few last is h = record { answer = λ n rs w ix few grouped some enough. absurd (let l = within n last rs ix grouped some is in omega arith) }

@@ -6,7 +6,7 @@ use mathlib.Core.Path.{_≡_, sym, ap, subst, _∙_}
 use mathlib.Core.Bool.{Bool, _&&_, _||_, not}
 use mathlib.Core.List.{List, [], _∷_, _++_}
 use mathlib.Core.Option.{none}
-use borrow.Author.Tests.{ltb-false}
+use borrow.Author.Tests.{ltb-false, eqb-false}
 use lib.Dec.{eqb, ltb}
 use lib.ListN.{length, getD, take, drop, replicate, length-replicate, getD-replicate}
 use lib.Seq.{take-at}
@@ -15,6 +15,7 @@ use Rattle.scheme.specs.Types.{Ty, state, arrow, Tys}
 use Rattle.scheme.specs.Rounds.{kept}
 use Rattle.scheme.specs.Flags.{chosen, keptFlags}
 use Rattle.scheme.specs.Acceptance.{isStart, accepts}
+use Rattle.scheme.proofs.Lists.{or-false}
 use Rattle.scheme.proofs.Flags.{chosen-kept, keptFlags-length}
 use Rattle.records.specs.Records.{Record}
 use Rattle.records.proofs.Fields.{Bytes}
@@ -54,12 +55,22 @@ enough-flags rs flags e =
     let last = first-both others ((refuse 12 at 0 when ltb flags (count Kind.binding rs)) ∷ []) b .1 in
     ltb-false flags (count Kind.binding rs) (first-none 12 0 (ltb flags (count Kind.binding rs)) [] last .0)
 
+-- 8 is not met: there is a nonterminal
+some-nonterminal : (rs : List Record) (flags : ℕ) → refuseWhole rs flags ≡ none → 1 ≤ count Kind.nonterminal rs
+unfolding refuseWhole
+some-nonterminal rs flags e =
+    let (a, b) = first-none 8 0 (eqb (count Kind.states rs) 0 || eqb (count Kind.nonterminal rs) 0 || not (eqb (count Kind.rule rs) (count Kind.nonterminal rs))) _ e in
+    let d = or-false (eqb (count Kind.states rs) 0 || eqb (count Kind.nonterminal rs) 0) (not (eqb (count Kind.rule rs) (count Kind.nonterminal rs))) a .0 in
+    let z = or-false (eqb (count Kind.states rs) 0) (eqb (count Kind.nonterminal rs) 0) d .1 in
+    let other = eqb-false (count Kind.nonterminal rs) 0 z in
+    omega arith
+
 module _ {file index lens counts : List ℕ} {rs : List Record} (known : Known file index lens counts rs) (ok : Passed rs) (bytes : Bytes file) (typed : Typed file index (getD counts 7 0) rs) where
-  ready : {ends : List ℕ} → EndsAre rs ends → (flags : ℕ) → refuseWhole rs flags ≡ none → (groups : List ℕ) → length groups ≡ 257 → Fills file index (getD counts 8 0) (replicate 257 (getD counts 8 0)) groups
+  ready : {ends : List ℕ} → EndsAre rs ends → (flags : ℕ) → refuseWhole rs flags ≡ none → (groups : List ℕ) → 257 ≤ length groups → Grouped rs (getD counts 8 0) groups
       → (firsts : List ℕ) → ((f : ℕ) → f < getD counts 4 0 → getD firsts f 0 ≡ firstNode rs f) → ((f : ℕ) → f < getD counts 4 0 → length (ruleOf rs f) / 4 ≤ getD firsts 256 0) → RowsFor file index rs
       → Ready file index counts groups firsts ends rs
   unfolding number
-  ready ends-are flags whole groups long fills firsts first-nodes most rows =
+  ready ends-are flags whole groups long grouped firsts first-nodes most rows =
       record {
         lens = lens;
         bytes = bytes;
@@ -68,8 +79,8 @@ module _ {file index lens counts : List ℕ} {rs : List Record} (known : Known f
         typed = typed;
         rules-all = plan-right rs flags whole .rules-all;
         bodies = whole-body ok flags whole;
-        groups-long = long;
-        grouped = subst (λ n. Grouped rs n groups) (sym (known .entries Kind.binding .counted)) (fills (λ e h. getD-replicate 257 e (getD counts 8 0) 0 (let l = length-replicate {A = ℕ} 257 (getD counts 8 0) in omega arith)) rs ok (known .entries Kind.binding) (known .fits Kind.binding));
+        groups-long = let c = known .entries Kind.nonterminal .counted in let f = known .fits Kind.nonterminal in omega arith;
+        grouped = subst (λ n. Grouped rs n groups) (sym (known .entries Kind.binding .counted)) grouped;
         firsts-are = λ f h. first-nodes f (let c = known .entries Kind.rule .counted in omega arith);
         most-are = λ f h. most f (let c = known .entries Kind.rule .counted in omega arith);
         ends-are = ends-are;
@@ -94,10 +105,10 @@ module _ {file index lens counts : List ℕ} {rs : List Record} (known : Known f
       let written : flags ≡ keptFlags test bs ++ drop (count Kind.binding rs) lent = shrinks .flags-are rs w enough in
       let taken : take (length bs) flags ≡ keptFlags test bs = ap (take (length bs)) written ∙ take-at (keptFlags test bs) (drop (count Kind.binding rs) lent) (length bs) many-kept in
       let chose : chosen flags bs ≡ kept test bs = sym (chosen-take flags bs) ∙ ap (λ fs. chosen fs bs) taken ∙ chosen-kept test bs in
-      let groups-257 = w .groups-long in
+      let some = some-nonterminal rs (length lent) whole in
       let grouped : Grouped rs (getD counts 8 0) groups = subst (λ n. Grouped rs n groups) counted (w .grouped) in
       record {
-        accepted-is = starts .answer (getD counts 8 0) rs typed (known .entries Kind.binding) fits grouped (omega arith) (omega arith) ∙ ap (any isStart) chose;
+        accepted-is = starts .answer (getD counts 8 0) rs typed (known .entries Kind.binding) fits grouped some (omega arith) ∙ ap (any isStart) chose;
         kept-is = shrinks .kept-are rs w enough;
         total-is = let all : total ≡ length bs = omega arith in all;
         rounds-are = shrinks .rounds-are rs w enough;
@@ -151,12 +162,12 @@ owns-kept before index n rs few same w b h = subst (λ x. Goal rs n x (getD (typ
 module _ (file before counts ends lent flags : List ℕ) (r : Bool) (many rounds : ℕ) where
   pub judged : Bytes file → 8034 ≤ length before → (total : ℕ) → IsPlace counts 8 total → (types : ℕ) → IsPlace counts 7 types → (second third index : List ℕ) → FillsGoals file before types second → FillsOwns file second types total third
       → (transitions : ℕ) → IsPlace counts 6 transitions → FillsRows file third transitions index
-      → (groups : List ℕ) → length groups ≡ 257 → Fills file index total (replicate 257 total) groups
-      → (rules : ℕ) → IsPlace counts 4 rules → (cleared firsts : List ℕ) → length cleared ≡ 257 → FillsFirsts file index rules cleared firsts
+      → (nonterminals : ℕ) → IsPlace counts 3 nonterminals → (lent-groups groups : List ℕ) → 257 ≤ length lent-groups → Fills file index total nonterminals lent-groups groups
+      → (rules : ℕ) → IsPlace counts 4 rules → (lent-firsts firsts : List ℕ) → 257 ≤ length lent-firsts → FillsFirsts file index rules lent-firsts firsts
       → Shrinks file index counts groups firsts ends lent flags many rounds → FindsStart index counts groups flags r
       → JudgesBindings file before counts ends lent flags r many total rounds
   unfolding number
-  judged bytes enough total et types ey second third index fills-goals fills-owns transitions em fills-rows groups long fills rules er cleared firsts has-room fills-firsts shrinks starts =
+  judged bytes enough total et types ey second third index fills-goals fills-owns transitions em fills-rows nonterminals en lent-groups groups room fills rules er lent-firsts firsts has-room fills-firsts shrinks starts =
       record {
         judged = λ lens rs known₀ ok ends-are whole.
             let known₁ : Known file second lens counts rs = known-same (fills-goals .stays) known₀ in
@@ -179,6 +190,10 @@ module _ (file before counts ends lent flags : List ℕ) (r : Bool) (many rounds
             let most : (f : ℕ) → f < getD counts 4 0 → length (ruleOf rs f) / 4 ≤ getD firsts 256 0 = λ f h. fills-firsts .most rs ok all-rules few-rules (omega arith) f (let b = er .value in omega arith) in
             let rows = fills-rows .rows rs ok (subst (λ n. Indexed file third Kind.transition n rs) (sym (em .value)) (known₂ .entries Kind.transition)) (let a = known₂ .fits Kind.transition in let b = em .value in omega arith) (omega (arith, fills-owns .long, fills-goals .long)) in
             let here : Typed file index (getD counts 7 0) rs = subst (λ n. Typed file index n rs) (ey .value) typed in
-            let w = ready known ok bytes here ends-are (length lent) whole groups long (subst (λ n. Fills file index n (replicate 257 n) groups) (et .value) fills) firsts nodes most rows in
+            let some = known .entries Kind.nonterminal .counted in
+            let names = known .fits Kind.nonterminal in
+            let ne = en .value in
+            let grouped : Grouped rs total groups = fills .grouped (omega arith) rs ok (subst (λ n. Indexed file index Kind.binding n rs) (sym te) (known .entries Kind.binding)) (omega arith) (omega arith) in
+            let w = ready known ok bytes here ends-are (length lent) whole groups (let same = fills .long in omega arith) (subst (λ n. Grouped rs n groups) te grouped) firsts nodes most rows in
             is-shrunk known ok bytes here groups firsts w lent flags r many rounds total whole (et .value) shrinks starts;
       }

@@ -11,7 +11,7 @@ use Rattle.scheme.specs.Types.{state, same}
 use Rattle.scheme.specs.Flags.{isKept, chosen}
 use Rattle.scheme.specs.Acceptance.{isStart}
 use Rattle.records.specs.Records.{Record}
-use Rattle.casefile.specs.Kinds.{Kind}
+use Rattle.casefile.specs.Kinds.{Kind, count}
 use Rattle.casefile.specs.Tables.{planOf, automatonOf, bindingsOf}
 use Rattle.casefile.specs.Refusals.{refuseWhole}
 use Rattle.casefile.proofs.Passed.{Passed}
@@ -32,7 +32,7 @@ pub record StartsAt (index : List ℕ) (types b flag : ℕ) (r : Bool) : Type 0 
 
 -- r says whether a binding that is kept by its flag is the start binding, where there is a flag for each
 pub record FindsStart (index counts groups flags : List ℕ) (r : Bool) : Type 0 where
-  pub answer : {file : List ℕ} (n : ℕ) (rs : List Record) → Typed file index (getD counts 7 0) rs → Indexed file index Kind.binding n rs → n ≤ 1024 → Grouped rs n groups → 1 < length groups → n ≤ length flags
+  pub answer : {file : List ℕ} (n : ℕ) (rs : List Record) → Typed file index (getD counts 7 0) rs → Indexed file index Kind.binding n rs → n ≤ 1024 → Grouped rs n groups → 1 ≤ count Kind.nonterminal rs → n ≤ length flags
       → r ≡ any isStart (chosen flags (bindingsOf rs))
 
 -- what comes of the bindings, and the lent flags afterwards: "bytes past the count are untouched"

@@ -52,13 +52,17 @@ fn start_kept(index: &[u16], counts: &[u16], groups: &[u16], flags: &[u8]) -> bo
 }
 
 // What comes of the bindings of a file, with the tables of its records; their flags are written, 1 for a kept binding and
-// 0 for a dropped one. Behind its entries the index gets the goals that its types are, and where its transitions lie. What
-// the memo held before does not matter.
+// 0 for a dropped one. Behind its entries the index gets the goals that its types are, and where its transitions lie. The groups
+// of its bindings, where the nodes of its rules begin, and the flags of the round before stand in `groups`, `firsts` and `old`.
+// What these and the memo held before does not matter.
 pub fn judge_bindings(
     file: &[u8],
     index: &mut [u16; 8034],
     counts: &[u16; 10],
     ends: &[u16; 15000],
+    groups: &mut [u16; 257],
+    firsts: &mut [u16; 257],
+    old: &mut [u8; 66560],
     flags: &mut [u8],
     memo: &mut [u8],
 ) -> Shrunken
@@ -69,12 +73,10 @@ pub fn judge_bindings(
     fill_goals(file, index, types);
     fill_owns(file, index, types, total);
     fill_rows(file, index, place_at(counts, 6));
-    let mut groups = [total as u16; 257];
-    fill_groups(file, index, total, &mut groups);
-    let mut firsts = [0u16; 257];
-    fill_firsts(file, index, place_at(counts, 4), &mut firsts);
-    let ended = shrink(file, index, counts, &groups, &firsts, ends, memo, flags);
-    let accepted = start_kept(index, counts, &groups, flags);
+    fill_groups(file, index, total, place_at(counts, 3), groups);
+    fill_firsts(file, index, place_at(counts, 4), firsts);
+    let ended = shrink(file, index, counts, groups, firsts, ends, memo, old, flags);
+    let accepted = start_kept(index, counts, groups, flags);
     Shrunken {
         accepted,
         kept: ended.kept,

@@ -184,10 +184,7 @@ module _ (file index counts groups firsts ends : List ℕ) (kept memo : List ℕ
             named = λ i g k e.
                 let p = count-payloads Kind.rule rs in
                 let r = rule-there in
-                let m = named-known (w .passed) f (omega arith) i g (subst (λ z. i < length z / 4) body-is k) (ap (λ z. headOf (cellAt z i)) (sym body-is) ∙ e) in
-                let c = w .known .entries Kind.nonterminal .counted in
-                let d = w .known .fits Kind.nonterminal in
-                omega arith;
+                named-known (w .passed) f (omega arith) i g (subst (λ z. i < length z / 4) body-is k) (ap (λ z. headOf (cellAt z i)) (sym body-is) ∙ e);
             ends-are = λ i k.
                 ap (λ z. getD z i 0) is-here ∙ getD-drop first ends i 0 ∙ ap (λ z. getD ends (z + i) 0) (is-first ∙ w .firsts-are f rule-there)
                 ∙ w .ends-are f i rule-there (subst (λ z. i < length z / 4) body-is k)

@@ -33,7 +33,7 @@ pub record Ready (file index counts groups firsts ends : List ℕ) (rs : List Re
   pub typed : Typed file index (getD counts 7 0) rs
   pub rules-all : count Kind.rule rs ≡ count Kind.nonterminal rs
   pub bodies : (f : ℕ) → f < count Kind.rule rs → Whole (ruleOf rs f)
-  pub groups-long : length groups ≡ 257
+  pub groups-long : count Kind.nonterminal rs < length groups
   pub grouped : Grouped rs (count Kind.binding rs) groups
   pub firsts-are : (f : ℕ) → f < count Kind.rule rs → getD firsts f 0 ≡ firstNode rs f
   pub most-are : (f : ℕ) → f < count Kind.rule rs → length (ruleOf rs f) / 4 ≤ getD firsts 256 0

@@ -37,7 +37,7 @@ pub fn holds(
     groups: &[u16; 257],
     firsts: &[u16],
     ends: &[u16; 15000],
-    kept: &[u8; 1024],
+    kept: &[u8; 66560],
     memo: &mut [u8],
     stamp: usize,
     b: usize,

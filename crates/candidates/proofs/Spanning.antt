@@ -18,7 +18,7 @@ use Rattle.scheme.specs.Flags.{isKept, chosen}
 use Rattle.scheme.proofs.Lists.{and-no, getD-map-in}
 use Rattle.records.specs.Fields.{word}
 use Rattle.records.specs.Records.{Record}
-use Rattle.casefile.specs.Kinds.{Kind, payloads}
+use Rattle.casefile.specs.Kinds.{Kind, payloads, count}
 use Rattle.casefile.specs.Tables.{typesOf, bindingsOf}
 use Rattle.casefile.proofs.TypeTable.{count-payloads}
 use Rattle.entries.specs.Index.{Indexed}
@@ -84,7 +84,7 @@ module _ {file index : List ℕ} {rs : List Record} {m : ℕ} (ix : Indexed file
   counted : length (payloads Kind.binding rs) ≡ m
   counted = sym (count-payloads Kind.binding rs) ∙ ix .counted
 
-  module _ (groups : List ℕ) (gs : Grouped rs m groups) (f : ℕ) (h : suc f < length groups) where
+  module _ (groups : List ℕ) (gs : Grouped rs m groups) (f : ℕ) (h : f < count Kind.nonterminal rs) where
     -- a group does not end before it begins
     upwards : getD groups f 0 ≤ getD groups (suc f) 0
     upwards = go (decLe (getD groups f 0) (getD groups (suc f) 0))
@@ -95,7 +95,7 @@ module _ {file index : List ℕ} {rs : List Record} {m : ℕ} (ix : Indexed file
             let i = getD groups (suc f) 0 in
             let w = gs .within f (omega arith) in
             let a = gs .below f i (omega arith) (omega arith) in
-            let b = gs .from-on (suc f) i h (omega arith) (omega arith) in
+            let b = gs .from-on (suc f) i (omega arith) (omega arith) (omega arith) in
             absurd (omega arith)
 
     group-numbers : (kept : List ℕ) (τ : Ty) (p : Ty → Bool)
@@ -104,16 +104,16 @@ module _ {file index : List ℕ} {rs : List Record} {m : ℕ} (ix : Indexed file
     group-numbers kept τ p =
         let c = counted in
         let named : (i : ℕ) → i < m → getD (bindingsOf rs) i noBinding .nonterminal ≡ nonterminalOf rs i = λ i l. binding-made rs i (omega arith) .0 in
-        let hm = gs .within (suc f) h in
+        let hm = gs .within (suc f) (omega arith) in
         bound-numbers kept (bindingsOf rs) f p
         ∙ ap (λ n. anyIn n 0 (passes kept (bindingsOf rs) f p)) (bindings-many rs ∙ c)
         ∙ anyIn-part m (getD groups f 0) (getD groups (suc f) 0) (passes kept (bindingsOf rs) f p) (λ j. found (candidateTy rs kept τ true f j) p) upwards hm
         (λ i l. passes-other kept (bindingsOf rs) f p i
         (ne-eqb (getD (bindingsOf rs) i noBinding .nonterminal) f (λ e. let a = gs .below f i (omega arith) l in let b = named i (let u = upwards in omega arith) in omega arith)))
         (λ i l k. passes-other kept (bindingsOf rs) f p i
-        (ne-eqb (getD (bindingsOf rs) i noBinding .nonterminal) f (λ e. let a = gs .from-on (suc f) i h l k in let b = named i k in omega arith)))
+        (ne-eqb (getD (bindingsOf rs) i noBinding .nonterminal) f (λ e. let a = gs .from-on (suc f) i (omega arith) l k in let b = named i k in omega arith)))
         (λ i l k. passes-own kept (bindingsOf rs) f p i
-        (eq-eqb (getD (bindingsOf rs) i noBinding .nonterminal) f (let a = gs .below (suc f) i h k in let b = gs .from-on f i (omega arith) l (omega arith) in let d = named i (omega arith) in omega arith)))
+        (eq-eqb (getD (bindingsOf rs) i noBinding .nonterminal) f (let a = gs .below (suc f) i (omega arith) k in let b = gs .from-on f i (omega arith) l (omega arith) in let d = named i (omega arith) in omega arith)))
 
 module _ {groups : List ℕ} {number : ℕ} where
   pub group-past : {r : Span} → length groups ≤ number → IsGroup groups number r
@@ -179,9 +179,9 @@ module _ {file index : List ℕ} {n : ℕ} {groups : List ℕ} {own : ℕ} {nont
         any-in = λ rs m w ix few gs inside kept τ x aut p.
             let h = inside yes-it-is in
             subst (λ b. any p (headTypes aut (chosen kept (bindingsOf rs)) (domains τ) (headIs b number)) ≡ anyIn (r .high - r .low) (r .low) (λ j. found (candidateTy rs kept τ b number j) p)) (sym yes-it-is)
-            (group-numbers ix groups gs number h kept τ p
-            ∙ ap₂ (λ l k. anyIn (k - l) l (λ j. found (candidateTy rs kept τ true number j) p)) (sym (is .first h)) (sym (is .end h)));
-        bindings-in = λ rs m gs h e. let a = gs .within (suc number) h in let b = is .end h in omega arith;
+            (group-numbers ix groups gs number (h .known) kept τ p
+            ∙ ap₂ (λ l k. anyIn (k - l) l (λ j. found (candidateTy rs kept τ true number j) p)) (sym (is .first (h .inside))) (sym (is .end (h .inside))));
+        bindings-in = λ rs m gs h e. let k = h .known in let a = gs .within (suc number) (omega arith) in let b = is .end (h .inside) in omega arith;
         members-in = λ rs w τ x e j l. absurd (let z : _≡_ {A = ℕ} 0 1 = cc in omega arith);
       }
 

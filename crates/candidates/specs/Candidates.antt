@@ -17,7 +17,7 @@ use Rattle.casefile.specs.Tables.{bindingsOf}
 use Rattle.entries.specs.Index.{Indexed}
 use Rattle.goals.specs.Goals.{Goal, Typed}
 use Rattle.arrows.specs.Arrows.{off, GoalIf}
-use Rattle.groups.specs.Groups.{Grouped}
+use Rattle.groups.specs.Groups.{Grouped, HasGroup}
 use Rattle.candidates.specs.declared.Span.{Span}
 
 -- a nonterminal or a parameter
@@ -67,10 +67,10 @@ pub record IsMembers (file index : List ℕ) (n own number : ℕ) (r : Span) : T
 
 -- r has the numbers to go through for a head: among them are all of its types
 pub record Spans (file index : List ℕ) (n : ℕ) (groups : List ℕ) (own : ℕ) (nonterminal : Bool) (number : ℕ) (r : Span) : Type 0 where
-  pub any-in : (rs : List Record) (m : ℕ) → Typed file index n rs → Indexed file index Kind.binding m rs → m ≤ 1024 → Grouped rs m groups → (nonterminal ≡ true → suc number < length groups)
+  pub any-in : (rs : List Record) (m : ℕ) → Typed file index n rs → Indexed file index Kind.binding m rs → m ≤ 1024 → Grouped rs m groups → (nonterminal ≡ true → HasGroup rs groups number)
       → (kept : List ℕ) (τ : Ty) → Goal rs n own τ → (aut : Automaton) (p : Ty → Bool)
       → any p (headTypes aut (chosen kept (bindingsOf rs)) (domains τ) (headIs nonterminal number)) ≡ anyIn (r .high - r .low) (r .low) (λ j. found (candidateTy rs kept τ nonterminal number j) p)
-  pub bindings-in : (rs : List Record) (m : ℕ) → Grouped rs m groups → suc number < length groups → nonterminal ≡ true → r .high ≤ m
+  pub bindings-in : (rs : List Record) (m : ℕ) → Grouped rs m groups → HasGroup rs groups number → nonterminal ≡ true → r .high ≤ m
   pub members-in : (rs : List Record) → Typed file index n rs → (τ : Ty) → Goal rs n own τ → nonterminal ≡ false → (j : ℕ) → j < r .high
       → (a : Tys) × (ρ : Ty) × (Goal rs n (r .given) (arrow a ρ) × (members a ≡ getD (domains τ) number []) × (j < length (members a)))
 

@@ -12,10 +12,11 @@ use lib.ListN.{length, getD, set, length-set}
 use lib.Seq.{getD-set-same, getD-set-other, getD-take, length-take-le}
 use Rattle.records.specs.Fields.{word}
 use Rattle.records.specs.Records.{Record}
-use Rattle.casefile.specs.Kinds.{Kind, payloads}
+use Rattle.casefile.specs.Kinds.{Kind, payloads, count}
 use Rattle.casefile.specs.Refusals.{wrongLength, before, follows, misplaced}
 use Rattle.casefile.proofs.Passed.{Passed, entry}
 use Rattle.casefile.proofs.TypeTable.{count-payloads}
+use Rattle.entries.specs.Index.{Indexed}
 use Rattle.entries.proofs.Earlier.{inOrder, follows-last}
 use Rattle.groups.specs.Groups.{nonterminalIn, nonterminalOf, Sought, Fills, Sofar}
 
@@ -49,9 +50,7 @@ module _ (g : ℕ → ℕ) (n : ℕ) (before : List ℕ) where
   group-none h =
       record {
         long = refl;
-        ahead = λ e k. refl;
         few = h;
-        upTo = omega arith;
         there = omega arith;
         earlier = λ i k. absurd (omega arith);
         entries = λ e k. absurd (omega arith);
@@ -79,45 +78,13 @@ module _ (g : ℕ → ℕ) (n : ℕ) (before : List ℕ) where
     group-more =
         record {
           long = length-set groups f r ∙ so .long;
-          ahead = λ e k. getD-set-other groups f e r 0 (λ z. omega arith) ∙ so .ahead e (omega arith);
           few = so .few;
-          upTo = let same = length-set groups f r in omega arith;
           there = s .within;
           earlier = λ i k. let l = before-here i k in omega arith;
           entries = each (λ e x. x ≤ n) (so .entries) (s .within);
           lower = λ e i k. each (λ e x. (i : ℕ) → i < x → g i < e) (λ e k i. so .lower e i k) before-here e k i;
           reached = each (λ e x. x < n → e ≤ g x) (so .reached) (s .reached);
         }
-
-    -- where no binding is left, the entries from f on stay n
-    group-rest : n ≤ r → ((e : ℕ) → e < length before → getD before e 0 ≡ n) → Sofar g n n (length groups) before groups
-    group-rest l all =
-        record {
-          long = so .long;
-          ahead = λ e k. so .ahead e (omega arith);
-          few = so .few;
-          upTo = omega arith;
-          there = omega arith;
-          earlier = λ i k. let z = before-here i (omega arith) in omega arith;
-          entries = λ e k. go-entries e k (decLt e f);
-          lower = λ e i k. go-lower e k (decLt e f) i;
-          reached = λ e k. go-reached e k (decLt e f);
-        }
-      where
-        new : (e : ℕ) → e < length groups → (e < f → ⊥) → getD groups e 0 ≡ n
-        new e k z = so .ahead e (omega arith) ∙ all e (let y = so .long in omega arith)
-
-        go-entries : (e : ℕ) → e < length groups → Dec (e < f) → getD groups e 0 ≤ n
-        go-entries e k (yes z) = so .entries e z
-        go-entries e k (no z) = let y = new e k z in omega arith
-
-        go-lower : (e : ℕ) → e < length groups → Dec (e < f) → (i : ℕ) → i < getD groups e 0 → g i < e
-        go-lower e k (yes z) i m = so .lower e i z m
-        go-lower e k (no z) i m = let y = new e k z in let w = before-here i (omega arith) in omega arith
-
-        go-reached : (e : ℕ) → e < length groups → Dec (e < f) → getD groups e 0 < n → e ≤ g (getD groups e 0)
-        go-reached e k (yes z) m = so .reached e z m
-        go-reached e k (no z) m = let y = new e k z in absurd (omega arith)
 
 before-le : (a b c d : ℕ) → before a b c d ≡ true → a ≤ c
 unfolding before
@@ -153,33 +120,37 @@ nonterminals-ascend {rs} ok i (suc k) h =
     let b = next-nonterminal ok (i + k) (omega arith) in
     subst (λ x. nonterminalOf rs i ≤ nonterminalOf rs x) shift (omega arith)
 
-module _ (file index : List ℕ) (n b f : ℕ) (before groups : List ℕ) (so : Sofar (nonterminalIn file index) n b f before groups) where
-  pub group-all : length groups ≤ f → Fills file index n before groups
+-- the numbers that the file has for its bindings, from the entries of the index
+module _ {file index : List ℕ} {n : ℕ} {rs : List Record} (ok : Passed rs) (ix : Indexed file index Kind.binding n rs) where
+  many : length (payloads Kind.binding rs) ≡ n
+  many = sym (count-payloads Kind.binding rs) ∙ ix .counted
+
+  four : (i : ℕ) → i < n → length (getD (payloads Kind.binding rs) i []) ≡ 4
   unfolding wrongLength
-  group-all h all rs ok ix few = record { within = λ e k. so .entries e (omega arith); below = below; from-on = from-on }
-    where
-      many : length (payloads Kind.binding rs) ≡ n
-      many = sym (count-payloads Kind.binding rs) ∙ ix .counted
+  four i k = let e = entry ok Kind.binding i (omega (arith, many)) in ap length (e .here) ∙ eqb-true (length (e .payload)) 4 (not-false (eqb (length (e .payload)) 4) (e .passed-tests .fits))
 
-      four : (i : ℕ) → i < n → length (getD (payloads Kind.binding rs) i []) ≡ 4
-      four i k = let e = entry ok Kind.binding i (omega (arith, many)) in ap length (e .here) ∙ eqb-true (length (e .payload)) 4 (not-false (eqb (length (e .payload)) 4) (e .passed-tests .fits))
+  same : (i : ℕ) → i < n → nonterminalIn file index i ≡ nonterminalOf rs i
+  same i k = let l = four i k in ap (word file) (sym (add-zero (getD index (2144 + i) 0))) ∙ ix .field-there i k 2 0 (omega arith)
 
-      same : (i : ℕ) → i < n → nonterminalIn file index i ≡ nonterminalOf rs i
-      same i k = let l = four i k in ap (word file) (sym (add-zero (getD index (2144 + i) 0))) ∙ ix .field-there i k 2 0 (omega arith)
+module _ (file index : List ℕ) (n last : ℕ) (before : List ℕ) where
+  -- there are too many bindings, or no room
+  pub group-not : (n ≤ 1024 → last < length before → ⊥) → Fills file index n last before before
+  group-not never = record { long = refl; grouped = λ room rs ok ix few known. absurd (never few room) }
 
-      below : (e i : ℕ) → e < length groups → i < getD groups e 0 → nonterminalOf rs i < e
-      below e i k l = let m = so .entries e (omega arith) in let z = same i (omega arith) in let w = so .lower e i (omega arith) l in omega arith
-
-      from-on : (e i : ℕ) → e < length groups → getD groups e 0 ≤ i → i < n → e ≤ nonterminalOf rs i
-      from-on e i k l m =
-          let first = getD groups e 0 in
-          let apart : first + (i - first) ≡ i = omega arith in
-          let reached = so .reached e (omega arith) (omega arith) in
-          let z = same first (omega arith) in
-          let up = nonterminals-ascend ok first (i - first) (omega (arith, many)) in
-          let at-i = subst (λ x. nonterminalOf rs first ≤ nonterminalOf rs x) apart up in
-          omega arith
-
-module _ (file index : List ℕ) (n b f : ℕ) (before groups : List ℕ) (so : Sofar (nonterminalIn file index) n b f before groups) where
-  pub group-last : f < length groups → (r : ℕ) → Sought (nonterminalIn file index) n b f r → n ≤ r → Fills file index n before groups
-  group-last h r s l all = group-all file index n n (length groups) before groups (group-rest (nonterminalIn file index) n before b f groups so h r s l all) (omega arith) all
+  pub group-all : (b f : ℕ) (groups : List ℕ) → Sofar (nonterminalIn file index) n b f before groups → last < f → Fills file index n last before groups
+  group-all b f groups so h =
+      record {
+        long = so .long;
+        grouped = λ room rs ok ix few known. record {
+          within = λ e k. so .entries e (omega arith);
+          below = λ e i k l. let m = so .entries e (omega arith) in let z = same ok ix i (omega arith) in let w = so .lower e i (omega arith) l in omega arith;
+          from-on = λ e i k l m.
+              let first = getD groups e 0 in
+              let apart : first + (i - first) ≡ i = omega arith in
+              let reached = so .reached e (omega arith) (omega arith) in
+              let z = same ok ix first (omega arith) in
+              let up = nonterminals-ascend ok first (i - first) (omega (arith, many ok ix)) in
+              let at-i = subst (λ x. nonterminalOf rs first ≤ nonterminalOf rs x) apart up in
+              omega arith;
+        };
+      }

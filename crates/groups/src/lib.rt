@@ -20,22 +20,22 @@ fn first_from(file: &[u8], index: &[u16], n: usize, from: usize, f: usize) -> us
     i
 }
 
-// Fills a table whose entries are all n, the number of bindings: entry f gets the number of the first binding whose
-// nonterminal is f or a later one, and stays where there is none. The bindings of nonterminal f are those from entry f on, up
-// to entry f + 1.
-pub fn fill_groups(file: &[u8], index: &[u16], n: usize, groups: &mut [u16])
-    ensures { λ _. ⌜ Fills (now (file .entry)) (now (index .entry)) n (now (groups .entry)) (now (groups .exit)) ⌝ }
+// Fills a table up to entry `last`, the number of nonterminals: entry f gets the number of the first binding whose nonterminal
+// is f or a later one, n where there is none. The bindings of nonterminal f are those from entry f on, up to entry f + 1. What
+// the table held before does not matter; it stays as it is where it has no entry `last`.
+pub fn fill_groups(file: &[u8], index: &[u16], n: usize, last: usize, groups: &mut [u16])
+    ensures { λ _. ⌜ Fills (now (file .entry)) (now (index .entry)) n last (now (groups .entry)) (now (groups .exit)) ⌝ }
 {
     if 1024 < n {
         return;
     }
+    if groups.len() <= last {
+        return;
+    }
     let mut b: usize = 0;
     let mut f: usize = 0;
-    while f < groups.len() {
+    while f <= last {
         b = first_from(file, index, n, b, f);
-        if n <= b {
-            return;
-        }
         groups[f] = b as u16;
         f = f + 1;
     }

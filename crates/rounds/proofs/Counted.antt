@@ -70,17 +70,6 @@ pub record Left {B : Type 0} (test : List B → B → Bool) (bs : List B) (old :
   pub flags : flagsAfter test bs fuel (take (length bs) old) ≡ keptFlags test bs
 
 module _ {B : Type 0} (test : List B → B → Bool) (bs : List B) where
-  take-ones : length bs ≤ 1024 → take {A = ℕ} (length bs) (replicate 1024 1) ≡ replicate (length bs) 1
-  take-ones h =
-      let n = length bs in
-      let ones : List ℕ = replicate 1024 1 in
-      let long : length ones ≡ 1024 = length-replicate {A = ℕ} 1024 1 in
-      let l : length (take n ones) ≡ n = length-take-le n ones (omega arith) in
-      ext-getD 0 (take n ones) (replicate n 1) (l ∙ sym (length-replicate {A = ℕ} n 1))
-      (λ i k.
-      let q : i < n = omega arith in
-      getD-take n ones i 0 q ∙ getD-replicate 1024 i 1 0 (omega arith) ∙ sym (getD-replicate n i 1 0 q))
-
   ones-small : (n : ℕ) → Small (replicate n 1)
   ones-small zero i = omega arith
   ones-small (suc n) zero = omega arith
@@ -92,10 +81,10 @@ module _ {B : Type 0} (test : List B → B → Bool) (bs : List B) where
   chosen-ones (a ∷ as′) = ap (a ∷_) (chosen-ones as′)
 
   -- all start kept
-  pub left-start : (old : List ℕ) (n : ℕ) → old ≡ replicate 1024 1 → length bs ≤ 1024 → n ≡ length bs → Left test bs old n 0
+  pub left-start : (old : List ℕ) (n : ℕ) → take n old ≡ replicate n 1 → n ≡ length bs → Left test bs old n 0
   unfolding Rounds.rounds keptFlags
-  left-start old n e h k =
-      let t : take (length bs) old ≡ replicate (length bs) 1 = ap (take (length bs)) e ∙ take-ones h in
+  left-start old n e k =
+      let t : take (length bs) old ≡ replicate (length bs) 1 = subst (λ m. take m old ≡ replicate m 1) k e in
       let c : chosen old bs ≡ bs = sym (chosen-take old bs) ∙ ap (λ fs. chosen fs bs) t ∙ chosen-ones bs in
       record {
         small = subst Small (sym t) (ones-small (length bs));

@@ -1,6 +1,6 @@
 -- After a round, a binding that is kept and whose body names no nonterminal that lost a binding in it holds still: the test
 -- depends on the bindings of the nonterminals that the body names, and those are as they were.
-use Prim.Native.Nat.{ℕ, zero, suc, _+_, _/_, _<_, _≤_}
+use Prim.Native.Nat.{ℕ, zero, suc, _+_, _/_, _%_, _<_, _≤_}
 use native.Mathlib.Omega.{arith}
 use native.Mathlib.Decide.{ℕ-discrete}
 use mathlib.Core.Path.{_≡_, refl, sym, ap, subst, _∙_}
@@ -70,12 +70,12 @@ module _ {file index counts groups firsts ends : List ℕ} {rs : List Record} (w
   nodes-there b h = ap flat (body-there b h) ∙ sym (w .bodies (symbolOf rs b) (rule-there b h) .one-term)
 
   module _ (lost old new : List ℕ) (enough : length (bindingsOf rs) ≤ length old) (enough′ : length (bindingsOf rs) ≤ length new) (many : length (bindingsOf rs) ≡ count Kind.binding rs)
-      (kept-same : (i : ℕ) → i < count Kind.binding rs → getD lost (symbolOf rs i) 0 ≡ 0 → isKept (getD new i 0) ≡ isKept (getD old i 0)) where
+      (kept-same : (i : ℕ) → i < count Kind.binding rs → getD lost (symbolOf rs i % 64) 0 ≡ 0 → isKept (getD new i 0) ≡ isKept (getD old i 0)) where
     -- a nonterminal without a flag has the types that it had
-    types-same : (f : ℕ) → getD lost f 0 ≡ 0 → bound (chosen new (bindingsOf rs)) f ≡ bound (chosen old (bindingsOf rs)) f
+    types-same : (f : ℕ) → getD lost (f % 64) 0 ≡ 0 → bound (chosen new (bindingsOf rs)) f ≡ bound (chosen old (bindingsOf rs)) f
     types-same f z =
         bound-agrees new old (bindingsOf rs) f noBinding enough′ enough
-        (λ i l e. kept-same i (omega arith) (ap (λ g. getD lost g 0) (sym (binding-made rs i (inside i (omega arith)) .0) ∙ e) ∙ z))
+        (λ i l e. kept-same i (omega arith) (ap (λ g. getD lost (g % 64) 0) (sym (binding-made rs i (inside i (omega arith)) .0) ∙ e) ∙ z))
 
     pub settle : ((b : ℕ) → b < count Kind.binding rs → getD new b 0 ≡ bit (isKept (getD old b 0) && testOf rs (chosen old (bindingsOf rs)) (getD (bindingsOf rs) b noBinding))) → Settled rs lost new
     settle flags b h k u =
@@ -90,37 +90,22 @@ module _ {file index counts groups firsts ends : List ℕ} {rs : List Record} (w
         types-same f (untouched lost p u .1 i f here (ap (λ (n : Node). n .head) (sym (node-at p i d here) ∙ ap (λ l. getD l i d) (sym (nodes-there b h))) ∙ e)))
         ∙ held
 
--- a file's nonterminals have numbers below 256
-symbol-small : {file index : List ℕ} {b : ℕ} (f : ℕ) → IsSymbol file index b f → (n : ℕ) (rs : List Record) → Passed rs → Indexed file index Kind.binding n rs → n ≤ 1024 → b < n → count Kind.nonterminal rs ≤ 256 → f < 256
-symbol-small {b = b} f is n rs ok ix few l m =
-    let c : length (payloads Kind.binding rs) ≡ n = sym (count-payloads Kind.binding rs) ∙ ix .counted in
-    let (four, s, k) = binding-there ok b (omega arith) in
-    let e = is .symbol n rs ok ix few l in
-    omega arith
-
 -- The flags of nonterminals.
 module _ {file index lost : List ℕ} {b was flag : ℕ} where
   pub mark-none : was ≡ 0 → Marks file index lost b was flag lost
-  mark-none z = record { long = refl; stays = λ g e. e; marked = λ n rs ok ix few l m r e nz k. nz z }
+  mark-none z = record { long = refl; stays = λ r g e. e; marked = λ n rs ok ix few l r e nz k. nz z }
 
   pub mark-kept : (flag ≡ 0 → ⊥) → Marks file index lost b was flag lost
-  mark-kept z = record { long = refl; stays = λ g e. e; marked = λ n rs ok ix few l m r e nz k. z k }
+  mark-kept z = record { long = refl; stays = λ r g e. e; marked = λ n rs ok ix few l r e nz k. z k }
 
-  module _ (f : ℕ) (is : IsSymbol file index b f) where
-    pub mark-far : 256 ≤ f → Marks file index lost b was flag lost
-    mark-far h = record { long = refl; stays = λ g e. e; marked = λ n rs ok ix few l m r e nz k. let s = symbol-small f is n rs ok ix few l m in omega arith }
-
-    pub mark-past : f < 256 → length lost ≤ f → Marks file index lost b was flag lost
-    mark-past h p = record { long = refl; stays = λ g e. e; marked = λ n rs ok ix few l m r e nz k. omega arith }
-
-    pub mark-set : f < length lost → Marks file index lost b was flag (set lost f 1)
-    mark-set h =
-        record {
-          long = length-set lost f 1;
-          stays = λ g e. go g e (ℕ-discrete g f);
-          marked = λ n rs ok ix few l m r e nz k. let one = getD-set-same lost f 1 0 h in let z = ap (λ g. getD (set lost f 1) g 0) (is .symbol n rs ok ix few l) in omega arith;
-        }
-      where
-        go : (g : ℕ) → getD (set lost f 1) g 0 ≡ 0 → Dec (g ≡ f) → getD lost g 0 ≡ 0
-        go g e (yes z) = absurd (let one = getD-set-same lost f 1 0 h in let y = ap (λ x. getD (set lost f 1) x 0) z in omega arith)
-        go g e (no z) = sym (getD-set-other lost f g 1 0 z) ∙ e
+  pub mark-set : (f : ℕ) → IsSymbol file index b f → (at : ℕ) → at ≡ f % 64 → at < 64 → Marks file index lost b was flag (set lost at 1)
+  mark-set f is at e h =
+      record {
+        long = length-set lost at 1;
+        stays = λ r g z. go r g z (ℕ-discrete g at);
+        marked = λ n rs ok ix few l r z nz k. let one = getD-set-same lost at 1 0 (omega arith) in let y = ap (λ g. getD (set lost at 1) g 0) (e ∙ ap (_% 64) (is .symbol n rs ok ix few l)) in omega arith;
+      }
+    where
+      go : 65 ≤ length lost → (g : ℕ) → getD (set lost at 1) g 0 ≡ 0 → Dec (g ≡ at) → getD lost g 0 ≡ 0
+      go r g z (yes y) = absurd (let one = getD-set-same lost at 1 0 (omega arith) in let x = ap (λ k. getD (set lost at 1) k 0) y in omega arith)
+      go r g z (no y) = sym (getD-set-other lost at g 1 0 y) ∙ z

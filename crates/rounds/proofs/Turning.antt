@@ -1,5 +1,5 @@
 -- From the test of one binding to a round, and from a round to the rounds: what each step leaves, for a file that is ready.
-use Prim.Native.Nat.{ℕ, _+_, _*_, _<_, _≤_}
+use Prim.Native.Nat.{ℕ, _+_, _*_, _%_, _<_, _≤_}
 use native.Mathlib.Omega.{arith}
 use native.Mathlib.Decide.{ℕ-discrete}
 use native.Mathlib.Nat.{mul-le-mul}
@@ -123,10 +123,10 @@ module _ (file index counts groups firsts ends : List ℕ) where
     pub stays : drop b new ≡ drop b flags
     pub few : kept ≤ b
     pub numbered : Numbered counts firsts memo stamp → Numbered counts firsts memo′ last
-    pub sofar : (rs : List Record) → Ready file index counts groups firsts ends rs → Numbered counts firsts memo stamp → length old ≡ 1024 → count Kind.binding rs ≤ length flags → length cleared ≡ 257 → Settled rs gone old
+    pub sofar : (rs : List Record) → Ready file index counts groups firsts ends rs → Numbered counts firsts memo stamp → 1024 ≤ length old → count Kind.binding rs ≤ length flags → length cleared ≡ 65 → Settled rs gone old
         → Sofar (roundFlags (testOf rs) (bindingsOf rs) old) (bindingsOf rs) new b kept
-    pub losing : (rs : List Record) → Ready file index counts groups firsts ends rs → Numbered counts firsts memo stamp → length old ≡ 1024 → count Kind.binding rs ≤ length flags → length cleared ≡ 257 → Settled rs gone old
-        → (i : ℕ) → i < b → i < count Kind.binding rs → getD lost (symbolOf rs i) 0 ≡ 0 → isKept (getD (roundFlags (testOf rs) (bindingsOf rs) old) i 0) ≡ isKept (getD old i 0)
+    pub losing : (rs : List Record) → Ready file index counts groups firsts ends rs → Numbered counts firsts memo stamp → 1024 ≤ length old → count Kind.binding rs ≤ length flags → length cleared ≡ 65 → Settled rs gone old
+        → (i : ℕ) → i < b → i < count Kind.binding rs → getD lost (symbolOf rs i % 64) 0 ≡ 0 → isKept (getD (roundFlags (testOf rs) (bindingsOf rs) old) i 0) ≡ isKept (getD old i 0)
 
   module _ (old gone memo flags cleared : List ℕ) (stamp : ℕ) where
     pub round-none : Rounding old gone memo flags cleared stamp memo flags cleared stamp 0 0
@@ -142,8 +142,8 @@ module _ (file index counts groups firsts ends : List ℕ) where
         }
 
     -- the new flag of a binding says kept as the old one does, unless its nonterminal is marked
-    flag-stays : (was flag : ℕ) (lost lost′ : List ℕ) (b : ℕ) → Marks file index lost b was flag lost′ → length lost ≡ 257 → (rs : List Record) → Ready file index counts groups firsts ends rs → b < count Kind.binding rs
-        → getD lost′ (symbolOf rs b) 0 ≡ 0 → (was ≡ 0 → flag ≡ 0) → isKept flag ≡ isKept was
+    flag-stays : (was flag : ℕ) (lost lost′ : List ℕ) (b : ℕ) → Marks file index lost b was flag lost′ → length lost ≡ 65 → (rs : List Record) → Ready file index counts groups firsts ends rs → b < count Kind.binding rs
+        → getD lost′ (symbolOf rs b % 64) 0 ≡ 0 → (was ≡ 0 → flag ≡ 0) → isKept flag ≡ isKept was
     unfolding number
     flag-stays was flag lost lost′ b m long rs w h z none = go (ℕ-discrete was 0) (ℕ-discrete flag 0)
       where
@@ -151,9 +151,7 @@ module _ (file index counts groups firsts ends : List ℕ) where
         go (yes e) d = ap isKept (none e ∙ sym e)
         go (no e) (yes d) =
             let c = w .known .entries Kind.binding .counted in
-            let n = w .known .entries Kind.nonterminal .counted in
-            let f = w .known .fits Kind.nonterminal in
-            absurd (m .marked (getD counts 8 0) rs (w .passed) (w .known .entries Kind.binding) (w .known .fits Kind.binding) (omega arith) (omega arith) (omega arith) z e d)
+            absurd (m .marked (getD counts 8 0) rs (w .passed) (w .known .entries Kind.binding) (w .known .fits Kind.binding) (omega arith) (omega arith) z e d)
         go (no e) (no d) = kept-byte flag d ∙ sym (kept-byte was e)
 
     pub round-more : (bindings : ℕ) → IsPlace counts 8 bindings → (memo′ new lost : List ℕ) (last kept b : ℕ) → Rounding old gone memo flags cleared stamp memo′ new lost last kept b → b < bindings
@@ -179,7 +177,7 @@ module _ (file index counts groups firsts ends : List ℕ) where
           losing = λ rs w u lo lf lc s i l k z. go rs w u lo lf lc s i l k z (ℕ-discrete i b);
         }
       where
-        flag-is : (rs : List Record) → Ready file index counts groups firsts ends rs → Numbered counts firsts memo stamp → length old ≡ 1024 → count Kind.binding rs ≤ length flags → length cleared ≡ 257 → Settled rs gone old → flag ≡ getD (roundFlags (testOf rs) (bindingsOf rs) old) b 0
+        flag-is : (rs : List Record) → Ready file index counts groups firsts ends rs → Numbered counts firsts memo stamp → 1024 ≤ length old → count Kind.binding rs ≤ length flags → length cleared ≡ 65 → Settled rs gone old → flag ≡ getD (roundFlags (testOf rs) (bindingsOf rs) old) b 0
         flag-is rs w u lo lf lc s =
             let (many, most) = counted rs w in
             let bs = bindingsOf rs in
@@ -187,13 +185,13 @@ module _ (file index counts groups firsts ends : List ℕ) where
             let is = at .value in
             t .flag-is rs w (omega arith) (g .numbered u) refl s ∙ sym (round-at (testOf rs) bs old b noBinding (omega arith) (omega arith))
 
-        go : (rs : List Record) → Ready file index counts groups firsts ends rs → Numbered counts firsts memo stamp → length old ≡ 1024 → count Kind.binding rs ≤ length flags → length cleared ≡ 257 → Settled rs gone old
-            → (i : ℕ) → i < b + 1 → i < count Kind.binding rs → getD lost′ (symbolOf rs i) 0 ≡ 0 → Dec (i ≡ b) → isKept (getD (roundFlags (testOf rs) (bindingsOf rs) old) i 0) ≡ isKept (getD old i 0)
-        go rs w u lo lf lc s i l k z (no ne) = g .losing rs w u lo lf lc s i (let x = ne in omega arith) k (m .stays (symbolOf rs i) z)
+        go : (rs : List Record) → Ready file index counts groups firsts ends rs → Numbered counts firsts memo stamp → 1024 ≤ length old → count Kind.binding rs ≤ length flags → length cleared ≡ 65 → Settled rs gone old
+            → (i : ℕ) → i < b + 1 → i < count Kind.binding rs → getD lost′ (symbolOf rs i % 64) 0 ≡ 0 → Dec (i ≡ b) → isKept (getD (roundFlags (testOf rs) (bindingsOf rs) old) i 0) ≡ isKept (getD old i 0)
+        go rs w u lo lf lc s i l k z (no ne) = g .losing rs w u lo lf lc s i (let x = ne in omega arith) k (m .stays (let long = g .lost-long in omega arith) (symbolOf rs i % 64) z)
         go rs w u lo lf lc s i l k z (yes e) =
             subst (λ j. isKept (getD (roundFlags (testOf rs) (bindingsOf rs) old) j 0) ≡ isKept (getD old j 0)) (sym e)
             (ap isKept (sym (flag-is rs w u lo lf lc s))
-            ∙ flag-stays (getD old b 0) flag lost lost′ b m (g .lost-long ∙ lc) rs w (omega arith) (ap (λ j. getD lost′ (symbolOf rs j) 0) (sym e) ∙ z)
+            ∙ flag-stays (getD old b 0) flag lost lost′ b m (g .lost-long ∙ lc) rs w (omega arith) (ap (λ j. getD lost′ (symbolOf rs j % 64) 0) (sym e) ∙ z)
             (λ y. t .flag-is rs w (omega arith) (g .numbered u) refl s ∙ none-kept y (testOf rs (chosen old (bindingsOf rs)) (getD (bindingsOf rs) b noBinding))))
 
     pub round-all : (bindings : ℕ) → IsPlace counts 8 bindings → (memo′ new lost : List ℕ) (last kept b : ℕ) → Rounding old gone memo flags cleared stamp memo′ new lost last kept b → b ≤ bindings → bindings ≤ b
@@ -216,16 +214,16 @@ module _ (file index counts groups firsts ends : List ℕ) where
               (λ i x. here rs w u lo lf lc s i x ∙ round-at (testOf rs) (bindingsOf rs) old i noBinding (omega arith) (omega arith));
         }
       where
-        as-long : (rs : List Record) → Ready file index counts groups firsts ends rs → length old ≡ 1024 → length (roundFlags (testOf rs) (bindingsOf rs) old) ≡ length (bindingsOf rs)
+        as-long : (rs : List Record) → Ready file index counts groups firsts ends rs → 1024 ≤ length old → length (roundFlags (testOf rs) (bindingsOf rs) old) ≡ length (bindingsOf rs)
         as-long rs w lo = let (many, most) = counted rs w in round-length (testOf rs) (bindingsOf rs) old (omega arith)
 
         reached : (rs : List Record) → Ready file index counts groups firsts ends rs → b ≡ length (bindingsOf rs)
         reached rs w = let (many, most) = counted rs w in let is = at .value in omega arith
 
-        made : (rs : List Record) → Ready file index counts groups firsts ends rs → Numbered counts firsts memo stamp → length old ≡ 1024 → count Kind.binding rs ≤ length flags → length cleared ≡ 257 → Settled rs gone old → take (length (bindingsOf rs)) new ≡ roundFlags (testOf rs) (bindingsOf rs) old
+        made : (rs : List Record) → Ready file index counts groups firsts ends rs → Numbered counts firsts memo stamp → 1024 ≤ length old → count Kind.binding rs ≤ length flags → length cleared ≡ 65 → Settled rs gone old → take (length (bindingsOf rs)) new ≡ roundFlags (testOf rs) (bindingsOf rs) old
         made rs w u lo lf lc s = sofar-flags (roundFlags (testOf rs) (bindingsOf rs) old) (bindingsOf rs) noBinding (as-long rs w lo) new b kept (g .sofar rs w u lo lf lc s) (reached rs w)
 
-        here : (rs : List Record) → Ready file index counts groups firsts ends rs → Numbered counts firsts memo stamp → length old ≡ 1024 → count Kind.binding rs ≤ length flags → length cleared ≡ 257 → Settled rs gone old
+        here : (rs : List Record) → Ready file index counts groups firsts ends rs → Numbered counts firsts memo stamp → 1024 ≤ length old → count Kind.binding rs ≤ length flags → length cleared ≡ 65 → Settled rs gone old
             → (i : ℕ) → i < count Kind.binding rs → getD new i 0 ≡ getD (roundFlags (testOf rs) (bindingsOf rs) old) i 0
         here rs w u lo lf lc s i x = let all = bindings-many rs in sym (getD-take (length (bindingsOf rs)) new i 0 (omega arith)) ∙ ap (λ l. getD l i 0) (made rs w u lo lf lc s)
 
@@ -249,23 +247,23 @@ module _ (file index counts groups firsts ends : List ℕ) where
   pub record Going (lent memo flags old lost : List ℕ) (stamp kept rounds : ℕ) : Type 0 where
     pub same : length flags ≡ length lent
     pub stays : (rs : List Record) → Ready file index counts groups firsts ends rs → drop (count Kind.binding rs) flags ≡ drop (count Kind.binding rs) lent
-    pub long : length old ≡ 1024
+    pub long : 1024 ≤ length old
     pub settled : (rs : List Record) → Ready file index counts groups firsts ends rs → count Kind.binding rs ≤ length lent → Settled rs lost old
     pub numbered : Numbered counts firsts memo stamp
     pub left : (rs : List Record) → Ready file index counts groups firsts ends rs → count Kind.binding rs ≤ length lent → Left (testOf rs) (bindingsOf rs) old kept rounds
 
-  pub going-none : (lent memo old lost : List ℕ) (bindings : ℕ) → IsPlace counts 8 bindings → old ≡ replicate 1024 1 → lost ≡ replicate 257 1 → Going lent memo lent old lost 127 bindings 0
-  going-none lent memo old lost bindings at e f =
+  pub going-none : (lent memo old lost : List ℕ) (bindings : ℕ) → IsPlace counts 8 bindings → 1024 ≤ length old → (bindings ≤ length old → take bindings old ≡ replicate bindings 1) → lost ≡ replicate 65 1 → Going lent memo lent old lost 127 bindings 0
+  going-none lent memo old lost bindings at long e f =
       record {
         same = refl;
         stays = λ rs w. refl;
-        long = ap length e ∙ length-replicate {A = ℕ} 1024 1;
-        settled = λ rs w r b h k u. absurd (let z = untouched lost (ruleOf rs (symbolOf rs b)) u .0 in let one = ap (λ l. getD l 256 0) f ∙ getD-replicate 257 256 1 0 (omega arith) in omega arith);
+        long = long;
+        settled = λ rs w r b h k u. absurd (let z = untouched lost (ruleOf rs (symbolOf rs b)) u .0 in let one = ap (λ l. getD l 64 0) f ∙ getD-replicate 65 64 1 0 (omega arith) in omega arith);
         numbered = λ k. absurd (omega arith);
-        left = λ rs w r. let (many, most) = counted rs w in left-start (testOf rs) (bindingsOf rs) old bindings e (omega arith) (at .value ∙ sym many);
+        left = λ rs w r. let (many, most) = counted rs w in let is = at .value in left-start (testOf rs) (bindingsOf rs) old bindings (e (omega arith)) (is ∙ sym many);
       }
 
-  module _ (lent memo flags old lost : List ℕ) (stamp kept rounds : ℕ) (g : Going lent memo flags old lost stamp kept rounds) (marks : List ℕ) (all : length marks ≡ 257) (memo′ new lost′ : List ℕ) (more next : ℕ)
+  module _ (lent memo flags old lost : List ℕ) (stamp kept rounds : ℕ) (g : Going lent memo flags old lost stamp kept rounds) (marks : List ℕ) (all : length marks ≡ 65) (memo′ new lost′ : List ℕ) (more next : ℕ)
       (t : Turns file index counts groups firsts ends old lost memo flags marks stamp memo′ new lost′ more next) where
     module _ (rs : List Record) (w : Ready file index counts groups firsts ends rs) (r : count Kind.binding rs ≤ length lent) where
       room : count Kind.binding rs ≤ length flags
@@ -288,7 +286,7 @@ module _ (file index counts groups firsts ends : List ℕ) where
         record {
           same = t .long ∙ g .same;
           stays = past;
-          long = c .long ∙ g .long;
+          long = let same = c .long in let l = g .long in omega arith;
           settled = λ rs w r. settled-same rs lost′ new old′ (copied rs w r) (t .settled rs w (g .numbered) (g .long) (room rs w r) all (g .settled rs w r));
           numbered = t .numbered (g .numbered);
           left = λ rs w r. left-turn (testOf rs) (bindingsOf rs) old kept rounds (g .left rs w r) old′ more (copied rs w r ∙ made rs w r) (counts-kept rs w r) h;

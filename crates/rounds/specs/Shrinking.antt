@@ -1,10 +1,10 @@
 -- Shrinking by rounds. Section "Types and shrinking" of the scope: "One round tests every binding against the set as the
 -- round began, then drops those that failed".
-use Prim.Native.Nat.{ℕ, _+_, _*_, _<_, _≤_}
+use Prim.Native.Nat.{ℕ, _+_, _*_, _%_, _<_, _≤_}
 use mathlib.Core.Path.{_≡_}
 use mathlib.Core.Bool.{Bool, true, false, _&&_}
 use mathlib.Core.List.{List, _++_}
-use lib.ListN.{length, getD, take, drop}
+use lib.ListN.{length, getD, take, drop, replicate}
 use Rattle.scheme.specs.Typing.{Binding}
 use Rattle.scheme.specs.Rounds
 use Rattle.scheme.specs.Flags.{bit, isKept, chosen, roundFlags, keptFlags}
@@ -28,8 +28,8 @@ testOf rs = holdsExactly (automatonOf rs) (planOf rs)
 abbrev pub Numbered : List ℕ → List ℕ → List ℕ → ℕ → Type 0
 Numbered counts firsts memo stamp = stamp < 127 → Under memo (entriesFor counts firsts) (stamp * 2 + 2)
 
--- `lost` has a flag for each nonterminal that lost a binding in the round before: a binding that is kept, and whose body names
--- none of them, holds
+-- `lost` has a flag for each nonterminal that lost a binding in the round before, which it may share with others: a binding that is
+-- kept, and whose body names none with a flag, holds
 abbrev pub Settled : List Record → List ℕ → List ℕ → Type 0
 Settled rs lost old =
     (b : ℕ) → b < count Kind.binding rs → isKept (getD old b 0) ≡ true → touches lost (ruleOf rs (symbolOf rs b)) ≡ false → testOf rs (chosen old (bindingsOf rs)) (getD (bindingsOf rs) b noBinding) ≡ true
@@ -37,8 +37,8 @@ Settled rs lost old =
 -- the table of such flags after binding b, which was `was`, got its new flag
 pub record Marks (file index lost : List ℕ) (b was flag : ℕ) (lost′ : List ℕ) : Type 0 where
   pub long : length lost′ ≡ length lost
-  pub stays : (g : ℕ) → getD lost′ g 0 ≡ 0 → getD lost g 0 ≡ 0
-  pub marked : (n : ℕ) (rs : List Record) → Passed rs → Indexed file index Kind.binding n rs → n ≤ 1024 → b < n → count Kind.nonterminal rs ≤ 256 → 257 ≤ length lost → getD lost′ (symbolOf rs b) 0 ≡ 0 → (was ≡ 0 → ⊥) → flag ≡ 0 → ⊥
+  pub stays : 65 ≤ length lost → (g : ℕ) → getD lost′ g 0 ≡ 0 → getD lost g 0 ≡ 0
+  pub marked : (n : ℕ) (rs : List Record) → Passed rs → Indexed file index Kind.binding n rs → n ≤ 1024 → b < n → 65 ≤ length lost → getD lost′ (symbolOf rs b % 64) 0 ≡ 0 → (was ≡ 0 → ⊥) → flag ≡ 0 → ⊥
 
 -- the flag of binding b, which was `was`, after its test against the old flags, and the number of the last test
 pub record Retests (file index counts groups firsts ends : List ℕ) (old lost memo : List ℕ) (stamp b was : ℕ) (memo′ : List ℕ) (flag stamp′ : ℕ) : Type 0 where
@@ -54,17 +54,22 @@ pub record Turns (file index counts groups firsts ends : List ℕ) (old gone mem
   pub lost-long : length lost′ ≡ length lost
   pub stays : (rs : List Record) → Ready file index counts groups firsts ends rs → drop (count Kind.binding rs) flags′ ≡ drop (count Kind.binding rs) flags
   pub numbered : Numbered counts firsts memo stamp → Numbered counts firsts memo′ stamp′
-  pub flags-are : (rs : List Record) → Ready file index counts groups firsts ends rs → Numbered counts firsts memo stamp → length old ≡ 1024 → count Kind.binding rs ≤ length flags → length lost ≡ 257 → Settled rs gone old
+  pub flags-are : (rs : List Record) → Ready file index counts groups firsts ends rs → Numbered counts firsts memo stamp → 1024 ≤ length old → count Kind.binding rs ≤ length flags → length lost ≡ 65 → Settled rs gone old
       → take (count Kind.binding rs) flags′ ≡ roundFlags (testOf rs) (bindingsOf rs) old
-  pub kept-are : (rs : List Record) → Ready file index counts groups firsts ends rs → Numbered counts firsts memo stamp → length old ≡ 1024 → count Kind.binding rs ≤ length flags → length lost ≡ 257 → Settled rs gone old
+  pub kept-are : (rs : List Record) → Ready file index counts groups firsts ends rs → Numbered counts firsts memo stamp → 1024 ≤ length old → count Kind.binding rs ≤ length flags → length lost ≡ 65 → Settled rs gone old
       → kept ≡ length (Rounds.round (testOf rs) (chosen old (bindingsOf rs)))
-  pub settled : (rs : List Record) → Ready file index counts groups firsts ends rs → Numbered counts firsts memo stamp → length old ≡ 1024 → count Kind.binding rs ≤ length flags → length lost ≡ 257 → Settled rs gone old
+  pub settled : (rs : List Record) → Ready file index counts groups firsts ends rs → Numbered counts firsts memo stamp → 1024 ≤ length old → count Kind.binding rs ≤ length flags → length lost ≡ 65 → Settled rs gone old
       → Settled rs lost′ flags′
 
 -- the first n flags are taken over
 pub record Copies (from : List ℕ) (n : ℕ) (to to′ : List ℕ) : Type 0 where
   pub long : length to′ ≡ length to
-  pub copied : n ≤ 1024 → n ≤ length from → length to ≡ 1024 → take n to′ ≡ take n from
+  pub copied : n ≤ 1024 → n ≤ length from → 1024 ≤ length to → take n to′ ≡ take n from
+
+-- the first n flags say kept
+pub record KeepsAll (n : ℕ) (flags flags′ : List ℕ) : Type 0 where
+  pub long : length flags′ ≡ length flags
+  pub ones : n ≤ length flags → take n flags′ ≡ replicate n 1
 
 -- what the rounds leave, where there is a flag for each binding: the flags, how many bindings are kept, and how many rounds dropped
 -- something; "bytes past the count are untouched"

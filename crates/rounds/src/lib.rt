@@ -7,7 +7,7 @@ use entries::place_at;
 use lookup::entry;
 use memo::ready;
 use touched::touched;
-ghost use Rattle.rounds.specs.Shrinking.{Retests, Marks, Turns, Copies, Shrinks};
+ghost use Rattle.rounds.specs.Shrinking.{Retests, Marks, Turns, Copies, KeepsAll, Shrinks};
 
 // The flag of a binding after its test, and the number of the last test.
 struct Tested {
@@ -28,7 +28,8 @@ pub struct Ended {
 }
 
 // Tests binding b against the flags as the round began, where its own flag says kept and its body names a nonterminal that
-// lost a binding in the round before; entry 256 stands for every body, as in the first round.
+// lost a binding in the round before, by a table of flags that nonterminals share; entry 64 stands for every body, as in the first
+// round.
 fn retest(
     file: &[u8],
     index: &[u16; 8034],
@@ -36,8 +37,8 @@ fn retest(
     groups: &[u16; 257],
     firsts: &[u16],
     ends: &[u16; 15000],
-    old: &[u8; 1024],
-    lost: &[u8; 257],
+    old: &[u8; 66560],
+    lost: &[u8; 65],
     memo: &mut [u8],
     stamp: usize,
     b: usize,
@@ -48,7 +49,7 @@ fn retest(
     if was == 0 {
         return Tested { flag: 0, stamp };
     }
-    if lost[256] == 0 {
+    if lost[64] == 0 {
         let f = symbol_of(file, index, b);
         if !touched(lost, entry(file, index, 352 + f)) {
             return Tested { flag: 1, stamp };
@@ -72,8 +73,8 @@ fn retest(
     Tested { flag, stamp: fresh }
 }
 
-// Marks the nonterminal of binding b, which was kept or not, where its new flag says dropped.
-fn mark(file: &[u8], index: &[u16], lost: &mut [u8], b: usize, was: u8, flag: usize)
+// Marks the nonterminal of binding b, which was kept or not, where its new flag says dropped: by its number modulo 64.
+fn mark(file: &[u8], index: &[u16], lost: &mut [u8; 65], b: usize, was: u8, flag: usize)
     ensures { λ _. ⌜ Marks (now (file .entry)) (now (index .entry)) (now (lost .entry)) b was flag (now (lost .exit)) ⌝ }
 {
     if was == 0 {
@@ -83,12 +84,8 @@ fn mark(file: &[u8], index: &[u16], lost: &mut [u8], b: usize, was: u8, flag: us
         return;
     }
     let f = symbol_of(file, index, b);
-    if 256 <= f {
-        return;
-    }
-    if f < lost.len() {
-        lost[f] = 1;
-    }
+    let at = f % 64;
+    lost[at] = 1;
 }
 
 // One round: the new flags of the bindings, each tested against the old ones, are written; the nonterminals that lost one are
@@ -100,10 +97,10 @@ fn round(
     groups: &[u16; 257],
     firsts: &[u16],
     ends: &[u16; 15000],
-    old: &[u8; 1024],
-    gone: &[u8; 257],
+    old: &[u8; 66560],
+    gone: &[u8; 65],
     flags: &mut [u8],
-    lost: &mut [u8; 257],
+    lost: &mut [u8; 65],
     memo: &mut [u8],
     stamp: usize,
 ) -> Turn
@@ -145,7 +142,7 @@ fn round(
 }
 
 // Takes over the first n flags.
-fn copy(from: &[u8], n: usize, to: &mut [u8; 1024])
+fn copy(from: &[u8], n: usize, to: &mut [u8; 66560])
     ensures { λ _. ⌜ Copies (now (from .entry)) n (now (to .entry)) (now (to .exit)) ⌝ }
 {
     if 1024 < n {
@@ -161,9 +158,23 @@ fn copy(from: &[u8], n: usize, to: &mut [u8; 1024])
     }
 }
 
+// Sets the first n flags to 1.
+fn all_kept(flags: &mut [u8], n: usize)
+    ensures { λ _. ⌜ KeepsAll n (now (flags .entry)) (now (flags .exit)) ⌝ }
+{
+    if flags.len() < n {
+        return;
+    }
+    let mut i: usize = 0;
+    while i < n {
+        flags[i] = 1;
+        i = i + 1;
+    }
+}
+
 // The bindings that are left when the rounds have ended, by the lent flags: 1 for a kept binding and 0 for a dropped one. All
-// start kept. A round writes the lent flags, and tests against those of the round before; the last one drops nothing, and what
-// it wrote stands. What the flags and the memo held before does not matter.
+// start kept. A round writes the lent flags, and tests against those of the round before, which stand in `old`; the last one
+// drops nothing, and what it wrote stands. What the flags, `old` and the memo held before does not matter.
 pub fn shrink(
     file: &[u8],
     index: &[u16; 8034],
@@ -172,18 +183,19 @@ pub fn shrink(
     firsts: &[u16],
     ends: &[u16; 15000],
     memo: &mut [u8],
+    old: &mut [u8; 66560],
     flags: &mut [u8],
 ) -> Ended
     ensures { λ r. ⌜ Shrinks (now (file .entry)) (now (index .entry)) (now (counts .entry)) (now (groups .entry)) (now (firsts .entry)) (now (ends .entry)) (now (flags .entry)) (now (flags .exit)) (r .kept) (r .rounds) ⌝ }
 {
     let total = place_at(counts, 8);
-    let mut old = [1u8; 1024];
-    let mut gone = [1u8; 257];
+    all_kept(old, total);
+    let mut gone = [1u8; 65];
     let mut kept = total;
     let mut rounds: usize = 0;
     let mut stamp: usize = 127;
     loop {
-        let mut lost = [0u8; 257];
+        let mut lost = [0u8; 65];
         let turn = round(
             file,
             index,
@@ -191,7 +203,7 @@ pub fn shrink(
             groups,
             firsts,
             ends,
-            &old,
+            old,
             &gone,
             flags,
             &mut lost,
@@ -201,7 +213,7 @@ pub fn shrink(
         if kept <= turn.kept {
             return Ended { kept, rounds };
         }
-        copy(flags, total, &mut old);
+        copy(flags, total, old);
         gone = lost;
         kept = turn.kept;
         rounds = rounds + 1;

@@ -6,7 +6,8 @@ use moves::target_at;
 use records::byte_at;
 ghost use Rattle.row_places.specs.RowPlaces.{IsRowIn, Emptied, FillsRows};
 
-// The four targets for a state and a constructor; 255 where there is no transition.
+// The four targets for a state and a constructor; 255 where there is no transition. Where the last one is there they are read
+// without a further test.
 pub fn row_in(file: &[u8], index: &[u16], q: usize, c: usize) -> [u8; 4]
     ensures { λ r. ⌜ IsRowIn (now (file .entry)) (now (index .entry)) q c r ⌝ }
 {
@@ -19,6 +20,12 @@ pub fn row_in(file: &[u8], index: &[u16], q: usize, c: usize) -> [u8; 4]
     let at = place_at(index, 7522 + (q * 32 + c));
     if at == 0 {
         return [255; 4];
+    }
+    if file.len() <= at + 5 {
+        let early = target_at(file, at + 2);
+        let later = target_at(file, at + 3);
+        let last = target_at(file, at + 4);
+        return [early, later, last, 0];
     }
     let first = target_at(file, at + 2);
     let second = target_at(file, at + 3);

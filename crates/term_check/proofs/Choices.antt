@@ -16,6 +16,7 @@ use Rattle.records.specs.Fields.{field}
 use Rattle.records.specs.Records.{Record}
 use Rattle.casefile.specs.Kinds.{Kind}
 use Rattle.casefile.specs.Kinds as kinds
+use Rattle.groups.specs.Groups.{HasGroup}
 use Rattle.casefile.specs.Tables.{headOf, automatonOf, bindingsOf}
 use Rattle.casefile.proofs.Cells.{cellAt}
 use Rattle.goals.specs.Goals.{Goal}
@@ -82,7 +83,7 @@ module _ (x : Body) (i goal first : ℕ) (nonterminal : Bool) (number count : �
   HeadHere = (rs : List Record) (τ : Ty) → Setting x rs τ → headOf (cellAt (x .body) i) ≡ headIs nonterminal number
 
   module _ (spans : Spans (x .file) (x .index) (x .test .types) (x .groups) (x .test .own) nonterminal number span) where
-    few-groups : (rs : List Record) (τ : Ty) → Setting x rs τ → Here → headOf (cellAt (x .body) i) ≡ headIs nonterminal number → nonterminal ≡ true → suc number < length (x .groups)
+    few-groups : (rs : List Record) (τ : Ty) → Setting x rs τ → Here → headOf (cellAt (x .body) i) ≡ headIs nonterminal number → nonterminal ≡ true → HasGroup rs (x .groups) number
     few-groups rs τ s li = group-there x i nonterminal number (li .0) rs τ s
 
     pub tried-start : (memo : List ℕ) (j : ℕ) → j ≡ span .low → Tried memo memo j

@@ -18,6 +18,7 @@ use Rattle.scheme.proofs.Lists.{and-no}
 use Rattle.records.specs.Fields.{field}
 use Rattle.records.specs.Records.{Record}
 use Rattle.casefile.specs.Kinds.{count}
+use Rattle.groups.specs.Groups.{HasGroup}
 use Rattle.casefile.specs.Tables.{aritiesOf, headOf, stateCount, transitionsOf, targetsAt, automatonOf, bindingsOf}
 use Rattle.casefile.proofs.Cells.{cellAt}
 use Rattle.goals.specs.Goals.{Goal}
@@ -203,12 +204,12 @@ module _ (x : Body) (i : ℕ) where
   unfolding field
   placed-head a other p rs τ s = tag-other (x .body) i (a .tag) (a .number) (p .tag-is) (p .number-is) other (let t = s .tags i (p .inside) in let e = p .tag-is in omega arith)
 
-  pub group-there : (nonterminal : Bool) (number : ℕ) → i < length (x .body) / 4 → (rs : List Record) (τ : Ty) → Setting x rs τ → headOf (cellAt (x .body) i) ≡ headIs nonterminal number → nonterminal ≡ true → suc number < length (x .groups)
+  pub group-there : (nonterminal : Bool) (number : ℕ) → i < length (x .body) / 4 → (rs : List Record) (τ : Ty) → Setting x rs τ → headOf (cellAt (x .body) i) ≡ headIs nonterminal number → nonterminal ≡ true → HasGroup rs (x .groups) number
   unfolding headIs
   group-there nonterminal number inside rs τ s is e =
       let l = s .named i number inside (is ∙ ap (λ b. headIs b number) e) in
       let g = s .groups-long in
-      omega arith
+      record { known = l; inside = omega arith }
 
 -- The check at a constructor.
 module _ (x : Body) (memo : List ℕ) (i goal tag number count : ℕ) (is-tag : tag ≡ field 1 (x .body) (i * 4)) (is-number : number ≡ field 2 (x .body) (i * 4 + 1)) (is-count : count ≡ field 1 (x .body) (i * 4 + 3)) (con-there : tag ≡ 0) where

@@ -61,11 +61,11 @@ pub record Setting (x : Body) (rs : List Record) (τ : Ty) : Type 0 where
   pub rows-are : RowsFor (x .file) (x .index) rs
   pub bindings-there : Indexed (x .file) (x .index) Kind.binding (count Kind.binding rs) rs
   pub bindings-few : count Kind.binding rs ≤ 1024
-  pub groups-long : length (x .groups) ≡ 257
+  pub groups-long : count Kind.nonterminal rs < length (x .groups)
   pub grouped : Grouped rs (count Kind.binding rs) (x .groups)
   pub own-type : Goal rs (x .test .types) (x .test .own) τ
   pub tags : (i : ℕ) → i < length (x .body) / 4 → byte (x .body) (i * 4) ≤ 2
-  pub named : (i f : ℕ) → i < length (x .body) / 4 → headOf (cellAt (x .body) i) ≡ nt f → f < 256
+  pub named : (i f : ℕ) → i < length (x .body) / 4 → headOf (cellAt (x .body) i) ≡ nt f → f < count Kind.nonterminal rs
   pub ends-are : (i : ℕ) → i < length (x .body) / 4 → getD (x .ends) i 0 ≡ i + nodes (firstTerm (terms (drop i (ns x))))
 
 -- a term has a type, by the definitions

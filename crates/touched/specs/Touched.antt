@@ -1,5 +1,5 @@
--- Whether a body names a nonterminal that has a flag.
-use Prim.Native.Nat.{ℕ}
+-- Whether a body names a nonterminal that has a flag. Nonterminals whose numbers are equal modulo 64 share one.
+use Prim.Native.Nat.{ℕ, _%_}
 use mathlib.Core.Bool.{Bool, _&&_, _||_, not}
 use mathlib.Core.List.{List}
 use lib.Dec.{eqb}
@@ -7,14 +7,14 @@ use lib.ListN.{getD}
 use Rattle.scheme.specs.Lists.{any}
 use Rattle.casefile.specs.Tables.{Cell, cellsOf}
 
--- a table of flags by nonterminal has one for number g
+-- a table of flags has one at entry g
 abbrev pub flagged : List ℕ → ℕ → Bool
 flagged flags g = not (eqb (getD flags g 0) 0)
 
 -- a node names a nonterminal that has a flag
 abbrev pub names : List ℕ → Cell → Bool
-names flags c = eqb (c .tag) 1 && flagged flags (c .number)
+names flags c = eqb (c .tag) 1 && flagged flags (c .number % 64)
 
--- some node of a body does; entry 256 stands for every body
+-- some node of a body does; entry 64 stands for every body
 unfoldable pub touches : List ℕ → List ℕ → Bool
-touches flags body = flagged flags 256 || any (names flags) (cellsOf body)
+touches flags body = flagged flags 64 || any (names flags) (cellsOf body)

@@ -1,14 +1,14 @@
-// Whether a body names a nonterminal that has a flag.
+// Whether a body names a nonterminal that has a flag, in a table of 64 flags that nonterminals share.
 use records::byte_at;
 use records::word_at;
 ghost use mathlib.Core.Path.{_≡_};
 ghost use Rattle.touched.specs.Touched.{touches};
 
-// Whether some node of a body names a nonterminal with a flag that is not 0; entry 256 stands for every body.
-pub fn touched(flags: &[u8; 257], body: &[u8]) -> bool
+// Whether some node of a body names a nonterminal whose flag, by its number modulo 64, is not 0; entry 64 stands for every body.
+pub fn touched(flags: &[u8; 65], body: &[u8]) -> bool
     ensures { λ r. ⌜ r ≡ touches (now (flags .entry)) (now (body .entry)) ⌝ }
 {
-    if flags[256] != 0 {
+    if flags[64] != 0 {
         return true;
     }
     let n = body.len() / 4;
@@ -16,7 +16,7 @@ pub fn touched(flags: &[u8; 257], body: &[u8]) -> bool
     while i < n {
         if byte_at(body, i * 4) == 1 {
             let g = word_at(body, i * 4 + 1);
-            if byte_at(flags, g) != 0 {
+            if byte_at(flags, g % 64) != 0 {
                 return true;
             }
         }

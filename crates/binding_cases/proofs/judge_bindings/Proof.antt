@@ -23,32 +23,20 @@ place-at-requires-3 c κs = search needs
 fill-rows-requires : tie.Need-fill-rows-requires
 fill-rows-requires c κs = search needs
 
-cast-groups : tie.Need-cast-groups
-cast-groups c = omega (arith, c .before .before .before .before .before .before .before .before .before .before .place-at .ensures .bound)
-
-slice-aggregate-fill-groups : tie.Need-slice-aggregate-fill-groups
-slice-aggregate-fill-groups c = search needs
+place-at-requires-4 : tie.Need-place-at-requires-4
+place-at-requires-4 c κs = search needs
 
 fill-groups-requires : tie.Need-fill-groups-requires
 fill-groups-requires c κs = search needs
 
-place-at-requires-4 : tie.Need-place-at-requires-4
-place-at-requires-4 c κs = search needs
-
-slice-aggregate-fill-firsts : tie.Need-slice-aggregate-fill-firsts
-slice-aggregate-fill-firsts c = search needs
+place-at-requires-5 : tie.Need-place-at-requires-5
+place-at-requires-5 c κs = search needs
 
 fill-firsts-requires : tie.Need-fill-firsts-requires
 fill-firsts-requires c κs = search needs
 
-slice-aggregate-shrink : tie.Need-slice-aggregate-shrink
-slice-aggregate-shrink c = search needs
-
 shrink-requires : tie.Need-shrink-requires
 shrink-requires c κs = search needs
-
-slice-aggregate-start-kept : tie.Need-slice-aggregate-start-kept
-slice-aggregate-start-kept c = search needs
 
 start-kept-requires : tie.Need-start-kept-requires
 start-kept-requires c κs = search needs
@@ -60,7 +48,16 @@ same-length-2 : tie.Need-same-length-2
 same-length-2 c = search needs
 
 returns : tie.Need-returns
-returns c = let i = c .before .before .before .before .before .before .before .before .before .before .before .before .before .before .before .before .before .before .before .before .before .before .before .before .before .before .before .before .before .before .before .before .before .before .before .before .fill-goals-arg .given .0 .1 in judged _ _ _ _ _ _ _ _ _ (λ k. omega (arith, c .before .before .before .before .before .before .before .before .before .before .before .before .before .before .before .before .before .before .before .before .before .before .before .before .before .before .before .before .before .before .before .before .before .before .before .before .before .before .before .before .before .before .before .shared-slice-known .given k)) (omega arith) _ (c .before .before .before .before .before .before .before .before .before .before .before .before .before .before .before .before .before .before .before .before .before .before .before .before .before .before .before .before .before .before .before .before .before .before .before .before .before .before .before .place-at .ensures) _ (c .before .before .before .before .before .before .before .before .before .before .before .before .before .before .before .before .before .before .before .before .before .before .before .before .before .before .before .before .before .before .before .before .before .before .before .before .before .place-at2 .ensures) _ _ _ (c .before .before .before .before .before .before .before .before .before .before .before .before .before .before .before .before .before .before .before .before .before .before .before .before .before .before .before .before .before .before .before .before .before .before .before .fill-goals .ensures) (c .before .before .before .before .before .before .before .before .before .before .before .before .before .before .before .before .before .before .before .before .before .before .before .before .before .before .before .before .before .before .before .before .before .fill-owns .ensures) _ (c .before .before .before .before .before .before .before .before .before .before .before .before .before .before .before .before .before .before .before .before .before .before .before .before .before .before .before .before .before .before .place-at3 .ensures) (c .before .before .before .before .before .before .before .before .before .before .before .before .before .before .before .before .before .before .before .before .before .before .before .before .before .before .before .before .before .fill-rows .ensures) _ (c .before .before .before .before .before .before .before .before .before .before .before .before .before .before .before .before .before .before .before .before .before .before .before .before .groups2 .given) (c .before .before .before .before .before .before .before .before .before .before .before .before .before .before .before .before .before .before .before .before .before .before .before .before .before .fill-groups .ensures) _ (c .before .before .before .before .before .before .before .before .before .before .before .before .before .before .before .before .before .before .before .before .place-at4 .ensures) _ _ (search needs) (c .before .before .before .before .before .before .before .before .before .before .before .before .before .before .before .before .before .before .fill-firsts .ensures) (c .before .before .before .before .before .before .before .before .before .before .shrink .ensures) (c .start-kept .ensures)
+returns c =
+    let i = c .before .before .before .before .before .before .before .before .before .before .before .before .before .before .before .before .before .before .before .before .before .before .before .before .before .before .before .before .before .before .before .before .before .before .before .before .before .before .before .fill-goals-arg .given .0 .1 in
+    let lent-groups = c .before .before .before .before .before .before .before .before .before .before .before .before .before .before .before .before .before .before .before .before .before .before .before .before .before .before .before .fill-groups-arg3 .given .0 .1 in
+    let lent-firsts = c .before .before .before .before .before .before .before .before .before .before .before .before .before .before .before .before .before .before .before .before .before .fill-firsts-arg3 .given .0 .1 in
+    judged _ _ _ _ _ _ _ _ _ (λ k. omega (arith, c .before .before .before .before .before .before .before .before .before .before .before .before .before .before .before .before .before .before .before .before .before .before .before .before .before .before .before .before .before .before .before .before .before .before .before .before .before .before .before .before .before .before .before .before .before .before .shared-slice-known .given k)) (omega arith)
+    _ (c .before .before .before .before .before .before .before .before .before .before .before .before .before .before .before .before .before .before .before .before .before .before .before .before .before .before .before .before .before .before .before .before .before .before .before .before .before .before .before .before .before .before .place-at .ensures) _ (c .before .before .before .before .before .before .before .before .before .before .before .before .before .before .before .before .before .before .before .before .before .before .before .before .before .before .before .before .before .before .before .before .before .before .before .before .before .before .before .before .place-at2 .ensures) _ _ _ (c .before .before .before .before .before .before .before .before .before .before .before .before .before .before .before .before .before .before .before .before .before .before .before .before .before .before .before .before .before .before .before .before .before .before .before .before .before .before .fill-goals .ensures) (c .before .before .before .before .before .before .before .before .before .before .before .before .before .before .before .before .before .before .before .before .before .before .before .before .before .before .before .before .before .before .before .before .before .before .before .before .fill-owns .ensures)
+    _ (c .before .before .before .before .before .before .before .before .before .before .before .before .before .before .before .before .before .before .before .before .before .before .before .before .before .before .before .before .before .before .before .before .before .place-at3 .ensures) (c .before .before .before .before .before .before .before .before .before .before .before .before .before .before .before .before .before .before .before .before .before .before .before .before .before .before .before .before .before .before .before .before .fill-rows .ensures)
+    _ (c .before .before .before .before .before .before .before .before .before .before .before .before .before .before .before .before .before .before .before .before .before .before .before .before .before .before .before .before .place-at4 .ensures) _ _ (omega arith) (c .before .before .before .before .before .before .before .before .before .before .before .before .before .before .before .before .before .before .before .before .before .before .before .before .before .before .fill-groups .ensures)
+    _ (c .before .before .before .before .before .before .before .before .before .before .before .before .before .before .before .before .before .before .before .before .before .before .place-at5 .ensures) _ _ (omega arith) (c .before .before .before .before .before .before .before .before .before .before .before .before .before .before .before .before .before .before .before .before .fill-firsts .ensures)
+    (c .before .before .before .before .before .before .before .before .before .before .before .shrink .ensures) (c .start-kept .ensures)
 
 pub judge-bindings-spec : {M : Type 1} → statement M
 judge-bindings-spec =
@@ -72,15 +69,11 @@ judge-bindings-spec =
     fill-owns-requires
     place-at-requires-3
     fill-rows-requires
-    cast-groups
-    slice-aggregate-fill-groups
-    fill-groups-requires
     place-at-requires-4
-    slice-aggregate-fill-firsts
+    fill-groups-requires
+    place-at-requires-5
     fill-firsts-requires
-    slice-aggregate-shrink
     shrink-requires
-    slice-aggregate-start-kept
     start-kept-requires
     same-length
     same-length-2
