@@ -1,7 +1,9 @@
 // A case file with a path: refused by 1 to 15, or refuted. A binding case is named and not judged.
 use intake::examine;
 use replay::Replayed;
-use replay::replay_path;
+use replay::is_short;
+use replay::replay_long;
+use replay::replay_short;
 use whole_file::Case;
 ghost use mathlib.Core.Path.{_≡_};
 ghost use lib.ListN.{length};
@@ -63,6 +65,12 @@ pub fn path_case(file: &[u8], flags: &mut [u8]) -> Answer
     match case {
         Case::Refused { number, place } => Answer::Refused { number, place },
         Case::Bindings => Answer::Bindings,
-        Case::Path => answered(replay_path(file, &index, &counts)),
+        Case::Path => {
+            if is_short(file, &index) {
+                answered(replay_short(file, &index, &counts))
+            } else {
+                answered(replay_long(file, &index, &counts))
+            }
+        }
     }
 }

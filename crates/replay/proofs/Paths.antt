@@ -3,7 +3,7 @@ use Prim.Native.Nat.{ℕ, _+_, _*_, _<_, _≤_}
 use native.Mathlib.Omega.{arith}
 use mathlib.Core.Path.{_≡_, sym, ap, subst, _∙_}
 use mathlib.Core.List.{List, []}
-use borrow.Author.Tests.{ltb-false}
+use borrow.Author.Tests.{ltb-false, leb-true}
 use lib.Dec.{ltb}
 use lib.ListN.{length, getD}
 use Rattle.scheme.proofs.Lists.{or-false}
@@ -19,7 +19,7 @@ use Rattle.lookup.proofs.Found.{entry-there}
 use Rattle.moves.specs.Moves
 use Rattle.whole_bodies.proofs.Wholes.{whole-bodies}
 use Rattle.replay.specs.PathCases.{replayed}
-use Rattle.replay.specs.Replays.{Runs, ReplaysPath}
+use Rattle.replay.specs.Replays.{Runs, isShort, ReplaysPath, ReplaysShort}
 use Rattle.replay.specs.declared.Replayed.{Replayed}
 
 -- "at most" 4,096 letters
@@ -30,31 +30,40 @@ path-short {rs} ok h =
     let k = ltb-false 4096 (length (e .payload)) (or-false (tooMany Kind.path (count Kind.path (e .earlier))) (ltb 4096 (length (e .payload))) (e .passed-tests .few) .1) in
     subst (λ (p : List ℕ). length p ≤ 4096) (sym (e .here)) k
 
-pub replay-answer : {file index counts : List ℕ} {n rules constructors : ℕ} → n ≡ getD counts 6 0 → rules ≡ getD counts 4 0 → constructors ≡ getD counts 2 0
-    → {table : List (List (List ℕ))} → Moves.Holds file index n table → (path : List ℕ) → path ≡ entryOf file index 3169 → {cells : List ℕ} {r : Replayed}
-    → (size : ℕ) → length cells ≡ size → (length path ≤ 4096 → length path * 8 + 8 ≤ size) → Runs file index rules constructors table path cells r → ReplaysPath file index counts r
-unfolding number
-replay-answer {file} {index} {counts} {n} {rules} {constructors} en er ec {table} holds path ep size long room run =
-    record {
-      answer = λ lens rs flags known ok whole some.
-          let there : Indexed file index Kind.path (getD counts 9 0) rs = known .entries Kind.path in
-          let e : path ≡ getD (payloads Kind.path rs) 0 [] = ep ∙ entry-there there 0 (let c = there .counted in omega arith) in
-          let rules-there : Indexed file index Kind.rule rules rs = subst (λ m. Indexed file index Kind.rule m rs) (sym er) (known .entries Kind.rule) in
-          let transitions-there : Indexed file index Kind.transition n rs = subst (λ m. Indexed file index Kind.transition m rs) (sym en) (known .entries Kind.transition) in
-          let few-rules = known .fits Kind.rule in
-          let few-constructors = known .fits Kind.constructor in
-          let few-transitions = known .fits Kind.transition in
-          let short : length path ≤ 4096 = subst (λ (p : List ℕ). length p ≤ 4096) (sym e) (path-short ok (let l = count-payloads Kind.path rs in omega arith)) in
-          run .answer rs
-          (record {
-            passed = ok;
-            flags = flags;
-            whole = whole;
-            bodies = whole-bodies ok flags whole rules-there;
-            few-rules = omega arith;
-            constructors-there = subst (λ m. Indexed file index Kind.constructor m rs) (sym ec) (known .entries Kind.constructor);
-            few-constructors = omega arith;
-            table-is = holds rs ok transitions-there (omega arith);
-          })
-          (let fits = room short in omega arith) short ∙ ap (replayed (automatonOf rs) (planOf rs)) e;
-    }
+-- what the run over the path of a file comes to, by how many letters there are cells for
+module _ {file index counts : List ℕ} {n rules constructors : ℕ} (en : n ≡ getD counts 6 0) (er : rules ≡ getD counts 4 0) (ec : constructors ≡ getD counts 2 0)
+    {table : List (List (List ℕ))} (holds : Moves.Holds file index n table) (path : List ℕ) (ep : path ≡ entryOf file index 3169) {cells : List ℕ} {r : Replayed}
+    (run : Runs file index rules constructors table path cells r) where
+  pub replay-answer : (length path ≤ 4096 → length path * 8 + 8 ≤ length cells) → ReplaysPath file index counts r
+  unfolding number
+  replay-answer room =
+      record {
+        answer = λ lens rs flags known ok whole some.
+            let there : Indexed file index Kind.path (getD counts 9 0) rs = known .entries Kind.path in
+            let e : path ≡ getD (payloads Kind.path rs) 0 [] = ep ∙ entry-there there 0 (let c = there .counted in omega arith) in
+            let rules-there : Indexed file index Kind.rule rules rs = subst (λ m. Indexed file index Kind.rule m rs) (sym er) (known .entries Kind.rule) in
+            let transitions-there : Indexed file index Kind.transition n rs = subst (λ m. Indexed file index Kind.transition m rs) (sym en) (known .entries Kind.transition) in
+            let few-rules = known .fits Kind.rule in
+            let few-constructors = known .fits Kind.constructor in
+            let few-transitions = known .fits Kind.transition in
+            let short : length path ≤ 4096 = subst (λ (p : List ℕ). length p ≤ 4096) (sym e) (path-short ok (let l = count-payloads Kind.path rs in omega arith)) in
+            run .answer rs
+            (record {
+              passed = ok;
+              flags = flags;
+              whole = whole;
+              bodies = whole-bodies ok flags whole rules-there;
+              few-rules = omega arith;
+              constructors-there = subst (λ m. Indexed file index Kind.constructor m rs) (sym ec) (known .entries Kind.constructor);
+              few-constructors = omega arith;
+              table-is = holds rs ok transitions-there (omega arith);
+            })
+            (room short) short ∙ ap (replayed (automatonOf rs) (planOf rs)) e;
+      }
+
+  pub short-answer : (length path ≤ 64 → length path * 8 + 8 ≤ length cells) → ReplaysShort file index counts r
+  unfolding isShort
+  short-answer room =
+      record {
+        answer = λ short. replay-answer (λ _. room (let k = leb-true (length (entryOf file index 3169)) 64 short in omega (arith, ap length ep)));
+      }
