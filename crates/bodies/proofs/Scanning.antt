@@ -39,14 +39,14 @@ pub record Scanning (p froms tos trees arities signatures : List ℕ) (own : ℕ
   pub within : i ≤ length p / 4
   pub few : length p / 4 ≤ 256
   pub long : length ends ≡ length before
-  pub long-codes : length codes ≡ 256
-  pub long-depths : length depths ≡ 256
+  pub long-codes : length codes ≡ 257
+  pub long-depths : length depths ≡ 257
   pub rest : drop (length p / 4) ends ≡ drop (length p / 4) before
   pub holds : (sorts : List Sort) (counts numbers : List ℕ) → Setting sorts counts numbers p froms tos trees arities signatures own → length p / 4 ≤ length before
       → Held-from (headsBy sorts counts numbers own) sorts (nodesOf p) ends codes depths i
 
 module _ {p froms tos trees arities signatures : List ℕ} {own : ℕ} where
-  pub scan-start : {ends codes depths : List ℕ} (i : ℕ) → i ≡ length p / 4 → length p / 4 ≤ 256 → length codes ≡ 256 → length depths ≡ 256
+  pub scan-start : {ends codes depths : List ℕ} (i : ℕ) → i ≡ length p / 4 → length p / 4 ≤ 256 → length codes ≡ 257 → length depths ≡ 257
       → Scanning p froms tos trees arities signatures own ends ends codes depths i
   scan-start {ends} {codes} {depths} i e f lc ld = record {
     within = omega arith;

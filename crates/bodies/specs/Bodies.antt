@@ -100,8 +100,8 @@ pub record NodeRead (p froms tos trees arities signatures : List ℕ) (own i : �
 pub record Room (p ends codes depths : List ℕ) : Type 0 where
   pub few : length p / 4 ≤ 256
   pub ends-long : length p / 4 ≤ length ends
-  pub codes-long : length codes ≡ 256
-  pub depths-long : length depths ≡ 256
+  pub codes-long : length codes ≡ 257
+  pub depths-long : length depths ≡ 257
 
 -- node i was read, and where it fits, r is what the tables hold of it
 pub record NodeTaken (p froms tos trees arities signatures : List ℕ) (own i : ℕ) (ends codes depths ends′ codes′ depths′ : List ℕ) (r : Arguments) : Type 0 where

@@ -275,8 +275,8 @@ pub fn body_fits(
     signatures: &[u16],
     own: usize,
     ends: &mut [u16],
-    codes: &mut [u16; 256],
-    depths: &mut [u16; 256],
+    codes: &mut [u16; 257],
+    depths: &mut [u16; 257],
 ) -> bool
     ensures { λ r. ⌜ BodyDecided (now (p .entry)) (now (froms .entry)) (now (tos .entry)) (now (trees .entry)) (now (arities .entry)) (now (signatures .entry)) own (now (ends .entry)) (now (ends .exit)) r ⌝ }
 {

@@ -9,6 +9,7 @@ ghost use Rattle.casefile.specs.Cases.{caseOf};
 
 // What a file is, for so many lent flags, with its tables: the index of its entries, the argument counts of its sorts, the
 // counts of its kinds, and the ends of the subterms of its bodies. What the tables held before does not matter.
+// `codes` and `depths` are tables to work in: what they hold does not matter, before or after.
 pub fn examine(
     file: &[u8],
     flags: usize,
@@ -17,6 +18,8 @@ pub fn examine(
     counts: &mut [u16; 10],
     ends: &mut [u16; 15000],
     fit: &mut [u8; 66560],
+    codes: &mut [u16; 257],
+    depths: &mut [u16; 257],
 ) -> Case
     ensures { λ r. ⌜ Taken (now (file .entry)) flags (now (index .exit)) (now (lens .exit)) (now (counts .exit)) (now (ends .exit)) r ⌝ }
 {
@@ -29,7 +32,7 @@ pub fn examine(
     let walked = walk::walk(file, index, lens, counts);
     match walked {
         Walked::Refused { number, place } => Case::Refused { number, place },
-        Walked::Read => test_whole(file, index, counts, flags, ends, fit),
+        Walked::Read => test_whole(file, index, counts, flags, ends, fit, codes, depths),
     }
 }
 
@@ -43,6 +46,8 @@ pub fn case_of(file: &[u8], flags: &mut [u8]) -> Case
     let mut counts = [0u16; 10];
     let mut ends = [0u16; 15000];
     let mut fit = [0u8; 66560];
+    let mut codes = [0u16; 257];
+    let mut depths = [0u16; 257];
     examine(
         file,
         flags.len(),
@@ -51,5 +56,7 @@ pub fn case_of(file: &[u8], flags: &mut [u8]) -> Case
         &mut counts,
         &mut ends,
         &mut fit,
+        &mut codes,
+        &mut depths,
     )
 }

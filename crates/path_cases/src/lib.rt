@@ -53,6 +53,8 @@ pub fn path_case(file: &[u8], flags: &mut [u8]) -> Answer
     let mut counts = [0u16; 10];
     let mut ends = [0u16; 15000];
     let mut fit = [0u8; 66560];
+    let mut codes = [0u16; 257];
+    let mut depths = [0u16; 257];
     let case = examine(
         file,
         flags.len(),
@@ -61,6 +63,8 @@ pub fn path_case(file: &[u8], flags: &mut [u8]) -> Answer
         &mut counts,
         &mut ends,
         &mut fit,
+        &mut codes,
+        &mut depths,
     );
     match case {
         Case::Refused { number, place } => Answer::Refused { number, place },

@@ -36,7 +36,15 @@ fn counts_wrong(counts: &[u16]) -> bool
 }
 
 // The tests of the plan, 8 and 9; `ends` gets the ends of the subterms of all bodies.
-pub fn test_plan(file: &[u8], index: &[u16], counts: &[u16], ends: &mut [u16]) -> Plan
+// `codes` and `depths` are tables to work in: what they hold does not matter, before or after.
+pub fn test_plan(
+    file: &[u8],
+    index: &[u16],
+    counts: &[u16],
+    ends: &mut [u16],
+    codes: &mut [u16; 257],
+    depths: &mut [u16; 257],
+) -> Plan
     ensures { λ r. ⌜ TestsPlan (now (file .entry)) (now (index .entry)) (now (counts .entry)) (now (ends .entry)) (now (ends .exit)) r ⌝ }
 {
     if counts_wrong(counts) {
@@ -53,7 +61,17 @@ pub fn test_plan(file: &[u8], index: &[u16], counts: &[u16], ends: &mut [u16]) -
     let sorts = place_at(counts, 1);
     let constructors = place_at(counts, 2);
     let rules = place_at(counts, 4);
-    let f = first_wrong_body(file, index, sorts, constructors, rules, rules, ends);
+    let f = first_wrong_body(
+        file,
+        index,
+        sorts,
+        constructors,
+        rules,
+        rules,
+        ends,
+        codes,
+        depths,
+    );
     if f < rules {
         let place = place_of(index, 352 + f);
         return Plan::Refused { number: 9, place };

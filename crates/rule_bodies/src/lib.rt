@@ -17,8 +17,8 @@ fn read_rule(
     signatures: &[u16],
     f: usize,
     ends: &mut [u16],
-    codes: &mut [u16; 256],
-    depths: &mut [u16; 256],
+    codes: &mut [u16; 257],
+    depths: &mut [u16; 257],
 ) -> usize
     ensures { λ r. ⌜ RuleRead (now (file .entry)) (now (index .entry)) (now (froms .entry)) (now (tos .entry)) (now (trees .entry)) (now (arities .entry)) (now (signatures .entry)) f (now (ends .entry)) (now (ends .exit)) r ⌝ }
 {
@@ -67,8 +67,8 @@ pub fn read_rules(
     signatures: &[u16],
     rules: usize,
     ends: &mut [u16],
-    codes: &mut [u16; 256],
-    depths: &mut [u16; 256],
+    codes: &mut [u16; 257],
+    depths: &mut [u16; 257],
 ) -> usize
     ensures { λ r. ⌜ ReadsRules (now (file .entry)) (now (index .entry)) (now (froms .entry)) (now (tos .entry)) (now (trees .entry)) (now (arities .entry)) (now (signatures .entry)) rules (now (ends .entry)) (now (ends .exit)) r ⌝ }
 {

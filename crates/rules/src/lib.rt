@@ -70,6 +70,7 @@ fn within_limits(sorts: usize, constructors: usize, nonterminals: usize, rules: 
 }
 
 // The number of the first rule whose body is no single term of sort o within 64 levels, or of rules where there is none; then `ends` has the ends of all subterms.
+// `codes` and `depths` are tables to work in: what they hold does not matter, before or after.
 pub fn first_wrong_body(
     file: &[u8],
     index: &[u16],
@@ -78,6 +79,8 @@ pub fn first_wrong_body(
     nonterminals: usize,
     rules: usize,
     ends: &mut [u16],
+    codes: &mut [u16; 257],
+    depths: &mut [u16; 257],
 ) -> usize
     ensures { λ r. ⌜ FindsWrongBody (now (file .entry)) (now (index .entry)) sorts constructors nonterminals rules (now (ends .entry)) (now (ends .exit)) r ⌝ }
 {
@@ -93,8 +96,6 @@ pub fn first_wrong_body(
     fill(file, index, 1, 64, 0, constructors, 0, &mut arities);
     fill(file, index, 2, 96, 0, nonterminals, 0, &mut signatures);
     let trees = tree_codes(&froms, &tos, sorts + 1);
-    let mut codes = [0u16; 256];
-    let mut depths = [0u16; 256];
     read_rules(
         file,
         index,
@@ -105,7 +106,7 @@ pub fn first_wrong_body(
         &signatures,
         rules,
         ends,
-        &mut codes,
-        &mut depths,
+        codes,
+        depths,
     )
 }

@@ -67,6 +67,7 @@ fn test_evidence(
 }
 
 // The tests over the whole file, 8 to 12.
+// `codes` and `depths` are tables to work in: what they hold does not matter, before or after.
 pub fn test_whole(
     file: &[u8],
     index: &[u16],
@@ -74,10 +75,12 @@ pub fn test_whole(
     flags: usize,
     ends: &mut [u16],
     fit: &mut [u8; 66560],
+    codes: &mut [u16; 257],
+    depths: &mut [u16; 257],
 ) -> Case
     ensures { λ r. ⌜ TestsWhole (now (file .entry)) (now (index .entry)) (now (counts .entry)) flags (now (ends .entry)) (now (ends .exit)) r ⌝ }
 {
-    let plan = test_plan(file, index, counts, ends);
+    let plan = test_plan(file, index, counts, ends, codes, depths);
     match plan {
         Plan::Refused { number, place } => Case::Refused { number, place },
         Plan::Fine => test_evidence(file, index, counts, flags, fit),

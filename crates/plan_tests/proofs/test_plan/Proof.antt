@@ -45,13 +45,13 @@ same-length : tie.Need-same-length
 same-length c = search needs
 
 returns-3 : tie.Need-returns-3
-returns-3 c = λ lens rs kn ok room. refused-tested (plan-body kn ok _ (c .before .before .before .before .before .before .before .before .before .before .before .before .before .counts-wrong .ensures _ _ lens rs kn) (c .before .before .before .before .before .before .before .before .before .before .before .before .if1 .left) _ _ (c .before .before .before .before .before .before .before .before .before .before .before .place-at .ensures .value) (c .before .before .before .before .before .before .before .before .before .before .word-at .ensures .value) (c .before .before .before .before .before .before .before .before .before .if2 .left) (λ k. omega (arith, c .before .before .before .before .before .before .before .before .before .before .before .before .before .before .before .before .before .shared-slice-known .given k)) _ _ _ (c .before .before .before .before .before .before .before .before .place-at2 .ensures .value) (c .before .before .before .before .before .before .before .place-at3 .ensures .value) (c .before .before .before .before .before .before .place-at4 .ensures .value) (c .before .before .before .before .before .before .before .before .before .before .before .before .before .before .before .before .before .before .args .ends .now) _ room _ (c .before .before .before .before .first-wrong-body .ensures) (c .before .if3 .taken) _ (c .place-of2 .ensures))
+returns-3 c = λ lens rs kn ok room. refused-tested (plan-body kn ok _ (c .before .before .before .before .before .before .before .before .before .before .before .before .before .before .before .counts-wrong .ensures _ _ lens rs kn) (c .before .before .before .before .before .before .before .before .before .before .before .before .before .before .if1 .left) _ _ (c .before .before .before .before .before .before .before .before .before .before .before .before .before .place-at .ensures .value) (c .before .before .before .before .before .before .before .before .before .before .before .before .word-at .ensures .value) (c .before .before .before .before .before .before .before .before .before .before .before .if2 .left) (λ k. omega (arith, c .before .before .before .before .before .before .before .before .before .before .before .before .before .before .before .before .before .before .before .shared-slice-known .given k)) _ _ _ (c .before .before .before .before .before .before .before .before .before .before .place-at2 .ensures .value) (c .before .before .before .before .before .before .before .before .before .place-at3 .ensures .value) (c .before .before .before .before .before .before .before .before .place-at4 .ensures .value) (c .before .before .before .before .before .before .before .before .before .before .before .before .before .before .before .before .before .before .before .before .args .ends .now) _ room _ (c .before .before .before .before .first-wrong-body .ensures) (c .before .if3 .taken) _ (c .place-of2 .ensures))
 
 same-length-2 : tie.Need-same-length-2
 same-length-2 c = search needs
 
 returns-4 : tie.Need-returns-4
-returns-4 c = λ lens rs kn ok room. record { verdict = plan-fine kn ok _ (c .before .before .before .before .before .before .before .before .before .before .before .before .counts-wrong .ensures _ _ lens rs kn) (c .before .before .before .before .before .before .before .before .before .before .before .if1 .left) _ _ (c .before .before .before .before .before .before .before .before .before .before .place-at .ensures .value) (c .before .before .before .before .before .before .before .before .before .word-at .ensures .value) (c .before .before .before .before .before .before .before .before .if2 .left) (λ k. omega (arith, c .before .before .before .before .before .before .before .before .before .before .before .before .before .before .before .before .shared-slice-known .given k)) _ _ _ (c .before .before .before .before .before .before .before .place-at2 .ensures .value) (c .before .before .before .before .before .before .place-at3 .ensures .value) (c .before .before .before .before .before .place-at4 .ensures .value) (c .before .before .before .before .before .before .before .before .before .before .before .before .before .before .before .before .before .args .ends .now) _ room _ (c .before .before .before .first-wrong-body .ensures) (c .if3 .left); ends-are = λ e. plan-ends kn ok _ (c .before .before .before .before .before .before .before .before .before .before .before .before .counts-wrong .ensures _ _ lens rs kn) (c .before .before .before .before .before .before .before .before .before .before .before .if1 .left) _ _ (c .before .before .before .before .before .before .before .before .before .before .place-at .ensures .value) (c .before .before .before .before .before .before .before .before .before .word-at .ensures .value) (c .before .before .before .before .before .before .before .before .if2 .left) (λ k. omega (arith, c .before .before .before .before .before .before .before .before .before .before .before .before .before .before .before .before .shared-slice-known .given k)) _ _ _ (c .before .before .before .before .before .before .before .place-at2 .ensures .value) (c .before .before .before .before .before .before .place-at3 .ensures .value) (c .before .before .before .before .before .place-at4 .ensures .value) (c .before .before .before .before .before .before .before .before .before .before .before .before .before .before .before .before .before .args .ends .now) _ room _ (c .before .before .before .first-wrong-body .ensures) (c .if3 .left) }
+returns-4 c = λ lens rs kn ok room. record { verdict = plan-fine kn ok _ (c .before .before .before .before .before .before .before .before .before .before .before .before .before .before .counts-wrong .ensures _ _ lens rs kn) (c .before .before .before .before .before .before .before .before .before .before .before .before .before .if1 .left) _ _ (c .before .before .before .before .before .before .before .before .before .before .before .before .place-at .ensures .value) (c .before .before .before .before .before .before .before .before .before .before .before .word-at .ensures .value) (c .before .before .before .before .before .before .before .before .before .before .if2 .left) (λ k. omega (arith, c .before .before .before .before .before .before .before .before .before .before .before .before .before .before .before .before .before .before .shared-slice-known .given k)) _ _ _ (c .before .before .before .before .before .before .before .before .before .place-at2 .ensures .value) (c .before .before .before .before .before .before .before .before .place-at3 .ensures .value) (c .before .before .before .before .before .before .before .place-at4 .ensures .value) (c .before .before .before .before .before .before .before .before .before .before .before .before .before .before .before .before .before .before .before .args .ends .now) _ room _ (c .before .before .before .first-wrong-body .ensures) (c .if3 .left); ends-are = λ e. plan-ends kn ok _ (c .before .before .before .before .before .before .before .before .before .before .before .before .before .before .counts-wrong .ensures _ _ lens rs kn) (c .before .before .before .before .before .before .before .before .before .before .before .before .before .if1 .left) _ _ (c .before .before .before .before .before .before .before .before .before .before .before .before .place-at .ensures .value) (c .before .before .before .before .before .before .before .before .before .before .before .word-at .ensures .value) (c .before .before .before .before .before .before .before .before .before .before .if2 .left) (λ k. omega (arith, c .before .before .before .before .before .before .before .before .before .before .before .before .before .before .before .before .before .before .shared-slice-known .given k)) _ _ _ (c .before .before .before .before .before .before .before .before .before .place-at2 .ensures .value) (c .before .before .before .before .before .before .before .before .place-at3 .ensures .value) (c .before .before .before .before .before .before .before .place-at4 .ensures .value) (c .before .before .before .before .before .before .before .before .before .before .before .before .before .before .before .before .before .before .before .args .ends .now) _ room _ (c .before .before .before .first-wrong-body .ensures) (c .if3 .left) }
 
 pub test-plan-spec : {M : Type 1} → statement M
 test-plan-spec =
