@@ -1,11 +1,11 @@
 -- Tables after a store, and the entries of kinds by their numbers.
-use Prim.Native.Nat.{ℕ, zero, suc, _+_, _<_, _≤_}
+use Prim.Native.Nat.{ℕ, zero, suc, _+_, _-_, _*_, _/_, _%_, _^_, _<_, _≤_}
 use native.Mathlib.Omega.{arith}
 use mathlib.Core.Path.{_≡_, refl, sym, ap, ap₂, _∙_}
 use mathlib.Core.Bool.{Bool, true, false}
-use mathlib.Core.List.{List, [], _∷_}
-use borrow.Author.Tests.{lt-ltb, le-ltb, eq-eqb, ne-eqb}
-use lib.Dec.{ltb, eqb}
+use mathlib.Core.List.{List}
+use borrow.Author.Tests.{lt-ltb, le-ltb, le-leb, lt-leb, eq-eqb, ne-eqb}
+use lib.Dec.{ltb, leb, eqb}
 use lib.ListN.{length, getD, set, length-set}
 use lib.Seq.{set-out, getD-set-same, getD-set-other}
 use Rattle.scheme.specs.Lists.{if_then_else_}
@@ -97,57 +97,57 @@ chains-length index kind n p = by (eqb kind 7)
     by true = stored-length (stored index (3426 + n) (getD index (3170 + hashOf p) 0)) (3170 + hashOf p) (n + 1) ∙ stored-length index (3426 + n) (getD index (3170 + hashOf p) 0)
     by false = refl
 
--- the blocks of the kinds, by their numbers
-abbrev pub bases : List ℕ
-bases = 3169 ∷ 0 ∷ 64 ∷ 96 ∷ 352 ∷ 3168 ∷ 608 ∷ 1120 ∷ 2144 ∷ 3169 ∷ []
+-- where the entries of a kind begin, by its number: twelve bits a kind, five kinds a word
+unfoldable packed : ℕ → ℕ
+packed n = if ltb n 5 then 99085789945662561 / 2 ^ (n * 12) % 4096 else if leb n 9 then 892141554547166304 / 2 ^ ((n - 5) * 12) % 4096 else 3169
 
-pub bases-within : (n : ℕ) → getD bases n 0 ≤ 3169
-bases-within zero = omega arith
-bases-within (suc zero) = omega arith
-bases-within (suc (suc zero)) = omega arith
-bases-within (suc (suc (suc zero))) = omega arith
-bases-within (suc (suc (suc (suc zero)))) = omega arith
-bases-within (suc (suc (suc (suc (suc zero))))) = omega arith
-bases-within (suc (suc (suc (suc (suc (suc zero)))))) = omega arith
-bases-within (suc (suc (suc (suc (suc (suc (suc zero))))))) = omega arith
-bases-within (suc (suc (suc (suc (suc (suc (suc (suc zero)))))))) = omega arith
-bases-within (suc (suc (suc (suc (suc (suc (suc (suc (suc zero))))))))) = omega arith
-bases-within (suc (suc (suc (suc (suc (suc (suc (suc (suc (suc n)))))))))) = omega arith
+packed-within : (n : ℕ) → n ≤ 9 → packed n ≤ 3169
+unfolding packed
+packed-within zero h = omega arith
+packed-within (suc zero) h = omega arith
+packed-within (suc (suc zero)) h = omega arith
+packed-within (suc (suc (suc zero))) h = omega arith
+packed-within (suc (suc (suc (suc zero)))) h = omega arith
+packed-within (suc (suc (suc (suc (suc zero))))) h = omega arith
+packed-within (suc (suc (suc (suc (suc (suc zero)))))) h = omega arith
+packed-within (suc (suc (suc (suc (suc (suc (suc zero))))))) h = omega arith
+packed-within (suc (suc (suc (suc (suc (suc (suc (suc zero)))))))) h = omega arith
+packed-within (suc (suc (suc (suc (suc (suc (suc (suc (suc zero))))))))) h = omega arith
+packed-within (suc (suc (suc (suc (suc (suc (suc (suc (suc (suc n)))))))))) h = absurd (omega arith)
+
+packed-number : (k : Kind) → packed (number k) ≡ base k
+unfolding packed number
+packed-number sort = refl
+packed-number constructor = refl
+packed-number nonterminal = refl
+packed-number rule = refl
+packed-number states = refl
+packed-number transition = refl
+packed-number type = refl
+packed-number binding = refl
+packed-number path = refl
 
 module _ (kind : ℕ) where
   abbrev pub Base : ℕ → Type 0
-  Base r = (k : Kind) → kind ≡ number k → r ≡ base k
+  Base r = ((k : Kind) → kind ≡ number k → r ≡ base k) × (r ≤ 3169)
 
-  pub bases-are : Base (getD bases kind 0)
-  unfolding number
-  bases-are k e = ap (λ n. getD bases n 0) e ∙ by k
-    where
-      by : (k : Kind) → getD bases (number k) 0 ≡ base k
-      by sort = refl
-      by constructor = refl
-      by nonterminal = refl
-      by rule = refl
-      by states = refl
-      by transition = refl
-      by type = refl
-      by binding = refl
-      by path = refl
+  packed-is : (k : Kind) → kind ≡ number k → packed kind ≡ base k
+  packed-is k e = ap packed e ∙ packed-number k
 
-  -- no kind has a number from 10 on
-  pub base-past : 10 ≤ kind → (r : ℕ) → Base r
-  unfolding number
-  base-past h r k e = absurd (by k e)
-    where
-      by : (k : Kind) → kind ≡ number k → ⊥
-      by sort f = omega arith
-      by constructor f = omega arith
-      by nonterminal f = omega arith
-      by rule f = omega arith
-      by states f = omega arith
-      by transition f = omega arith
-      by type f = omega arith
-      by binding f = omega arith
-      by path f = omega arith
+  packed-base : kind ≤ 9 → Base (packed kind)
+  packed-base h = (packed-is, packed-within kind h)
+
+  pub base-low : kind < 5 → Base (99085789945662561 / 2 ^ (kind * 12) % 4096)
+  unfolding packed
+  base-low h = rw (lt-ltb kind 5 h) at (packed-base (omega arith))
+
+  pub base-high : 5 ≤ kind → kind ≤ 9 → Base (892141554547166304 / 2 ^ ((kind - 5) * 12) % 4096)
+  unfolding packed
+  base-high h l = rw (le-ltb kind 5 h, le-leb kind 9 l) at (packed-base l)
+
+  pub base-past : 9 < kind → Base 3169
+  unfolding packed
+  base-past h = (rw (le-ltb kind 5 (omega arith), lt-leb kind 9 h) at packed-is, omega arith)
 
 -- What a record enters, by what the steps of the program did.
 pub entered-index : (index counts : List ℕ) (kind start n b x : ℕ) (p between after : List ℕ) → n ≡ getD counts kind 0 → b ≡ x → between ≡ stored index (b + n) start → after ≡ chainsAfter between kind n p

@@ -21,15 +21,22 @@ pub fn store(a: &mut [u16], i: usize, v: usize)
     }
 }
 
+// Where the entries of the kinds 0 to 4 begin in the index, twelve bits a kind: 3169, 0, 64, 96, 352. No kind has number 0.
+const LOW_BASES: u64 = 99085789945662561;
+// The same for the kinds 5 to 9: 3168, 608, 1120, 2144, 3169.
+const HIGH_BASES: u64 = 892141554547166304;
+
 // Where the entries of a kind begin in the index.
 fn base_of(kind: usize) -> usize
     ensures { λ r. ⌜ ((k : Kind) → kind ≡ number k → r ≡ base k) × (r ≤ 3169) ⌝ }
 {
-    let bases: [u16; 10] = [3169, 0, 64, 96, 352, 3168, 608, 1120, 2144, 3169];
-    if kind < 10 {
-        return bases[kind] as usize;
+    if 9 < kind {
+        return 3169;
     }
-    3169
+    if kind < 5 {
+        return (LOW_BASES >> (kind * 12) as u64) as usize % 4096;
+    }
+    (HIGH_BASES >> ((kind - 5) * 12) as u64) as usize % 4096
 }
 
 // Enters the argument count of a sort after n others; nothing for another kind.
