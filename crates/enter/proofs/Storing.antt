@@ -98,8 +98,14 @@ chains-length index kind n p = by (eqb kind 7)
     by false = refl
 
 -- where the entries of a kind begin, by its number: twelve bits a kind, five kinds a word
+abbrev low : ℕ → ℕ
+low n = (3169 + 64 * 2 ^ 24 + 96 * 2 ^ 36 + 352 * 2 ^ 48) / 2 ^ (n * 12) % 4096
+
+abbrev high : ℕ → ℕ
+high n = (3168 + 608 * 2 ^ 12 + 1120 * 2 ^ 24 + 2144 * 2 ^ 36 + 3169 * 2 ^ 48) / 2 ^ ((n - 5) * 12) % 4096
+
 unfoldable packed : ℕ → ℕ
-packed n = if ltb n 5 then 99085789945662561 / 2 ^ (n * 12) % 4096 else if leb n 9 then 892141554547166304 / 2 ^ ((n - 5) * 12) % 4096 else 3169
+packed n = if ltb n 5 then low n else if leb n 9 then high n else 3169
 
 packed-within : (n : ℕ) → n ≤ 9 → packed n ≤ 3169
 unfolding packed
@@ -137,11 +143,11 @@ module _ (kind : ℕ) where
   packed-base : kind ≤ 9 → Base (packed kind)
   packed-base h = (packed-is, packed-within kind h)
 
-  pub base-low : kind < 5 → Base (99085789945662561 / 2 ^ (kind * 12) % 4096)
+  pub base-low : kind < 5 → Base (low kind)
   unfolding packed
   base-low h = rw (lt-ltb kind 5 h) at (packed-base (omega arith))
 
-  pub base-high : 5 ≤ kind → kind ≤ 9 → Base (892141554547166304 / 2 ^ ((kind - 5) * 12) % 4096)
+  pub base-high : 5 ≤ kind → kind ≤ 9 → Base (high kind)
   unfolding packed
   base-high h l = rw (le-ltb kind 5 h, le-leb kind 9 l) at (packed-base l)
 

@@ -21,10 +21,10 @@ pub fn store(a: &mut [u16], i: usize, v: usize)
     }
 }
 
-// Where the entries of the kinds 0 to 4 begin in the index, twelve bits a kind: 3169, 0, 64, 96, 352. No kind has number 0.
-const LOW_BASES: u64 = 99085789945662561;
-// The same for the kinds 5 to 9: 3168, 608, 1120, 2144, 3169.
-const HIGH_BASES: u64 = 892141554547166304;
+// Where the entries of the kinds 0 to 4 begin in the index, twelve bits a kind; no kind has the number 0.
+const LOW_BASES: u64 = 3169 + (0 << 12) + (64 << 24) + (96 << 36) + (352 << 48);
+// The same for the kinds 5 to 9.
+const HIGH_BASES: u64 = 3168 + (608 << 12) + (1120 << 24) + (2144 << 36) + (3169 << 48);
 
 // Where the entries of a kind begin in the index.
 fn base_of(kind: usize) -> usize
