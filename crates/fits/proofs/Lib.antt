@@ -1,3 +1,4 @@
 pub mod Numbers
 pub mod Rows
 pub mod Filling
+pub mod Arrows

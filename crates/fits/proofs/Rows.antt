@@ -1,48 +1,39 @@
 -- One row of the table: what a type's record and a sort's record make of the flags of the types before.
 use Prim.Native.Nat.{ℕ, suc, _+_, _-_, _<_, _≤_}
 use native.Mathlib.Omega.{arith}
-use native.Mathlib.Nat.{zero-add}
+use native.Mathlib.Decide.{decLt}
+use native.Mathlib.Nat.{zero-add, add-zero}
 use mathlib.Core.Path.{_≡_, refl, sym, ap, ap₂, subst, _∙_}
 use mathlib.Core.Bool.{false, _&&_}
-use mathlib.Core.List.{List, [], _∷_, List·Memᴰ, List·Memᴰ·head, List·Memᴰ·tail}
+use mathlib.Core.List.{List, [], _∷_, List·Memᴰ}
 use borrow.Author.Tests.{eq-eqb}
 use lib.Dec.{eqb}
-use lib.ListN.{length, getD}
+use lib.ListN.{length, getD, drop}
 use Rattle.scheme.specs.Lists.{all}
-use Rattle.scheme.specs.Sorts.{o, _⇒_}
+use Rattle.scheme.specs.Sorts.{Sort, o, _⇒_}
 use Rattle.scheme.specs.Types.{Ty, state, arrow, fits, allFit}
 use Rattle.scheme.specs.Flags.{bit}
 use Rattle.records.specs.Fields.{field, byte, word, IsField}
 use Rattle.records.specs.Records.{Record}
 use Rattle.casefile.specs.Kinds.{sort, type, payloads}
 use Rattle.casefile.specs.Tables.{words, membersAt, arrowFrom, typeFrom, typesOf, sortFrom, sortsOf}
+use Rattle.casefile.proofs.Steps.{words-step, words-done}
 use Rattle.casefile.proofs.TypeNumbers.{Shape, a-state, an-arrow}
 use Rattle.casefile.proofs.TypeTable.{count-payloads, type-shape, type-made}
 use Rattle.casefile.proofs.SortTable.{sort-zero, sort-below, sort-made}
 use Rattle.entries.specs.Tests.{IsPlace}
-use Rattle.fit_flags.specs.Fitted.{flag, says, arrowSays, Holds, ArrowFits, fitsAt, Fitted}
+use Rattle.fit_flags.specs.Fitted.{fitsAt}
 use Rattle.fits.specs.Filled.{Listed, TypeThere}
-use Rattle.fit_flags.proofs.Arrows.{bit-says}
 
 -- where a type's payload lies, as it was read
 pub type-read : (file index : List ℕ) (t place len : ℕ) → IsPlace index (1120 + t) place → IsField 2 file (place - 4) len → TypeThere file index t place len
 type-read file index t place len p l = record { place-is = p .value; place-fits = p .bound; len-is = l .value; len-fits = l .bound }
 
--- The flags of the types before t.
-module _ (fit : List ℕ) (t sorts : ℕ) (rs : List Record) (rows : Fitted fit t sorts rs) where
-  says-fits : (s k : ℕ) → k < t → s ≤ sorts → says fit s k ≡ fitsAt rs k s
-  says-fits s k h l = bit-says (fitsAt rs k s) (flag fit k s) (rows k s h l)
-
-  members-say : (from : ℕ) (ms : List ℕ) → ((m : ℕ) → List·Memᴰ m ms → m < t) → from ≤ sorts → all (says fit from) ms ≡ allFit (membersAt (typesOf rs) ms) (getD (sortsOf rs) from o)
-  unfolding all membersAt allFit
-  members-say from [] h l = refl
-  members-say from (m ∷ ms) h l = ap₂ _&&_ (says-fits from m (h m (List·Memᴰ·head refl)) l) (members-say from ms (λ k j. h k (List·Memᴰ·tail j)) l)
-
-  -- they decide for an arrow of earlier numbers
-  arrow-says : (from to r : ℕ) (ms : List ℕ) → r < t → ((m : ℕ) → List·Memᴰ m ms → m < t) → from ≤ sorts → to ≤ sorts
-      → arrowSays fit from to (r ∷ ms) ≡ fits (arrow (membersAt (typesOf rs) ms) (getD (typesOf rs) r (state 0))) (getD (sortsOf rs) from o ⇒ getD (sortsOf rs) to o)
-  unfolding arrowSays fits
-  arrow-says from to r ms hr hms hf ht = ap₂ _&&_ (says-fits to r hr ht) (members-say from ms hms hf)
+-- the members of an arrow fit a sort where each number's type does
+members-fit : (types : List Ty) (a : Sort) (ms : List ℕ) → allFit (membersAt types ms) a ≡ all (λ m. fits (getD types m (state 0)) a) ms
+unfolding all membersAt allFit
+members-fit types a [] = refl
+members-fit types a (m ∷ ms) = ap (λ b. fits (getD types m (state 0)) a && b) (members-fit types a ms)
 
 state-from : (types : List Ty) (p : List ℕ) → length p ≡ 1 → typeFrom types p ≡ state (byte p 0)
 unfolding typeFrom
@@ -89,11 +80,11 @@ module _ {file index : List ℕ} {types sorts : ℕ} {rs : List Record} (li : Li
     made : getD (typesOf rs) t (state 0) ≡ typeFrom (typesOf rs) (typePay t)
     made = type-made (li .passed) (li .type-bytes) t (omega (arith, type-counted))
 
-    payload-there : Holds file place (typePay t)
+    pub payload-there : (w at : ℕ) → at + w ≤ length (typePay t) → field w file (place + at) ≡ field w (typePay t) at
     payload-there w at l = ap (λ k. field w file (k + at)) ep ∙ li .types-there .field-there t h w at l
 
     module _ {len : ℕ} (el : len ≡ word file (place - 4)) where
-      length-is : length (typePay t) ≡ len
+      pub length-is : length (typePay t) ≡ len
       length-is = let b = type-behind in sym (el ∙ li .types-there .length-there t (place - 4) h (omega (arith, ep)))
 
       -- a state fits sort 0 alone
@@ -117,7 +108,7 @@ module _ {file index : List ℕ} {types sorts : ℕ} {rs : List Record} (li : Li
         pub parts-before : (m : ℕ) → List·Memᴰ m parts → m < t
         pub is-arrow : getD (typesOf rs) t (state 0) ≡ arrow (membersAt (typesOf rs) parts) (getD (typesOf rs) result (state 0))
 
-      arrow-there : (len ≡ 1 → ⊥) → Arrow
+      pub arrow-there : (len ≡ 1 → ⊥) → Arrow
       arrow-there ne = by (type-shape (li .passed) (li .type-bytes) t (omega (arith, type-counted)))
         where
           by : Shape t (typePay t) → Arrow
@@ -129,13 +120,31 @@ module _ {file index : List ℕ} {types sorts : ℕ} {rs : List Record} (li : Li
       unfolding fits bit
       arrow-tree ne = sym (ap bit (ap₂ fits (arrow-there ne .is-arrow) (sort-zero rs)))
 
-      -- it fits another sort as its numbers say
-      pub arrow-row : (fit : List ℕ) {r : ℕ} (s result from to : ℕ) → Fitted fit t sorts rs → (len ≡ 1 → ⊥) → 0 < s → s ≤ sorts
-          → from ≡ word file (getD index (s - 1) 0 + 0) → to ≡ word file (getD index (s - 1) 0 + 2) → result ≡ word file place
-          → result < 65536 → place < 65536 → len < 65536 → ArrowFits file fit result place len from to r → r ≡ bit (fitsAt rs t s)
-      arrow-row fit s result from to rows ne h l ef et er hr hp hl answer =
-          let a = arrow-there ne in
-          let (is-sort, hf, ht) = sort-there s from to h l ef et in
-          answer er hr (let few = li .few-sorts in omega arith) hp hl (typePay t) payload-there length-is
-          ∙ ap bit (ap (arrowSays fit from to) (a .numbers) ∙ arrow-says fit t sorts rs rows from to (a .result) (a .parts) (a .result-before) (a .parts-before) hf ht
-          ∙ sym (ap₂ fits (a .is-arrow) is-sort))
+      -- its result is the number at its place, and its members are those from byte 2 on
+      pub arrow-numbers : (a : Arrow) → (2 ≤ len) × (word file place ≡ a .result) × (words (drop 2 (typePay t)) ≡ a .parts)
+      arrow-numbers a = by (decLt len 2)
+        where
+          by : Dec (len < 2) → (2 ≤ len) × (word file place ≡ a .result) × (words (drop 2 (typePay t)) ≡ a .parts)
+          by (yes l) =
+              let none = words-done (typePay t) 0 (omega (arith, length-is)) in
+              let some = a .numbers in
+              let z : _≡_ {A = ℕ} 0 1 = cc in
+              absurd (omega arith)
+          by (no l) =
+              let step = words-step (typePay t) 0 (omega (arith, length-is)) in
+              let some = a .numbers in
+              let there : word file place ≡ word (typePay t) 0 = ap (field 2 file) (sym (add-zero place)) ∙ payload-there 2 0 (omega (arith, length-is)) in
+              (omega arith, there ∙ (cc), cc)
+
+      -- it fits another sort where its result fits what the sort goes to, and its members what it goes from
+      pub arrow-fits : (a : Arrow) (s from to : ℕ) → 0 < s → s ≤ sorts
+          → (word file (getD index (s - 1) 0 + 0) ≤ 64 → from ≡ word file (getD index (s - 1) 0 + 0)) → (word file (getD index (s - 1) 0 + 2) ≤ 64 → to ≡ word file (getD index (s - 1) 0 + 2))
+          → (fitsAt rs t s ≡ (fitsAt rs (a .result) to && all (λ m. fitsAt rs m from) (a .parts))) × (from ≤ sorts) × (to ≤ sorts)
+      unfolding fits
+      arrow-fits a s from to h l ef et =
+          let few = li .few-sorts in
+          let b = sort-there s (word file (getD index (s - 1) 0 + 0)) (word file (getD index (s - 1) 0 + 2)) h l refl refl in
+          let from-is = ef (omega (arith, b .1)) in
+          let to-is = et (omega (arith, b .2)) in
+          let (is-sort, hf, ht) = sort-there s from to h l from-is to-is in
+          (ap₂ fits (a .is-arrow) is-sort ∙ ap (λ c. fitsAt rs (a .result) to && c) (members-fit (typesOf rs) (getD (sortsOf rs) from o) (a .parts)), hf, ht)

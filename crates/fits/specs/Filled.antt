@@ -1,15 +1,16 @@
 -- The table of fits, row by row.
-use Prim.Native.Nat.{ℕ, _+_, _-_, _<_, _≤_}
+use Prim.Native.Nat.{ℕ, _+_, _-_, _*_, _<_, _≤_}
 use mathlib.Core.Path.{_≡_}
 use mathlib.Core.List.{List, []}
 use lib.ListN.{getD}
+use lib.Bits.{bitAnd}
 use Rattle.records.specs.Fields.{word}
 use Rattle.records.specs.Records.{Record}
 use Rattle.records.proofs.Fields.{Bytes}
 use Rattle.casefile.specs.Kinds.{sort, type, payloads}
 use Rattle.casefile.proofs.Passed.{Passed}
 use Rattle.entries.specs.Index.{Indexed}
-use Rattle.fit_flags.specs.Fitted.{Fitted}
+use Rattle.fit_flags.specs.Fitted.{flag, Fitted}
 
 -- the records passed their tests, and the index has their types and their sorts, no more than the table has room for
 pub record Listed (file index : List ℕ) (types sorts : ℕ) (rs : List Record) : Type 0 where
@@ -28,9 +29,31 @@ pub record TypeThere (file index : List ℕ) (t place len : ℕ) : Type 0 where
   pub len-is : len ≡ word file (place - 4)
   pub len-fits : len < 65536
 
--- entry s of a table is the number at byte `at` of the payload of sort s, of so many listed sorts
+-- the entries of a table for so many sorts are no more than 64
+abbrev pub Small : ℕ → List ℕ → Type 0
+Small sorts table = (s : ℕ) → 0 < s → s ≤ sorts → getD table s 0 ≤ 64
+
+-- entry s of a table is the number at byte `at` of the payload of sort s, of so many listed sorts, where it is a sort's
 abbrev pub SortWords : List ℕ → List ℕ → ℕ → ℕ → List ℕ → Type 0
-SortWords file index at sorts table = (s : ℕ) → 0 < s → s ≤ sorts → getD table s 0 ≡ word file (getD index (s - 1) 0 + at)
+SortWords file index at sorts table =
+    (s : ℕ) → 0 < s → s ≤ sorts → word file (getD index (s - 1) 0 + at) ≤ 64 → getD table s 0 ≡ word file (getD index (s - 1) 0 + at)
+
+-- the flags of type t for so many sorts are written, and no flag before them changed
+pub record Wrote (sorts t : ℕ) (x : ℕ → ℕ) (old fit : List ℕ) : Type 0 where
+  pub flags : (s : ℕ) → 0 < s → s ≤ sorts → flag fit t s ≡ x s
+  pub before : (i : ℕ) → i ≤ t * 65 → getD fit i 0 ≡ getD old i 0
+
+-- the flag x together with that of type b and the sort at s of a table
+abbrev pub andFlag : List ℕ → ℕ → List ℕ → ℕ → ℕ → ℕ
+andFlag fit x others b s = bitAnd x (flag fit b (getD others s 0))
+
+-- the flags of two types, by a table each, taken together
+abbrev pub both : List ℕ → List ℕ → ℕ → List ℕ → ℕ → ℕ → ℕ
+both fit ones a others b s = andFlag fit (flag fit a (getD ones s 0)) others b s
+
+-- the flag of type t together with that of another type
+abbrev pub met : List ℕ → ℕ → List ℕ → ℕ → ℕ → ℕ
+met fit t others b s = andFlag fit (flag fit t s) others b s
 
 module _ (file index : List ℕ) where
   -- the table with the row of type t, where it had the rows before
@@ -52,7 +75,17 @@ abbrev pub FillsState : ℕ → ℕ → List ℕ → List ℕ → Type 0
 FillsState sorts t old fit =
     (file index : List ℕ) (place len : ℕ) → TypeThere file index t place len → len ≡ 1 → FillsRow file index sorts t old fit
 
+-- what is known of type t, an arrow, where a table has the rows before it and two have the numbers of the sorts
+pub record Known (file froms tos : List ℕ) (sorts t place len : ℕ) (old index : List ℕ) (types : ℕ) (rs : List Record) : Type 0 where
+  pub listed : Listed file index types sorts rs
+  pub there : TypeThere file index t place len
+  pub no-state : len ≡ 1 → ⊥
+  pub froms-there : SortWords file index 0 sorts froms
+  pub tos-there : SortWords file index 2 sorts tos
+  pub below : t < types
+  pub rows : Fitted old t sorts rs
+
 -- the row of type t, where it is an arrow
 abbrev pub FillsArrow : List ℕ → List ℕ → List ℕ → ℕ → ℕ → ℕ → ℕ → List ℕ → List ℕ → Type 0
 FillsArrow file froms tos sorts t place len old fit =
-    (index : List ℕ) → TypeThere file index t place len → (len ≡ 1 → ⊥) → ReadsRow file index froms tos sorts t old fit
+    (index : List ℕ) (types : ℕ) (rs : List Record) → Known file froms tos sorts t place len old index types rs → Fitted fit (t + 1) sorts rs

@@ -1,29 +1,39 @@
 // The fit of types to sorts.
 use entries::place_at;
-use fit_flags::arrow_fits;
 use records::word_at;
 ghost use mathlib.Core.Path.{_≡_};
-ghost use lib.ListN.{length};
 ghost use Prim.Native.Nat.{_<_, _≤_};
-ghost use Rattle.fits.specs.Filled.{SortWords, FillsState, FillsArrow, ReadsRow, Fills};
+ghost use lib.ListN.{length};
+ghost use Rattle.fits.specs.Filled.{Small, SortWords, Wrote, both, met, FillsState, FillsArrow, ReadsRow, Fills};
 
-// A number of two bytes, as wide as an index.
-fn wide(number: u16) -> usize
+// A number of one byte, as wide as an index.
+fn wide(number: u8) -> usize
     ensures { λ r. ⌜ r ≡ number ⌝ }
 {
     number as usize
 }
 
-// Stores at entry s of a table the number at byte `at` of the payload of sort s, for so many sorts.
-fn read_sorts(file: &[u8], index: &[u16], at: usize, sorts: usize, table: &mut [u16])
-    requires { ⌜ (at ≤ 2) × (sorts ≤ 64) × (length (now table) ≡ 65) ⌝ }
-    ensures { λ _. ⌜ SortWords (now (file .entry)) (now (index .entry)) at sorts (now (table .exit)) ⌝ }
+// The number of a sort in one byte; 0 where a file has not so many sorts.
+fn small(number: usize) -> u8
+    ensures { λ r. ⌜ (r ≤ 64) × (number ≤ 64 → r ≡ number) ⌝ }
+{
+    if 64 < number {
+        return 0;
+    }
+    number as u8
+}
+
+// Stores at entry s of two tables the numbers of the sorts that sort s goes from and to, for so many sorts.
+fn read_sorts(file: &[u8], index: &[u16], sorts: usize, froms: &mut [u8], tos: &mut [u8])
+    requires { ⌜ (sorts ≤ 64) × (length (now froms) ≡ 65) × (length (now tos) ≡ 65) ⌝ }
+    ensures froms { λ _. ⌜ Small sorts (now (froms .exit)) × SortWords (now (file .entry)) (now (index .entry)) 0 sorts (now (froms .exit)) ⌝ }
+    ensures tos { λ _. ⌜ Small sorts (now (tos .exit)) × SortWords (now (file .entry)) (now (index .entry)) 2 sorts (now (tos .exit)) ⌝ }
 {
     let mut s: usize = 1;
     while s <= sorts {
         let place = place_at(index, s - 1);
-        let number = word_at(file, place + at);
-        table[s] = number as u16;
+        froms[s] = small(word_at(file, place));
+        tos[s] = small(word_at(file, place + 2));
         s = s + 1;
     }
 }
@@ -41,43 +51,92 @@ fn fill_state(sorts: usize, t: usize, fit: &mut [u8])
     fit[t * 65] = 1;
 }
 
-// Writes the row of type t, an arrow whose payload is the len bytes at place.
+// Writes for each sort s whether type a fits the sort at s of one table and type b that of another, as the flag of type t.
+fn write_row(
+    ones: &[u8; 65],
+    a: usize,
+    others: &[u8; 65],
+    b: usize,
+    sorts: usize,
+    t: usize,
+    fit: &mut [u8],
+)
+    requires { ⌜ (t < 1024) × (sorts ≤ 64) × (length (now fit) ≡ 66560) × (a < t) × (b < t) × Small sorts (now ones) × Small sorts (now others) ⌝ }
+    ensures { λ _. ⌜ Wrote sorts t (both (now (fit .entry)) (now (ones .entry)) a (now (others .entry)) b) (now (fit .entry)) (now (fit .exit)) ⌝ }
+{
+    let mut s: usize = 1;
+    while s <= sorts {
+        let one = fit[a * 65 + wide(ones[s])];
+        let other = fit[b * 65 + wide(others[s])];
+        fit[t * 65 + s] = one & other;
+        s = s + 1;
+    }
+}
+
+// Clears the flag of type t for each sort s where type b does not fit the sort at s of a table.
+fn meet_row(others: &[u8; 65], b: usize, sorts: usize, t: usize, fit: &mut [u8])
+    requires { ⌜ (t < 1024) × (sorts ≤ 64) × (length (now fit) ≡ 66560) × (b < t) × Small sorts (now others) ⌝ }
+    ensures { λ _. ⌜ Wrote sorts t (met (now (fit .entry)) t (now (others .entry)) b) (now (fit .entry)) (now (fit .exit)) ⌝ }
+{
+    let mut s: usize = 1;
+    while s <= sorts {
+        let one = fit[t * 65 + s];
+        let other = fit[b * 65 + wide(others[s])];
+        fit[t * 65 + s] = one & other;
+        s = s + 1;
+    }
+}
+
+// Writes the row of type t, an arrow whose payload is the len bytes at place: where its result and each member fit.
 fn fill_arrow(
     file: &[u8],
-    froms: &[u16; 65],
-    tos: &[u16; 65],
+    froms: &[u8; 65],
+    tos: &[u8; 65],
     sorts: usize,
     t: usize,
     place: usize,
     len: usize,
     fit: &mut [u8],
 )
-    requires { ⌜ (t < 1024) × (sorts ≤ 64) × (length (now fit) ≡ 66560) ⌝ }
+    requires { ⌜ (t < 1024) × (sorts ≤ 64) × (length (now fit) ≡ 66560) × (place < 65536) × (len < 65536) × Small sorts (now froms) × Small sorts (now tos) ⌝ }
     ensures { λ _. ⌜ FillsArrow (now (file .entry)) (now (froms .entry)) (now (tos .entry)) sorts t place len (now (fit .entry)) (now (fit .exit)) ⌝ }
 {
     let result = word_at(file, place);
-    let mut s: usize = 1;
-    while s <= sorts {
-        let from = wide(froms[s]);
-        let to = wide(tos[s]);
-        let fits = arrow_fits(file, fit, result, place, len, from, to);
-        fit[t * 65 + s] = fits;
-        s = s + 1;
+    if t <= result {
+        return;
     }
     fit[t * 65] = 0;
+    if len < 4 {
+        write_row(tos, result, tos, result, sorts, t, fit);
+        return;
+    }
+    let first = word_at(file, place + 2);
+    if t <= first {
+        return;
+    }
+    write_row(tos, result, froms, first, sorts, t, fit);
+    let mut i: usize = 4;
+    while i + 2 <= len {
+        let member = word_at(file, place + i);
+        if t <= member {
+            return;
+        }
+        meet_row(froms, member, sorts, t, fit);
+        i = i + 2;
+    }
 }
 
 // Writes the row of type t: its flags for sort 0 and so many listed sorts.
 fn fill_row(
     file: &[u8],
     index: &[u16],
-    froms: &[u16; 65],
-    tos: &[u16; 65],
+    froms: &[u8; 65],
+    tos: &[u8; 65],
     sorts: usize,
     t: usize,
     fit: &mut [u8; 66560],
 )
-    requires { ⌜ (t < 1024) × (sorts ≤ 64) ⌝ }
+    requires { ⌜ (t < 1024) × (sorts ≤ 64) × Small sorts (now froms) × Small sorts (now tos) ⌝ }
     ensures { λ _. ⌜ ReadsRow (now (file .entry)) (now (index .entry)) (now (froms .entry)) (now (tos .entry)) sorts t (now (fit .entry)) (now (fit .exit)) ⌝ }
 {
     let place = place_at(index, 1120 + t);
@@ -102,10 +161,9 @@ pub fn fill_fits(file: &[u8], index: &[u16], types: usize, sorts: usize, fit: &m
     if 64 < sorts {
         return;
     }
-    let mut froms = [0u16; 65];
-    let mut tos = [0u16; 65];
-    read_sorts(file, index, 0, sorts, &mut froms);
-    read_sorts(file, index, 2, sorts, &mut tos);
+    let mut froms = [0u8; 65];
+    let mut tos = [0u8; 65];
+    read_sorts(file, index, sorts, &mut froms, &mut tos);
     let mut t: usize = 0;
     while t < types {
         fill_row(file, index, &froms, &tos, sorts, t, fit);

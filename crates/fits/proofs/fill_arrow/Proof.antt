@@ -1,81 +1,97 @@
--- `fill_arrow` meets its contract. The invariant: the flags from sort 1 on before s are there.
-use Prim.Native.Nat.{_+_, _-_, _<_, _≤_}
-use lib.ListN.{length-set}
+-- `fill_arrow` meets its contract. The invariant: the flags decide together with the members from byte i on.
+use Prim.Native.Nat.{ℕ, _-_, _*_, _≤_}
+use mathlib.Core.Path.{_≡_}
+use mathlib.Core.List.{List}
 use native.Mathlib.Omega.{arith}
 use borrow.Author.Needs.{needs}
-use Rattle.fits.proofs.Filling.{ArrowTo, arrow-none, arrow-more, arrow-all}
+use lib.ListN.{length, set, length-set}
+use Rattle.fits.proofs.Arrows.{ArrowTo, result-late, result-only, first-late, first-met, member-late, member-met, all-met}
 use Rattle.fits.proofs.fill_arrow.Statement.{statement}
 use Rattle.fits.proofs.fill_arrow.Tie as tie
 
 abbrev Inv-loop : tie.InvT-loop
-Inv-loop file froms tos sorts t place len fit₀ result s₀ fit s = (0 < s) × (s ≤ sorts + 1) × ArrowTo file froms tos sorts t place len fit₀ fit s
+Inv-loop file froms tos sorts t place len fit₀ result first i₀ fit i = (i ≤ len) × (length fit ≡ 66560) × ((old : List ℕ) → ArrowTo file froms tos sorts t place len old fit₀ 4 → ArrowTo file froms tos sorts t place len old fit i)
 
 abbrev μ-loop : tie.MeasureT-loop
-μ-loop file froms tos sorts t place len fit₀ result s₀ fit s = sorts + 1 - s
+μ-loop file froms tos sorts t place len fit₀ result first i₀ fit i = len - i
 
 word-at-requires : tie.Need-word-at-requires Inv-loop μ-loop
 word-at-requires c κs = search needs
 
-loop-holds : tie.Need-loop-holds Inv-loop μ-loop
-loop-holds c = (omega arith, omega arith, arrow-none _ _ _ _ _ _ _ _ (omega arith))
-
-mul-wide : tie.Need-mul-wide Inv-loop μ-loop
-mul-wide c = omega arith
-
-element-copy-out-wide : tie.Need-element-copy-out-wide Inv-loop μ-loop
-element-copy-out-wide c = omega arith
-
-wide-requires : tie.Need-wide-requires Inv-loop μ-loop
-wide-requires c κs = search needs
-
-mul-wide-2 : tie.Need-mul-wide-2 Inv-loop μ-loop
-mul-wide-2 c = omega arith
-
-element-copy-out-wide-2 : tie.Need-element-copy-out-wide-2 Inv-loop μ-loop
-element-copy-out-wide-2 c = omega arith
-
-wide-requires-2 : tie.Need-wide-requires-2 Inv-loop μ-loop
-wide-requires-2 c κs = search needs
-
-arrow-fits-requires : tie.Need-arrow-fits-requires Inv-loop μ-loop
-arrow-fits-requires c κs = search needs
+returns : tie.Need-returns Inv-loop μ-loop
+returns c = result-late _ _ _ _ _ _ _ _ _ (c .before .word-at .ensures .value) (c .before .before .before .before .args .fit .now) (c .if1 .taken)
 
 mul-fit : tie.Need-mul-fit Inv-loop μ-loop
 mul-fit c = omega arith
 
-add-fit : tie.Need-add-fit Inv-loop μ-loop
-add-fit c = omega arith
-
 slice-write-fit : tie.Need-slice-write-fit Inv-loop μ-loop
 slice-write-fit c = omega arith
 
-add-s : tie.Need-add-s Inv-loop μ-loop
-add-s c = omega arith
+write-row-requires : tie.Need-write-row-requires Inv-loop μ-loop
+write-row-requires c κs = search needs
+
+same-length : tie.Need-same-length Inv-loop μ-loop
+same-length c = let e = length-set (c .before .before .before .before .before .before .before .before .before .args .fit .now) (c .before .before .before .before .before .before .before .before .before .args .t * 65) 0 in omega arith
+
+returns-2 : tie.Need-returns-2 Inv-loop μ-loop
+returns-2 c = result-only _ _ _ _ _ _ _ _ _ (c .before .before .before .before .before .before .word-at .ensures .value) (omega arith) _ (c .before .before .before .before .if2 .taken) (c .before .before .write-row .ensures)
+
+add-word-at : tie.Need-add-word-at Inv-loop μ-loop
+add-word-at c = omega arith
+
+word-at-requires-2 : tie.Need-word-at-requires-2 Inv-loop μ-loop
+word-at-requires-2 c κs = search needs
+
+same-length-2 : tie.Need-same-length-2 Inv-loop μ-loop
+same-length-2 c = simp length-set (omega arith)
+
+returns-3 : tie.Need-returns-3 Inv-loop μ-loop
+returns-3 c = first-late _ _ _ _ _ _ _ _ _ (c .before .before .before .before .word-at .ensures .value) (omega arith) _ (c .before .before .if2 .left) (c .before .word-at2 .ensures .value) (set (c .before .before .before .before .before .before .before .args .fit .now) (c .before .before .before .before .before .before .before .args .t * 65) 0) (c .if3 .taken)
+
+write-row-requires-2 : tie.Need-write-row-requires-2 Inv-loop μ-loop
+write-row-requires-2 c κs = search needs
+
+loop-holds : tie.Need-loop-holds Inv-loop μ-loop
+loop-holds c = (omega arith, (let e = length-set (c .before .before .before .before .before .before .before .before .before .before .before .args .fit .now) (c .before .before .before .before .before .before .before .before .before .before .before .args .t * 65) 0 in omega arith), λ old a. a)
+
+add-loop : tie.Need-add-loop Inv-loop μ-loop
+add-loop c = omega arith
+
+add-word-at-2 : tie.Need-add-word-at-2 Inv-loop μ-loop
+add-word-at-2 c = omega arith
+
+word-at-requires-3 : tie.Need-word-at-requires-3 Inv-loop μ-loop
+word-at-requires-3 c κs = search needs
+
+same-length-3 : tie.Need-same-length-3 Inv-loop μ-loop
+same-length-3 c = let e = length-set (c .before .before .before .before .before .before .before .before .before .before .before .before .before .before .before .args .fit .now) (c .before .before .before .before .before .before .before .before .before .before .before .before .before .before .before .args .t * 65) 0 in omega arith
+
+returns-4 : tie.Need-returns-4 Inv-loop μ-loop
+returns-4 c =
+    let l = c .before .before .before .loop in
+    member-late _ _ _ _ _ _ _ _ (l .fit) (l .i) (l .inv .2 _ (first-met _ _ _ _ _ _ _ _ _ (c .before .before .before .before .before .before .before .before .before .before .before .before .word-at .ensures .value) (omega arith) _ (c .before .before .before .before .before .before .before .before .before .before .if2 .left) (c .before .before .before .before .before .before .before .before .before .word-at2 .ensures .value) _ (c .before .before .before .before .before .before .write-row2 .ensures))) _ (omega arith) (c .before .word-at3 .ensures .value) (c .if4 .taken)
+
+meet-row-requires : tie.Need-meet-row-requires Inv-loop μ-loop
+meet-row-requires c κs = search needs
+
+add-i : tie.Need-add-i Inv-loop μ-loop
+add-i c = omega arith
 
 loop-less : tie.Need-loop-less Inv-loop μ-loop
 loop-less c = omega arith
 
 loop-again : tie.Need-loop-again Inv-loop μ-loop
 loop-again c =
-    let a = c .before .before .before .before .before .before .before in
-    let l = a .loop in (
-      omega arith,
-      omega arith,
-      arrow-more _ _ _ _ _ _ _ _ (omega arith) (omega arith) (l .fit) (l .s) (l .inv .2) _ _ _ _ (omega arith) (omega arith) (a .before .word-at .ensures)
-          (c .before .before .before .before .wide .ensures) (c .before .before .wide2 .ensures) (c .arrow-fits .ensures),
-    )
+    let l = c .before .before .before .before .before .before .before .loop in
+    (omega arith, omega arith, λ old a. member-met _ _ _ _ _ _ _ _ (l .fit) (l .i) (l .inv .2 old a) _ (omega arith) (c .before .before .before .before .before .word-at3 .ensures .value) _ (c .before .before .meet-row .ensures))
 
-mul-fit-2 : tie.Need-mul-fit-2 Inv-loop μ-loop
-mul-fit-2 c = omega arith
+same-length-4 : tie.Need-same-length-4 Inv-loop μ-loop
+same-length-4 c = let e = length-set (c .before .before .before .before .before .before .before .before .before .before .before .before .before .args .fit .now) (c .before .before .before .before .before .before .before .before .before .before .before .before .before .args .t * 65) 0 in omega arith
 
-slice-write-fit-2 : tie.Need-slice-write-fit-2 Inv-loop μ-loop
-slice-write-fit-2 c = omega arith
-
-same-length : tie.Need-same-length Inv-loop μ-loop
-same-length c = simp length-set (omega arith)
-
-returns : tie.Need-returns Inv-loop μ-loop
-returns c = let l = c .before .loop in arrow-all _ _ _ _ _ _ _ _ (omega arith) (omega arith) (l .fit) (l .s) (l .inv .2) (omega arith)
+returns-5 : tie.Need-returns-5 Inv-loop μ-loop
+returns-5 c =
+    let l = c .before .loop in
+    all-met _ _ _ _ _ _ _ _ (l .fit) (l .i) (l .inv .2 _ (first-met _ _ _ _ _ _ _ _ _ (c .before .before .before .before .before .before .before .before .before .before .word-at .ensures .value) (omega arith) _ (c .before .before .before .before .before .before .before .before .if2 .left) (c .before .before .before .before .before .before .before .word-at2 .ensures .value) _ (c .before .before .before .before .write-row2 .ensures))) (omega arith)
 
 pub fill-arrow-spec : {M : Type 1} → statement M
 fill-arrow-spec =
@@ -84,21 +100,26 @@ fill-arrow-spec =
     Inv-loop
     μ-loop
     word-at-requires
-    loop-holds
-    mul-wide
-    element-copy-out-wide
-    wide-requires
-    mul-wide-2
-    element-copy-out-wide-2
-    wide-requires-2
-    arrow-fits-requires
+    returns
     mul-fit
-    add-fit
     slice-write-fit
-    add-s
+    write-row-requires
+    same-length
+    returns-2
+    add-word-at
+    word-at-requires-2
+    same-length-2
+    returns-3
+    write-row-requires-2
+    loop-holds
+    add-loop
+    add-word-at-2
+    word-at-requires-3
+    same-length-3
+    returns-4
+    meet-row-requires
+    add-i
     loop-less
     loop-again
-    mul-fit-2
-    slice-write-fit-2
-    same-length
-    returns)
+    same-length-4
+    returns-5)

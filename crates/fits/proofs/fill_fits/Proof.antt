@@ -24,14 +24,11 @@ returns-2 c rs li = absurd (omega arith)
 slice-aggregate-read-sorts : tie.Need-slice-aggregate-read-sorts Inv-loop μ-loop
 slice-aggregate-read-sorts c = search needs
 
-read-sorts-requires : tie.Need-read-sorts-requires Inv-loop μ-loop
-read-sorts-requires c κs = search needs
-
 slice-aggregate-read-sorts-2 : tie.Need-slice-aggregate-read-sorts-2 Inv-loop μ-loop
 slice-aggregate-read-sorts-2 c = search needs
 
-read-sorts-requires-2 : tie.Need-read-sorts-requires-2 Inv-loop μ-loop
-read-sorts-requires-2 c κs = search needs
+read-sorts-requires : tie.Need-read-sorts-requires Inv-loop μ-loop
+read-sorts-requires c κs = search needs
 
 loop-holds : tie.Need-loop-holds Inv-loop μ-loop
 loop-holds c = (omega arith, λ rs li u s hu hs. absurd (omega arith))
@@ -48,8 +45,8 @@ loop-less c = omega arith
 loop-again : tie.Need-loop-again Inv-loop μ-loop
 loop-again c =
     let b = c .before .before .before .before .before in
-    let r = b .before .before in
-    (omega arith, λ rs li. c .fill-row .ensures (r .before .before .before .read-sorts .ensures) (r .read-sorts2 .ensures) _ rs li (omega arith) (b .loop .inv .1 rs li))
+    let (froms, tos) = b .before .before .before .read-sorts .ensures in
+    (omega arith, λ rs li. c .fill-row .ensures (froms .1) (tos .1) _ rs li (omega arith) (b .loop .inv .1 rs li))
 
 returns-3 : tie.Need-returns-3 Inv-loop μ-loop
 returns-3 c rs li u s hu hs = c .before .loop .inv .1 rs li u s (omega arith) hs
@@ -63,9 +60,8 @@ fill-fits-spec =
     returns
     returns-2
     slice-aggregate-read-sorts
-    read-sorts-requires
     slice-aggregate-read-sorts-2
-    read-sorts-requires-2
+    read-sorts-requires
     loop-holds
     fill-row-requires
     add-t

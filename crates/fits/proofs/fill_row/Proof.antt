@@ -29,9 +29,17 @@ returns-2 c hf ht =
     c .fill-state .ensures _ _ _ _ (type-read _ _ _ _ _ (w .before .before .place-at .ensures) (w .word-at .ensures)) (c .before .before .if2 .taken)
 
 returns-3 : tie.Need-returns-3
-returns-3 c =
+returns-3 c hf ht types rs li h rows =
     let w = c .before .before .before in
-    c .fill-arrow .ensures _ (type-read _ _ _ _ _ (w .before .before .place-at .ensures) (w .word-at .ensures)) (c .before .before .if2 .left)
+    c .fill-arrow .ensures _ types rs (record {
+      listed = li;
+      there = type-read _ _ _ _ _ (w .before .before .place-at .ensures) (w .word-at .ensures);
+      no-state = c .before .before .if2 .left;
+      froms-there = hf;
+      tos-there = ht;
+      below = h;
+      rows = rows;
+    })
 
 pub fill-row-spec : {M : Type 1} → statement M
 fill-row-spec =

@@ -1,19 +1,20 @@
 -- `fill_state` meets its contract. The invariant: the flags from sort 1 on before s are there.
 use Prim.Native.Nat.{_+_, _-_, _<_, _≤_}
-use lib.ListN.{length-set}
 use native.Mathlib.Omega.{arith}
-use Rattle.fits.proofs.Filling.{StateTo, state-none, state-more, state-all}
+use mathlib.Core.Path.{refl}
+use lib.ListN.{length-set}
+use Rattle.fits.proofs.Filling.{WroteTo, wrote-none, wrote-more, state-all}
 use Rattle.fits.proofs.fill_state.Statement.{statement}
 use Rattle.fits.proofs.fill_state.Tie as tie
 
 abbrev Inv-loop : tie.InvT-loop
-Inv-loop sorts t fit₀ s₀ fit s = (0 < s) × (s ≤ sorts + 1) × StateTo sorts t fit₀ fit s
+Inv-loop sorts t fit₀ s₀ fit s = (0 < s) × (s ≤ sorts + 1) × WroteTo t (λ _. 0) fit₀ fit s
 
 abbrev μ-loop : tie.MeasureT-loop
 μ-loop sorts t fit₀ s₀ fit s = sorts + 1 - s
 
 loop-holds : tie.Need-loop-holds Inv-loop μ-loop
-loop-holds c = (omega arith, omega arith, state-none _ _ _ (omega arith))
+loop-holds c = (omega arith, omega arith, wrote-none _ _ _ (omega arith))
 
 mul-fit : tie.Need-mul-fit Inv-loop μ-loop
 mul-fit c = omega arith
@@ -31,7 +32,7 @@ loop-less : tie.Need-loop-less Inv-loop μ-loop
 loop-less c = omega arith
 
 loop-again : tie.Need-loop-again Inv-loop μ-loop
-loop-again c = let l = c .before .loop in (omega arith, omega arith, state-more _ _ _ (omega arith) (omega arith) (l .fit) (l .s) (l .inv .2) (omega arith) (omega arith))
+loop-again c = let l = c .before .loop in (omega arith, omega arith, wrote-more _ _ _ (l .fit) (l .s) (l .inv .2) 0 (omega arith) (omega arith) refl)
 
 mul-fit-2 : tie.Need-mul-fit-2 Inv-loop μ-loop
 mul-fit-2 c = omega arith
@@ -43,7 +44,7 @@ same-length : tie.Need-same-length Inv-loop μ-loop
 same-length c = simp length-set (omega arith)
 
 returns : tie.Need-returns Inv-loop μ-loop
-returns c = let l = c .before .loop in state-all _ _ _ (omega arith) (omega arith) (l .fit) (l .s) (l .inv .2) (omega arith)
+returns c = let l = c .before .loop in state-all _ _ _ (l .fit) (l .s) (omega arith) (omega arith) (l .inv .2) (omega arith)
 
 pub fill-state-spec : {M : Type 1} → statement M
 fill-state-spec =

@@ -1,0 +1,98 @@
+-- `meet_row` meets its contract. The invariant: the flags from sort 1 on before s are there.
+use Prim.Native.Nat.{_+_, _-_, _<_, _≤_}
+use native.Mathlib.Omega.{arith}
+use borrow.Author.Needs.{needs}
+use mathlib.Core.Path.{ap₂}
+use lib.Bits.{bitAnd}
+use Rattle.fits.specs.Filled.{met}
+use Rattle.fits.proofs.Filling.{WroteTo, wrote-none, wrote-more, wrote-all, flag-before}
+use Rattle.fits.proofs.meet_row.Statement.{statement}
+use Rattle.fits.proofs.meet_row.Tie as tie
+
+abbrev Inv-loop : tie.InvT-loop
+Inv-loop others b sorts t fit₀ s₀ fit s = (0 < s) × (s ≤ sorts + 1) × WroteTo t (met fit₀ t others b) fit₀ fit s
+
+abbrev μ-loop : tie.MeasureT-loop
+μ-loop others b sorts t fit₀ s₀ fit s = sorts + 1 - s
+
+loop-holds : tie.Need-loop-holds Inv-loop μ-loop
+loop-holds c = (omega arith, omega arith, wrote-none _ _ _ (omega arith))
+
+mul-one : tie.Need-mul-one Inv-loop μ-loop
+mul-one c = omega arith
+
+add-one : tie.Need-add-one Inv-loop μ-loop
+add-one c = omega arith
+
+slice-read-one : tie.Need-slice-read-one Inv-loop μ-loop
+slice-read-one c = omega arith
+
+mul-other : tie.Need-mul-other Inv-loop μ-loop
+mul-other c = omega arith
+
+element-copy-out-wide : tie.Need-element-copy-out-wide Inv-loop μ-loop
+element-copy-out-wide c = omega arith
+
+wide-requires : tie.Need-wide-requires Inv-loop μ-loop
+wide-requires c κs = search needs
+
+add-other : tie.Need-add-other Inv-loop μ-loop
+add-other c = let small = c .before .before .before .before .before .before .pre .4 (c .before .before .before .before .loop .s) (omega arith) (omega arith) in omega arith
+
+slice-read-other : tie.Need-slice-read-other Inv-loop μ-loop
+slice-read-other c = let small = c .before .before .before .before .before .before .before .pre .4 (c .before .before .before .before .before .loop .s) (omega arith) (omega arith) in omega arith
+
+mul-fit : tie.Need-mul-fit Inv-loop μ-loop
+mul-fit c = omega arith
+
+add-fit : tie.Need-add-fit Inv-loop μ-loop
+add-fit c = omega arith
+
+slice-write-fit : tie.Need-slice-write-fit Inv-loop μ-loop
+slice-write-fit c = omega arith
+
+add-s : tie.Need-add-s Inv-loop μ-loop
+add-s c = omega arith
+
+loop-less : tie.Need-loop-less Inv-loop μ-loop
+loop-less c = omega arith
+
+loop-again : tie.Need-loop-again Inv-loop μ-loop
+loop-again c =
+    let l = c .before .before .before .before .before .loop in
+    let small = c .before .before .before .before .before .before .before .pre .4 (l .s) (omega arith) (omega arith) in (
+      omega arith,
+      omega arith,
+      wrote-more _ _ _ (l .fit) (l .s) (l .inv .2) _ (omega arith) (omega arith)
+          (ap₂ bitAnd (l .inv .2 .others _ (λ m n. omega arith)) (flag-before _ _ _ (l .fit) (l .s) (l .inv .2) _ _ _ (omega arith) small (c .before .wide .ensures))),
+    )
+
+same-length : tie.Need-same-length Inv-loop μ-loop
+same-length c = omega arith
+
+returns : tie.Need-returns Inv-loop μ-loop
+returns c = let l = c .before .loop in wrote-all _ _ _ (l .fit) (l .s) (l .inv .2) _ (omega arith)
+
+pub meet-row-spec : {M : Type 1} → statement M
+meet-row-spec =
+    tie.close
+    (tie.spec
+    Inv-loop
+    μ-loop
+    loop-holds
+    mul-one
+    add-one
+    slice-read-one
+    mul-other
+    element-copy-out-wide
+    wide-requires
+    add-other
+    slice-read-other
+    mul-fit
+    add-fit
+    slice-write-fit
+    add-s
+    loop-less
+    loop-again
+    same-length
+    returns)
