@@ -49,12 +49,15 @@ pub extern "C" fn plan_judge_with(
     out: &mut [u64; 4],
     index: &mut [u16; 8034],
     ends: &mut [u16; 15000],
+    groups: &mut [u16; 257],
+    firsts: &mut [u16; 257],
     fit: &mut [u8; 66560],
     memo: &mut [u8; 266240],
 ) -> u64
     ensures { λ r. ⌜ Judges (now (file .entry)) (now (flags .entry)) (now (flags .exit)) (now (out .exit)) r ⌝ }
 {
-    let numbers = words_of(judge_with(file, flags, index, ends, fit, memo));
+    let verdict = judge_with(file, flags, index, ends, groups, firsts, fit, memo);
+    let numbers = words_of(verdict);
     *out = numbers;
     numbers[0]
 }
