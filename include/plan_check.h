@@ -35,6 +35,8 @@ uint64_t plan_judge(const uint8_t *file, size_t file_length, uint8_t *flags, siz
 struct plan_memory {
     uint16_t index[8034];
     uint16_t ends[15000];
+    uint16_t groups[257];
+    uint16_t firsts[257];
     uint8_t fit[66560];
     uint8_t memo[266240];
 };
@@ -42,7 +44,8 @@ struct plan_memory {
 /* The same with working memory that the caller lends, for callers that judge many files: these tables are not made and
  * cleared at each call. None of the areas may overlap. */
 uint64_t plan_judge_with(const uint8_t *file, size_t file_length, uint8_t *flags, size_t flags_length, uint64_t out[4],
-                         uint16_t index[8034], uint16_t ends[15000], uint8_t fit[66560], uint8_t memo[266240]);
+                         uint16_t index[8034], uint16_t ends[15000], uint16_t groups[257], uint16_t firsts[257],
+                         uint8_t fit[66560], uint8_t memo[266240]);
 
 #ifdef __cplusplus
 }

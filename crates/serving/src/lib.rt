@@ -1,22 +1,21 @@
 // The types of a constructor against a goal.
 use arrows::off;
 use arrows::row_matches;
-use rows::arity_of;
+ghost use Prim.Native.Nat.{ℕ};
+ghost use Rattle.rows.specs.Rows.{IsArity};
 ghost use Rattle.serving.specs.Serving.{EndsIn, Serves};
 
-// The final state of a goal, as the type of constructor c with `count` arguments; 65,535 where it has none.
+// The final state of a goal, as the type of a constructor of an arity with `count` arguments; 65,535 where it has none.
 pub fn state_at(
     file: &[u8],
     index: &[u16],
     types: usize,
-    constructors: usize,
-    c: usize,
+    arity: usize,
     count: usize,
     goal: usize,
 ) -> usize
-    ensures { λ r. ⌜ EndsIn (now (file .entry)) (now (index .entry)) types constructors c count goal r ⌝ }
+    ensures { λ r. ⌜ ((constructors c : ℕ) → IsArity (now (file .entry)) (now (index .entry)) constructors c arity → EndsIn (now (file .entry)) (now (index .entry)) types constructors c count goal r) ⌝ }
 {
-    let arity = arity_of(file, index, constructors, c);
     if arity < count {
         return 65535;
     }
@@ -30,23 +29,21 @@ pub fn state_at(
     end - types
 }
 
-// Whether a row of the transition table has targets that give the goal, with `count` arrows off.
+// Whether a row of the transition table, for a constructor of an arity, has targets that give the goal, with `count` arrows off.
 pub fn row_serves(
     file: &[u8],
     index: &[u16],
     types: usize,
-    constructors: usize,
+    arity: usize,
     row: [u8; 4],
-    c: usize,
     count: usize,
     state: usize,
     goal: usize,
 ) -> bool
-    ensures { λ r. ⌜ Serves (now (file .entry)) (now (index .entry)) types constructors row c count state goal r ⌝ }
+    ensures { λ r. ⌜ ((constructors c : ℕ) → IsArity (now (file .entry)) (now (index .entry)) constructors c arity → Serves (now (file .entry)) (now (index .entry)) types constructors row c count state goal r) ⌝ }
 {
     if row[0] == 255 {
         return false;
     }
-    let arity = arity_of(file, index, constructors, c);
     row_matches(file, index, types, row, count, arity, state, goal)
 }

@@ -9,6 +9,7 @@ use known_runs::known_until;
 use memo::known;
 use memo::learn;
 use row_places::row_in;
+use rows::arity_of;
 use serving::row_serves;
 use serving::state_at;
 use wants::target_of;
@@ -108,6 +109,9 @@ pub fn check_term(
     }
     if front.tag == 0 {
         let yes = check_head(file, index, groups, kept, ends, test, memo, at, front, goal);
+        if front.count == 0 {
+            return yes;
+        }
         learn(memo, types + 16, test[3], at, goal, yes);
         return yes;
     }
@@ -161,7 +165,8 @@ fn check_head(
     if next <= at {
         return false;
     }
-    let q = state_at(file, index, types, constructors, c, count, goal);
+    let arity = arity_of(file, index, constructors, c);
+    let q = state_at(file, index, types, arity, count, goal);
     if 16 <= q {
         return false;
     }
@@ -169,7 +174,7 @@ fn check_head(
         return false;
     }
     let row = row_in(file, index, q, c);
-    if !row_serves(file, index, types, constructors, row, c, count, q, goal) {
+    if !row_serves(file, index, types, arity, row, count, q, goal) {
         return false;
     }
     let mut i: usize = 0;

@@ -22,6 +22,8 @@ mod archive {
             out: *mut [u64; 4],
             index: *mut [u16; 8_034],
             ends: *mut [u16; 15_000],
+            groups: *mut [u16; 257],
+            firsts: *mut [u16; 257],
             fit: *mut [u8; 66_560],
             memo: *mut [u8; 266_240],
         ) -> u64;
@@ -34,10 +36,11 @@ mod archive {
     }
 
     pub fn judge_with(file: &[u8], flags: &mut [u8], out: &mut [u64; 4], memory: &mut super::Memory) -> u64 {
-        let super::Memory { index, ends, fit, memo } = memory;
-        // SAFETY: as above, and the four arrays are lent to no one else.
+        let super::Memory { index, ends, groups, firsts, fit, memo } = memory;
+        let (bytes, lent) = (file.as_ptr(), flags.as_mut_ptr());
+        // SAFETY: as above, and the six arrays are lent to no one else.
         unsafe {
-            plan_judge_with(file.as_ptr(), file.len(), flags.as_mut_ptr(), flags.len(), out, index, ends, fit, memo)
+            plan_judge_with(bytes, file.len(), lent, flags.len(), out, index, ends, groups, firsts, fit, memo)
         }
     }
 }
@@ -59,13 +62,23 @@ mod archive {
 pub struct Memory {
     index: [u16; 8_034],
     ends: [u16; 15_000],
+    groups: [u16; 257],
+    firsts: [u16; 257],
     fit: [u8; 66_560],
     memo: [u8; 266_240],
 }
 
 impl Memory {
+    /// Memory that holds no zeros at first.
     pub fn new() -> Box<Memory> {
-        Box::new(Memory { index: [0; 8_034], ends: [0; 15_000], fit: [0; 66_560], memo: [0; 266_240] })
+        Box::new(Memory {
+            index: [0xA5A5; 8_034],
+            ends: [0xA5A5; 15_000],
+            groups: [0xA5A5; 257],
+            firsts: [0xA5A5; 257],
+            fit: [0xA5; 66_560],
+            memo: [0xA5; 266_240],
+        })
     }
 }
 

@@ -38,6 +38,7 @@ use Rattle.known_runs.proofs.known_until.Reads as known-until-reads
 use Rattle.memo.proofs.known.Reads as known-reads
 use Rattle.memo.proofs.learn.Reads as learn-reads
 use Rattle.row_places.proofs.row_in.Reads as row-in-reads
+use Rattle.rows.proofs.arity_of.Reads as arity-of-reads
 use Rattle.serving.proofs.row_serves.Reads as row-serves-reads
 use Rattle.serving.proofs.state_at.Reads as state-at-reads
 use Rattle.term_check.proofs.end_of.Reads as end-of-reads
@@ -827,12 +828,14 @@ check-choices-returns-3 : (t : ℕ) → check-choices-lts.Need-returns-3 (
 check-choices-returns-3 t c = λ other p. tried-end _ _ _ _ _ _ _ _ (c .before .before .before .span-of .ensures) (c .before .before .loop .inv) (p .count-is) (p .inside, p .first-is) (placed-head _ _ _ other p) (c .if2 .left)
 
 abbrev check-head-Inv-loop : check-head-lts.InvT-loop
-check-head-Inv-loop file index groups kept ends test memo₀ at goal types constructors c count next₀ q row i₀ memo next i = Args (record { file = file; index = index; groups = groups; kept = kept; ends = endsBy ends test; body = bodyBy file test; test = testBy test }) memo₀ next₀ count true 0 row memo next i 0 0
+check-head-Inv-loop file index groups kept ends test memo₀ at goal types constructors c count next₀ arity q row i₀ memo next i = Args (record { file = file; index = index; groups = groups; kept = kept; ends = endsBy ends test; body = bodyBy file test; test = testBy test }) memo₀ next₀ count true 0 row memo next i 0 0
 
 abbrev check-head-μ-loop : check-head-lts.MeasureT-loop
-check-head-μ-loop file index groups kept ends test memo₀ at goal types constructors c count next₀ q row i₀ memo next i = count - i
+check-head-μ-loop file index groups kept ends test memo₀ at goal types constructors c count next₀ arity q row i₀ memo next i = count - i
 
 check-head-element-copy-out-types : (t : ℕ) → check-head-lts.Need-element-copy-out-types (
+  arity-of-reads.Asked,
+  arity-of-reads.Learnt,
   state-at-reads.Asked,
   state-at-reads.Learnt,
   row-in-reads.Asked,
@@ -851,6 +854,8 @@ check-head-element-copy-out-types : (t : ℕ) → check-head-lts.Need-element-co
 check-head-element-copy-out-types t c = search needs
 
 check-head-returns : (t : ℕ) → check-head-lts.Need-returns (
+  arity-of-reads.Asked,
+  arity-of-reads.Learnt,
   state-at-reads.Asked,
   state-at-reads.Learnt,
   row-in-reads.Asked,
@@ -870,6 +875,8 @@ check-head-returns t c = λ z p. types-many _ _ _ _ (c .if1 .taken)
 
 check-head-element-copy-out-constructors :
     (t : ℕ) → check-head-lts.Need-element-copy-out-constructors (
+      arity-of-reads.Asked,
+      arity-of-reads.Learnt,
       state-at-reads.Asked,
       state-at-reads.Learnt,
       row-in-reads.Asked,
@@ -888,6 +895,8 @@ check-head-element-copy-out-constructors :
 check-head-element-copy-out-constructors t c = search needs
 
 check-head-returns-2 : (t : ℕ) → check-head-lts.Need-returns-2 (
+  arity-of-reads.Asked,
+  arity-of-reads.Learnt,
   state-at-reads.Asked,
   state-at-reads.Learnt,
   row-in-reads.Asked,
@@ -906,6 +915,8 @@ check-head-returns-2 : (t : ℕ) → check-head-lts.Need-returns-2 (
 check-head-returns-2 t c = λ z p. absurd (let f = p .few in let h = c .if2 .taken in omega arith)
 
 check-head-returns-3 : (t : ℕ) → check-head-lts.Need-returns-3 (
+  arity-of-reads.Asked,
+  arity-of-reads.Learnt,
   state-at-reads.Asked,
   state-at-reads.Learnt,
   row-in-reads.Asked,
@@ -923,7 +934,29 @@ check-head-returns-3 : (t : ℕ) → check-head-lts.Need-returns-3 (
 ) (check-head-at t) check-head.Post check-head-Inv-loop check-head-μ-loop
 check-head-returns-3 t c = λ z p. absurd (let e = p .first-is in let h = c .if3 .taken in omega arith)
 
+check-head-arity-of-requires : (t : ℕ) → check-head-lts.Need-arity-of-requires (
+  arity-of-reads.Asked,
+  arity-of-reads.Learnt,
+  state-at-reads.Asked,
+  state-at-reads.Learnt,
+  row-in-reads.Asked,
+  row-in-reads.Learnt,
+  row-serves-reads.Asked,
+  row-serves-reads.Learnt,
+  target-of-reads.Asked,
+  target-of-reads.Learnt,
+  end-of-reads.Asked,
+  end-of-reads.Learnt,
+  known-reads.Asked,
+  known-reads.Learnt,
+  check-term-below t,
+  check-term.Post,
+) (check-head-at t) check-head.Post check-head-Inv-loop check-head-μ-loop
+check-head-arity-of-requires t c κs = search needs
+
 check-head-state-at-requires : (t : ℕ) → check-head-lts.Need-state-at-requires (
+  arity-of-reads.Asked,
+  arity-of-reads.Learnt,
   state-at-reads.Asked,
   state-at-reads.Learnt,
   row-in-reads.Asked,
@@ -942,6 +975,8 @@ check-head-state-at-requires : (t : ℕ) → check-head-lts.Need-state-at-requir
 check-head-state-at-requires t c κs = search needs
 
 check-head-returns-4 : (t : ℕ) → check-head-lts.Need-returns-4 (
+  arity-of-reads.Asked,
+  arity-of-reads.Learnt,
   state-at-reads.Asked,
   state-at-reads.Learnt,
   row-in-reads.Asked,
@@ -957,9 +992,11 @@ check-head-returns-4 : (t : ℕ) → check-head-lts.Need-returns-4 (
   check-term-below t,
   check-term.Post,
 ) (check-head-at t) check-head.Post check-head-Inv-loop check-head-μ-loop
-check-head-returns-4 t c = λ z p. targets-no-state _ _ _ _ _ _ _ (p .number-is) (p .count-is) (c .before .state-at .ensures) _ (p .tag-is) z (c .if4 .taken)
+check-head-returns-4 t c = λ z p. targets-no-state _ _ _ _ _ _ _ (p .number-is) (p .count-is) (c .before .state-at .ensures _ _ (c .before .before .before .arity-of .ensures)) _ (p .tag-is) z (c .if4 .taken)
 
 check-head-returns-5 : (t : ℕ) → check-head-lts.Need-returns-5 (
+  arity-of-reads.Asked,
+  arity-of-reads.Learnt,
   state-at-reads.Asked,
   state-at-reads.Learnt,
   row-in-reads.Asked,
@@ -975,9 +1012,11 @@ check-head-returns-5 : (t : ℕ) → check-head-lts.Need-returns-5 (
   check-term-below t,
   check-term.Post,
 ) (check-head-at t) check-head.Post check-head-Inv-loop check-head-μ-loop
-check-head-returns-5 t c = λ z p. targets-no-constructor _ _ _ _ _ _ _ (p .number-is) (p .count-is) (c .before .before .state-at .ensures) _ (p .tag-is) z (c .if5 .taken)
+check-head-returns-5 t c = λ z p. targets-no-constructor _ _ _ _ _ _ _ (p .number-is) (p .count-is) (c .before .before .state-at .ensures _ _ (c .before .before .before .before .arity-of .ensures)) _ (p .tag-is) z (c .if5 .taken)
 
 check-head-row-in-requires : (t : ℕ) → check-head-lts.Need-row-in-requires (
+  arity-of-reads.Asked,
+  arity-of-reads.Learnt,
   state-at-reads.Asked,
   state-at-reads.Learnt,
   row-in-reads.Asked,
@@ -996,6 +1035,8 @@ check-head-row-in-requires : (t : ℕ) → check-head-lts.Need-row-in-requires (
 check-head-row-in-requires t c κs = search needs
 
 check-head-row-serves-requires : (t : ℕ) → check-head-lts.Need-row-serves-requires (
+  arity-of-reads.Asked,
+  arity-of-reads.Learnt,
   state-at-reads.Asked,
   state-at-reads.Learnt,
   row-in-reads.Asked,
@@ -1014,6 +1055,8 @@ check-head-row-serves-requires : (t : ℕ) → check-head-lts.Need-row-serves-re
 check-head-row-serves-requires t c κs = search needs
 
 check-head-returns-6 : (t : ℕ) → check-head-lts.Need-returns-6 (
+  arity-of-reads.Asked,
+  arity-of-reads.Learnt,
   state-at-reads.Asked,
   state-at-reads.Learnt,
   row-in-reads.Asked,
@@ -1029,9 +1072,11 @@ check-head-returns-6 : (t : ℕ) → check-head-lts.Need-returns-6 (
   check-term-below t,
   check-term.Post,
 ) (check-head-at t) check-head.Post check-head-Inv-loop check-head-μ-loop
-check-head-returns-6 t c = λ z p. targets-not-served _ _ _ _ _ _ _ (p .number-is) (p .count-is) (c .before .before .before .before .before .before .before .state-at .ensures) _ (p .tag-is) z (let h = c .before .before .before .before .before .before .if4 .left in omega arith) (let h = c .before .before .before .before .before .if5 .left in omega arith) _ (c .before .before .before .row-in .ensures) _ (c .before .row-serves .ensures) (not-true _ (c .if6 .taken))
+check-head-returns-6 t c = λ z p. targets-not-served _ _ _ _ _ _ _ (p .number-is) (p .count-is) (c .before .before .before .before .before .before .before .state-at .ensures _ _ (c .before .before .before .before .before .before .before .before .before .arity-of .ensures)) _ (p .tag-is) z (let h = c .before .before .before .before .before .before .if4 .left in omega arith) (let h = c .before .before .before .before .before .if5 .left in omega arith) _ (c .before .before .before .row-in .ensures) _ (c .before .row-serves .ensures _ _ (c .before .before .before .before .before .before .before .before .before .arity-of .ensures)) (not-true _ (c .if6 .taken))
 
 check-head-loop-holds : (t : ℕ) → check-head-lts.Need-loop-holds (
+  arity-of-reads.Asked,
+  arity-of-reads.Learnt,
   state-at-reads.Asked,
   state-at-reads.Learnt,
   row-in-reads.Asked,
@@ -1050,6 +1095,8 @@ check-head-loop-holds : (t : ℕ) → check-head-lts.Need-loop-holds (
 check-head-loop-holds t c = args-start _ _ _ _ _ _ _
 
 check-head-target-of-requires : (t : ℕ) → check-head-lts.Need-target-of-requires (
+  arity-of-reads.Asked,
+  arity-of-reads.Learnt,
   state-at-reads.Asked,
   state-at-reads.Learnt,
   row-in-reads.Asked,
@@ -1068,6 +1115,8 @@ check-head-target-of-requires : (t : ℕ) → check-head-lts.Need-target-of-requ
 check-head-target-of-requires t c κs = search needs
 
 check-head-same-length : (t : ℕ) → check-head-lts.Need-same-length (
+  arity-of-reads.Asked,
+  arity-of-reads.Learnt,
   state-at-reads.Asked,
   state-at-reads.Learnt,
   row-in-reads.Asked,
@@ -1086,6 +1135,8 @@ check-head-same-length : (t : ℕ) → check-head-lts.Need-same-length (
 check-head-same-length t c = c .before .before .before .loop .inv .keeps .long
 
 check-head-returns-7 : (t : ℕ) → check-head-lts.Need-returns-7 (
+  arity-of-reads.Asked,
+  arity-of-reads.Learnt,
   state-at-reads.Asked,
   state-at-reads.Learnt,
   row-in-reads.Asked,
@@ -1101,9 +1152,11 @@ check-head-returns-7 : (t : ℕ) → check-head-lts.Need-returns-7 (
   check-term-below t,
   check-term.Post,
 ) (check-head-at t) check-head.Post check-head-Inv-loop check-head-μ-loop
-check-head-returns-7 t c = λ z p. targets-told _ _ _ _ _ _ _ (p .number-is) (p .count-is) (c .before .before .before .before .before .before .before .before .before .before .before .state-at .ensures) _ (p .tag-is) z (let h = c .before .before .before .before .before .before .before .before .before .before .if4 .left in omega arith) (let h = c .before .before .before .before .before .before .before .before .before .if5 .left in omega arith) _ (c .before .before .before .before .before .before .before .row-in .ensures) _ (c .before .before .before .before .before .row-serves .ensures) (not-false _ (c .before .before .before .before .if6 .left)) _ (p .first-is) _ _ (target-past _ (c .before .before .before .loop .inv) (c .before .before .loop-test .taken) _ (c .before .target-of .ensures) (c .if7 .taken))
+check-head-returns-7 t c = λ z p. targets-told _ _ _ _ _ _ _ (p .number-is) (p .count-is) (c .before .before .before .before .before .before .before .before .before .before .before .state-at .ensures _ _ (c .before .before .before .before .before .before .before .before .before .before .before .before .before .arity-of .ensures)) _ (p .tag-is) z (let h = c .before .before .before .before .before .before .before .before .before .before .if4 .left in omega arith) (let h = c .before .before .before .before .before .before .before .before .before .if5 .left in omega arith) _ (c .before .before .before .before .before .before .before .row-in .ensures) _ (c .before .before .before .before .before .row-serves .ensures _ _ (c .before .before .before .before .before .before .before .before .before .before .before .before .before .arity-of .ensures)) (not-false _ (c .before .before .before .before .if6 .left)) _ (p .first-is) _ _ (target-past _ (c .before .before .before .loop .inv) (c .before .before .loop-test .taken) _ (c .before .target-of .ensures) (c .if7 .taken))
 
 check-head-element-copy-out-end-of : (t : ℕ) → check-head-lts.Need-element-copy-out-end-of (
+  arity-of-reads.Asked,
+  arity-of-reads.Learnt,
   state-at-reads.Asked,
   state-at-reads.Learnt,
   row-in-reads.Asked,
@@ -1122,6 +1175,8 @@ check-head-element-copy-out-end-of : (t : ℕ) → check-head-lts.Need-element-c
 check-head-element-copy-out-end-of t c = search needs
 
 check-head-end-of-requires : (t : ℕ) → check-head-lts.Need-end-of-requires (
+  arity-of-reads.Asked,
+  arity-of-reads.Learnt,
   state-at-reads.Asked,
   state-at-reads.Learnt,
   row-in-reads.Asked,
@@ -1140,6 +1195,8 @@ check-head-end-of-requires : (t : ℕ) → check-head-lts.Need-end-of-requires (
 check-head-end-of-requires t c κs = search needs
 
 check-head-same-length-2 : (t : ℕ) → check-head-lts.Need-same-length-2 (
+  arity-of-reads.Asked,
+  arity-of-reads.Learnt,
   state-at-reads.Asked,
   state-at-reads.Learnt,
   row-in-reads.Asked,
@@ -1158,6 +1215,8 @@ check-head-same-length-2 : (t : ℕ) → check-head-lts.Need-same-length-2 (
 check-head-same-length-2 t c = c .before .before .before .before .before .before .before .loop .inv .keeps .long
 
 check-head-returns-8 : (t : ℕ) → check-head-lts.Need-returns-8 (
+  arity-of-reads.Asked,
+  arity-of-reads.Learnt,
   state-at-reads.Asked,
   state-at-reads.Learnt,
   row-in-reads.Asked,
@@ -1173,9 +1232,11 @@ check-head-returns-8 : (t : ℕ) → check-head-lts.Need-returns-8 (
   check-term-below t,
   check-term.Post,
 ) (check-head-at t) check-head.Post check-head-Inv-loop check-head-μ-loop
-check-head-returns-8 t c = λ z p. targets-told _ _ _ _ _ _ _ (p .number-is) (p .count-is) (c .before .before .before .before .before .before .before .before .before .before .before .before .before .before .before .state-at .ensures) _ (p .tag-is) z (let h = c .before .before .before .before .before .before .before .before .before .before .before .before .before .before .if4 .left in omega arith) (let h = c .before .before .before .before .before .before .before .before .before .before .before .before .before .if5 .left in omega arith) _ (c .before .before .before .before .before .before .before .before .before .before .before .row-in .ensures) _ (c .before .before .before .before .before .before .before .before .before .row-serves .ensures) (not-false _ (c .before .before .before .before .before .before .before .before .if6 .left)) _ (p .first-is) _ _ (target-stuck _ (c .before .before .before .before .before .before .before .loop .inv) (c .before .before .before .before .before .before .loop-test .taken) _ (c .before .before .before .before .before .target-of .ensures) (c .before .before .before .before .if7 .left) _ (c .before .end-of .ensures) (c .if8 .taken))
+check-head-returns-8 t c = λ z p. targets-told _ _ _ _ _ _ _ (p .number-is) (p .count-is) (c .before .before .before .before .before .before .before .before .before .before .before .before .before .before .before .state-at .ensures _ _ (c .before .before .before .before .before .before .before .before .before .before .before .before .before .before .before .before .before .arity-of .ensures)) _ (p .tag-is) z (let h = c .before .before .before .before .before .before .before .before .before .before .before .before .before .before .if4 .left in omega arith) (let h = c .before .before .before .before .before .before .before .before .before .before .before .before .before .if5 .left in omega arith) _ (c .before .before .before .before .before .before .before .before .before .before .before .row-in .ensures) _ (c .before .before .before .before .before .before .before .before .before .row-serves .ensures _ _ (c .before .before .before .before .before .before .before .before .before .before .before .before .before .before .before .before .before .arity-of .ensures)) (not-false _ (c .before .before .before .before .before .before .before .before .if6 .left)) _ (p .first-is) _ _ (target-stuck _ (c .before .before .before .before .before .before .before .loop .inv) (c .before .before .before .before .before .before .loop-test .taken) _ (c .before .before .before .before .before .target-of .ensures) (c .before .before .before .before .if7 .left) _ (c .before .end-of .ensures) (c .if8 .taken))
 
 check-head-add-i : (t : ℕ) → check-head-lts.Need-add-i (
+  arity-of-reads.Asked,
+  arity-of-reads.Learnt,
   state-at-reads.Asked,
   state-at-reads.Learnt,
   row-in-reads.Asked,
@@ -1194,6 +1255,8 @@ check-head-add-i : (t : ℕ) → check-head-lts.Need-add-i (
 check-head-add-i t c = let h = c .before .before .before .before .before .before .loop-test .taken in omega arith
 
 check-head-add-known : (t : ℕ) → check-head-lts.Need-add-known (
+  arity-of-reads.Asked,
+  arity-of-reads.Learnt,
   state-at-reads.Asked,
   state-at-reads.Learnt,
   row-in-reads.Asked,
@@ -1209,9 +1272,11 @@ check-head-add-known : (t : ℕ) → check-head-lts.Need-add-known (
   check-term-below t,
   check-term.Post,
 ) (check-head-at t) check-head.Post check-head-Inv-loop check-head-μ-loop
-check-head-add-known t c = let h = c .before .before .before .before .before .before .before .before .before .before .before .before .before .before .before .before .before .before .before .before .before .if1 .left in omega arith
+check-head-add-known t c = let h = c .before .before .before .before .before .before .before .before .before .before .before .before .before .before .before .before .before .before .before .before .before .before .before .if1 .left in omega arith
 
 check-head-element-copy-out-known : (t : ℕ) → check-head-lts.Need-element-copy-out-known (
+  arity-of-reads.Asked,
+  arity-of-reads.Learnt,
   state-at-reads.Asked,
   state-at-reads.Learnt,
   row-in-reads.Asked,
@@ -1230,6 +1295,8 @@ check-head-element-copy-out-known : (t : ℕ) → check-head-lts.Need-element-co
 check-head-element-copy-out-known t c = search needs
 
 check-head-known-requires : (t : ℕ) → check-head-lts.Need-known-requires (
+  arity-of-reads.Asked,
+  arity-of-reads.Learnt,
   state-at-reads.Asked,
   state-at-reads.Learnt,
   row-in-reads.Asked,
@@ -1248,6 +1315,8 @@ check-head-known-requires : (t : ℕ) → check-head-lts.Need-known-requires (
 check-head-known-requires t c κs = search needs
 
 check-head-same-length-3 : (t : ℕ) → check-head-lts.Need-same-length-3 (
+  arity-of-reads.Asked,
+  arity-of-reads.Learnt,
   state-at-reads.Asked,
   state-at-reads.Learnt,
   row-in-reads.Asked,
@@ -1266,6 +1335,8 @@ check-head-same-length-3 : (t : ℕ) → check-head-lts.Need-same-length-3 (
 check-head-same-length-3 t c = c .before .before .before .before .before .before .before .before .before .before .before .loop .inv .keeps .long
 
 check-head-returns-9 : (t : ℕ) → check-head-lts.Need-returns-9 (
+  arity-of-reads.Asked,
+  arity-of-reads.Learnt,
   state-at-reads.Asked,
   state-at-reads.Learnt,
   row-in-reads.Asked,
@@ -1281,9 +1352,11 @@ check-head-returns-9 : (t : ℕ) → check-head-lts.Need-returns-9 (
   check-term-below t,
   check-term.Post,
 ) (check-head-at t) check-head.Post check-head-Inv-loop check-head-μ-loop
-check-head-returns-9 t c = λ z p. targets-told _ _ _ _ _ _ _ (p .number-is) (p .count-is) (c .before .before .before .before .before .before .before .before .before .before .before .before .before .before .before .before .before .before .before .state-at .ensures) _ (p .tag-is) z (let h = c .before .before .before .before .before .before .before .before .before .before .before .before .before .before .before .before .before .before .if4 .left in omega arith) (let h = c .before .before .before .before .before .before .before .before .before .before .before .before .before .before .before .before .before .if5 .left in omega arith) _ (c .before .before .before .before .before .before .before .before .before .before .before .before .before .before .before .row-in .ensures) _ (c .before .before .before .before .before .before .before .before .before .before .before .before .before .row-serves .ensures) (not-false _ (c .before .before .before .before .before .before .before .before .before .before .before .before .if6 .left)) _ (p .first-is) _ _ (target-lacks _ (c .before .before .before .before .before .before .before .before .before .before .before .loop .inv) (c .before .before .before .before .before .before .before .before .before .before .loop-test .taken) _ (c .before .before .before .before .before .before .before .before .before .target-of .ensures) (c .before .before .before .before .before .before .before .before .if7 .left) _ _ (known-no _ _ _ _ _ (c .before .known .ensures) (c .if9 .taken)) refl)
+check-head-returns-9 t c = λ z p. targets-told _ _ _ _ _ _ _ (p .number-is) (p .count-is) (c .before .before .before .before .before .before .before .before .before .before .before .before .before .before .before .before .before .before .before .state-at .ensures _ _ (c .before .before .before .before .before .before .before .before .before .before .before .before .before .before .before .before .before .before .before .before .before .arity-of .ensures)) _ (p .tag-is) z (let h = c .before .before .before .before .before .before .before .before .before .before .before .before .before .before .before .before .before .before .if4 .left in omega arith) (let h = c .before .before .before .before .before .before .before .before .before .before .before .before .before .before .before .before .before .if5 .left in omega arith) _ (c .before .before .before .before .before .before .before .before .before .before .before .before .before .before .before .row-in .ensures) _ (c .before .before .before .before .before .before .before .before .before .before .before .before .before .row-serves .ensures _ _ (c .before .before .before .before .before .before .before .before .before .before .before .before .before .before .before .before .before .before .before .before .before .arity-of .ensures)) (not-false _ (c .before .before .before .before .before .before .before .before .before .before .before .before .if6 .left)) _ (p .first-is) _ _ (target-lacks _ (c .before .before .before .before .before .before .before .before .before .before .before .loop .inv) (c .before .before .before .before .before .before .before .before .before .before .loop-test .taken) _ (c .before .before .before .before .before .before .before .before .before .target-of .ensures) (c .before .before .before .before .before .before .before .before .if7 .left) _ _ (known-no _ _ _ _ _ (c .before .known .ensures) (c .if9 .taken)) refl)
 
 check-head-check-term-requires : (t : ℕ) → check-head-lts.Need-check-term-requires (
+  arity-of-reads.Asked,
+  arity-of-reads.Learnt,
   state-at-reads.Asked,
   state-at-reads.Learnt,
   row-in-reads.Asked,
@@ -1299,9 +1372,11 @@ check-head-check-term-requires : (t : ℕ) → check-head-lts.Need-check-term-re
   check-term-below t,
   check-term.Post,
 ) (check-head-at t) check-head.Post check-head-Inv-loop check-head-μ-loop
-check-head-check-term-requires t c κs = let p = c .before .before .before .before .before .before .before .before .before .before .before .before .before .before .before .before .before .before .before .before .before .before .before .before .before .before .before .before .before .before .pre .0 in let f = c .before .before .before .before .before .before .before .before .before .before .before .before .before .loop .inv .forward in let h = c .before .before .before .before .before .before .before .before .before .before .before .before .before .before .before .before .before .before .before .before .before .before .before .if3 .left in let g = c .before .before .before .before .before .before .before .before .before .before .before .before .before .before .before .before .before .before .before .before .before .before .before .before .before .before .before .before .before .before .fits .at in (omega arith, Prim.tt)
+check-head-check-term-requires t c κs = let p = c .before .before .before .before .before .before .before .before .before .before .before .before .before .before .before .before .before .before .before .before .before .before .before .before .before .before .before .before .before .before .before .before .pre .0 in let f = c .before .before .before .before .before .before .before .before .before .before .before .before .before .loop .inv .forward in let h = c .before .before .before .before .before .before .before .before .before .before .before .before .before .before .before .before .before .before .before .before .before .before .before .before .before .if3 .left in let g = c .before .before .before .before .before .before .before .before .before .before .before .before .before .before .before .before .before .before .before .before .before .before .before .before .before .before .before .before .before .before .before .before .fits .at in (omega arith, Prim.tt)
 
 check-head-same-length-4 : (t : ℕ) → check-head-lts.Need-same-length-4 (
+  arity-of-reads.Asked,
+  arity-of-reads.Learnt,
   state-at-reads.Asked,
   state-at-reads.Learnt,
   row-in-reads.Asked,
@@ -1320,6 +1395,8 @@ check-head-same-length-4 : (t : ℕ) → check-head-lts.Need-same-length-4 (
 check-head-same-length-4 t c = c .before .before .before .check-term .ensures .keeps .long ∙ c .before .before .before .before .before .before .before .before .before .before .before .before .before .before .before .before .before .loop .inv .keeps .long
 
 check-head-returns-10 : (t : ℕ) → check-head-lts.Need-returns-10 (
+  arity-of-reads.Asked,
+  arity-of-reads.Learnt,
   state-at-reads.Asked,
   state-at-reads.Learnt,
   row-in-reads.Asked,
@@ -1335,9 +1412,11 @@ check-head-returns-10 : (t : ℕ) → check-head-lts.Need-returns-10 (
   check-term-below t,
   check-term.Post,
 ) (check-head-at t) check-head.Post check-head-Inv-loop check-head-μ-loop
-check-head-returns-10 t c = λ z p. targets-told _ _ _ _ _ _ _ (p .number-is) (p .count-is) (c .before .before .before .before .before .before .before .before .before .before .before .before .before .before .before .before .before .before .before .before .before .before .before .before .before .state-at .ensures) _ (p .tag-is) z (let h = c .before .before .before .before .before .before .before .before .before .before .before .before .before .before .before .before .before .before .before .before .before .before .before .before .if4 .left in omega arith) (let h = c .before .before .before .before .before .before .before .before .before .before .before .before .before .before .before .before .before .before .before .before .before .before .before .if5 .left in omega arith) _ (c .before .before .before .before .before .before .before .before .before .before .before .before .before .before .before .before .before .before .before .before .before .row-in .ensures) _ (c .before .before .before .before .before .before .before .before .before .before .before .before .before .before .before .before .before .before .before .row-serves .ensures) (not-false _ (c .before .before .before .before .before .before .before .before .before .before .before .before .before .before .before .before .before .before .if6 .left)) _ (p .first-is) _ _ (target-lacks _ (c .before .before .before .before .before .before .before .before .before .before .before .before .before .before .before .before .before .loop .inv) (c .before .before .before .before .before .before .before .before .before .before .before .before .before .before .before .before .loop-test .taken) _ (c .before .before .before .before .before .before .before .before .before .before .before .before .before .before .before .target-of .ensures) (c .before .before .before .before .before .before .before .before .before .before .before .before .before .before .if7 .left) _ _ (c .before .before .before .check-term .ensures) (not-true _ (c .if11 .taken)))
+check-head-returns-10 t c = λ z p. targets-told _ _ _ _ _ _ _ (p .number-is) (p .count-is) (c .before .before .before .before .before .before .before .before .before .before .before .before .before .before .before .before .before .before .before .before .before .before .before .before .before .state-at .ensures _ _ (c .before .before .before .before .before .before .before .before .before .before .before .before .before .before .before .before .before .before .before .before .before .before .before .before .before .before .before .arity-of .ensures)) _ (p .tag-is) z (let h = c .before .before .before .before .before .before .before .before .before .before .before .before .before .before .before .before .before .before .before .before .before .before .before .before .if4 .left in omega arith) (let h = c .before .before .before .before .before .before .before .before .before .before .before .before .before .before .before .before .before .before .before .before .before .before .before .if5 .left in omega arith) _ (c .before .before .before .before .before .before .before .before .before .before .before .before .before .before .before .before .before .before .before .before .before .row-in .ensures) _ (c .before .before .before .before .before .before .before .before .before .before .before .before .before .before .before .before .before .before .before .row-serves .ensures _ _ (c .before .before .before .before .before .before .before .before .before .before .before .before .before .before .before .before .before .before .before .before .before .before .before .before .before .before .before .arity-of .ensures)) (not-false _ (c .before .before .before .before .before .before .before .before .before .before .before .before .before .before .before .before .before .before .if6 .left)) _ (p .first-is) _ _ (target-lacks _ (c .before .before .before .before .before .before .before .before .before .before .before .before .before .before .before .before .before .loop .inv) (c .before .before .before .before .before .before .before .before .before .before .before .before .before .before .before .before .loop-test .taken) _ (c .before .before .before .before .before .before .before .before .before .before .before .before .before .before .before .target-of .ensures) (c .before .before .before .before .before .before .before .before .before .before .before .before .before .before .if7 .left) _ _ (c .before .before .before .check-term .ensures) (not-true _ (c .if11 .taken)))
 
 check-head-loop-less : (t : ℕ) → check-head-lts.Need-loop-less (
+  arity-of-reads.Asked,
+  arity-of-reads.Learnt,
   state-at-reads.Asked,
   state-at-reads.Learnt,
   row-in-reads.Asked,
@@ -1356,6 +1435,8 @@ check-head-loop-less : (t : ℕ) → check-head-lts.Need-loop-less (
 check-head-loop-less t c = let h = c .before .before .before .before .before .before .before .before .before .before .before .before .before .before .before .before .loop-test .taken in omega arith
 
 check-head-loop-again : (t : ℕ) → check-head-lts.Need-loop-again (
+  arity-of-reads.Asked,
+  arity-of-reads.Learnt,
   state-at-reads.Asked,
   state-at-reads.Learnt,
   row-in-reads.Asked,
@@ -1374,6 +1455,8 @@ check-head-loop-again : (t : ℕ) → check-head-lts.Need-loop-again (
 check-head-loop-again t c = target-has _ (c .before .before .before .before .before .before .before .before .before .before .before .before .before .before .before .before .before .loop .inv) (c .before .before .before .before .before .before .before .before .before .before .before .before .before .before .before .before .loop-test .taken) _ (c .before .before .before .before .before .before .before .before .before .before .before .before .before .before .before .target-of .ensures) (c .before .before .before .before .before .before .before .before .before .before .before .before .before .before .if7 .left) _ _ (c .before .before .before .check-term .ensures) (not-false _ (c .if11 .left)) _ _ (c .before .before .before .before .before .before .before .before .before .before .before .end-of .ensures) (let h = c .before .before .before .before .before .before .before .before .before .before .if8 .left in omega arith) (omega arith)
 
 check-head-loop-less-2 : (t : ℕ) → check-head-lts.Need-loop-less-2 (
+  arity-of-reads.Asked,
+  arity-of-reads.Learnt,
   state-at-reads.Asked,
   state-at-reads.Learnt,
   row-in-reads.Asked,
@@ -1392,6 +1475,8 @@ check-head-loop-less-2 : (t : ℕ) → check-head-lts.Need-loop-less-2 (
 check-head-loop-less-2 t c = let h = c .before .before .before .before .before .before .before .before .before .before .before .loop-test .taken in omega arith
 
 check-head-loop-again-2 : (t : ℕ) → check-head-lts.Need-loop-again-2 (
+  arity-of-reads.Asked,
+  arity-of-reads.Learnt,
   state-at-reads.Asked,
   state-at-reads.Learnt,
   row-in-reads.Asked,
@@ -1410,6 +1495,8 @@ check-head-loop-again-2 : (t : ℕ) → check-head-lts.Need-loop-again-2 (
 check-head-loop-again-2 t c = target-has _ (c .before .before .before .before .before .before .before .before .before .before .before .before .loop .inv) (c .before .before .before .before .before .before .before .before .before .before .before .loop-test .taken) _ (c .before .before .before .before .before .before .before .before .before .before .target-of .ensures) (c .before .before .before .before .before .before .before .before .before .if7 .left) _ _ (known-yes _ _ _ _ _ (c .before .before .known .ensures) (c .if10 .left)) refl _ _ (c .before .before .before .before .before .before .end-of .ensures) (let h = c .before .before .before .before .before .if8 .left in omega arith) (omega arith)
 
 check-head-same-length-5 : (t : ℕ) → check-head-lts.Need-same-length-5 (
+  arity-of-reads.Asked,
+  arity-of-reads.Learnt,
   state-at-reads.Asked,
   state-at-reads.Learnt,
   row-in-reads.Asked,
@@ -1428,6 +1515,8 @@ check-head-same-length-5 : (t : ℕ) → check-head-lts.Need-same-length-5 (
 check-head-same-length-5 t c = c .before .loop .inv .keeps .long
 
 check-head-returns-11 : (t : ℕ) → check-head-lts.Need-returns-11 (
+  arity-of-reads.Asked,
+  arity-of-reads.Learnt,
   state-at-reads.Asked,
   state-at-reads.Learnt,
   row-in-reads.Asked,
@@ -1443,7 +1532,7 @@ check-head-returns-11 : (t : ℕ) → check-head-lts.Need-returns-11 (
   check-term-below t,
   check-term.Post,
 ) (check-head-at t) check-head.Post check-head-Inv-loop check-head-μ-loop
-check-head-returns-11 t c = λ z p. targets-told _ _ _ _ _ _ _ (p .number-is) (p .count-is) (c .before .before .before .before .before .before .before .before .before .state-at .ensures) _ (p .tag-is) z (let h = c .before .before .before .before .before .before .before .before .if4 .left in omega arith) (let h = c .before .before .before .before .before .before .before .if5 .left in omega arith) _ (c .before .before .before .before .before .row-in .ensures) _ (c .before .before .before .row-serves .ensures) (not-false _ (c .before .before .if6 .left)) _ (p .first-is) _ _ (args-end _ (c .before .loop .inv) (c .loop-test .left))
+check-head-returns-11 t c = λ z p. targets-told _ _ _ _ _ _ _ (p .number-is) (p .count-is) (c .before .before .before .before .before .before .before .before .before .state-at .ensures _ _ (c .before .before .before .before .before .before .before .before .before .before .before .arity-of .ensures)) _ (p .tag-is) z (let h = c .before .before .before .before .before .before .before .before .if4 .left in omega arith) (let h = c .before .before .before .before .before .before .before .if5 .left in omega arith) _ (c .before .before .before .before .before .row-in .ensures) _ (c .before .before .before .row-serves .ensures _ _ (c .before .before .before .before .before .before .before .before .before .before .before .arity-of .ensures)) (not-false _ (c .before .before .if6 .left)) _ (p .first-is) _ _ (args-end _ (c .before .loop .inv) (c .loop-test .left))
 
 check-term-element-copy-out-types : (t : ℕ) → check-term-lts.Need-element-copy-out-types (
   node-at-reads.Asked,
@@ -1543,6 +1632,34 @@ check-term-check-head-requires : (t : ℕ) → check-term-lts.Need-check-head-re
 ) (check-term-at t) check-term.Post
 check-term-check-head-requires t c κs = let p = c .before .before .before .before .before .before .before .before .before .before .before .before .pre .0 in (omega arith, Prim.tt)
 
+check-term-same-length : (t : ℕ) → check-term-lts.Need-same-length (
+  node-at-reads.Asked,
+  node-at-reads.Learnt,
+  check-head-below t,
+  check-head.Post,
+  learn-reads.Asked,
+  learn-reads.Learnt,
+  bare-has-reads.Asked,
+  bare-has-reads.Learnt,
+  check-choices-below t,
+  check-choices.Post,
+) (check-term-at t) check-term.Post
+check-term-same-length t c = (c .before .before .before .before .check-head .ensures (c .before .before .before .before .before .before .if3 .taken) (c .before .before .before .before .before .before .before .before .before .before .node-at .ensures .placed (not-false _ (c .before .before .before .before .before .before .before .before .if2 .left)))) .keeps .long
+
+check-term-returns-3 : (t : ℕ) → check-term-lts.Need-returns-3 (
+  node-at-reads.Asked,
+  node-at-reads.Learnt,
+  check-head-below t,
+  check-head.Post,
+  learn-reads.Asked,
+  learn-reads.Learnt,
+  bare-has-reads.Asked,
+  bare-has-reads.Learnt,
+  check-choices-below t,
+  check-choices.Post,
+) (check-term-at t) check-term.Post
+check-term-returns-3 t c = c .before .before .before .before .check-head .ensures (c .before .before .before .before .before .before .if3 .taken) (c .before .before .before .before .before .before .before .before .before .before .node-at .ensures .placed (not-false _ (c .before .before .before .before .before .before .before .before .if2 .left)))
+
 check-term-add-learn : (t : ℕ) → check-term-lts.Need-add-learn (
   node-at-reads.Asked,
   node-at-reads.Learnt,
@@ -1585,7 +1702,7 @@ check-term-learn-requires : (t : ℕ) → check-term-lts.Need-learn-requires (
 ) (check-term-at t) check-term.Post
 check-term-learn-requires t c κs = search needs
 
-check-term-same-length : (t : ℕ) → check-term-lts.Need-same-length (
+check-term-same-length-2 : (t : ℕ) → check-term-lts.Need-same-length-2 (
   node-at-reads.Asked,
   node-at-reads.Learnt,
   check-head-below t,
@@ -1597,9 +1714,9 @@ check-term-same-length : (t : ℕ) → check-term-lts.Need-same-length (
   check-choices-below t,
   check-choices.Post,
 ) (check-term-at t) check-term.Post
-check-term-same-length t c = (term-learnt _ _ _ _ _ _ (c .before .before .before .before .before .before .before .check-head .ensures (c .before .before .before .before .before .before .before .before .before .if3 .taken) (c .before .before .before .before .before .before .before .before .before .before .before .before .before .node-at .ensures .placed (not-false _ (c .before .before .before .before .before .before .before .before .before .before .before .if2 .left)))) _ (c .before .before .learn .ensures)) .keeps .long
+check-term-same-length-2 t c = (term-learnt _ _ _ _ _ _ (c .before .before .before .before .before .before .before .before .before .check-head .ensures (c .before .before .before .before .before .before .before .before .before .before .before .if3 .taken) (c .before .before .before .before .before .before .before .before .before .before .before .before .before .before .before .node-at .ensures .placed (not-false _ (c .before .before .before .before .before .before .before .before .before .before .before .before .before .if2 .left)))) _ (c .before .before .learn .ensures)) .keeps .long
 
-check-term-returns-3 : (t : ℕ) → check-term-lts.Need-returns-3 (
+check-term-returns-4 : (t : ℕ) → check-term-lts.Need-returns-4 (
   node-at-reads.Asked,
   node-at-reads.Learnt,
   check-head-below t,
@@ -1611,7 +1728,7 @@ check-term-returns-3 : (t : ℕ) → check-term-lts.Need-returns-3 (
   check-choices-below t,
   check-choices.Post,
 ) (check-term-at t) check-term.Post
-check-term-returns-3 t c = term-learnt _ _ _ _ _ _ (c .before .before .before .before .before .before .before .check-head .ensures (c .before .before .before .before .before .before .before .before .before .if3 .taken) (c .before .before .before .before .before .before .before .before .before .before .before .before .before .node-at .ensures .placed (not-false _ (c .before .before .before .before .before .before .before .before .before .before .before .if2 .left)))) _ (c .before .before .learn .ensures)
+check-term-returns-4 t c = term-learnt _ _ _ _ _ _ (c .before .before .before .before .before .before .before .before .before .check-head .ensures (c .before .before .before .before .before .before .before .before .before .before .before .if3 .taken) (c .before .before .before .before .before .before .before .before .before .before .before .before .before .before .before .node-at .ensures .placed (not-false _ (c .before .before .before .before .before .before .before .before .before .before .before .before .before .if2 .left)))) _ (c .before .before .learn .ensures)
 
 check-term-element-copy-out-own : (t : ℕ) → check-term-lts.Need-element-copy-out-own (
   node-at-reads.Asked,
@@ -1641,7 +1758,7 @@ check-term-bare-has-requires : (t : ℕ) → check-term-lts.Need-bare-has-requir
 ) (check-term-at t) check-term.Post
 check-term-bare-has-requires t c κs = search needs
 
-check-term-returns-4 : (t : ℕ) → check-term-lts.Need-returns-4 (
+check-term-returns-5 : (t : ℕ) → check-term-lts.Need-returns-5 (
   node-at-reads.Asked,
   node-at-reads.Learnt,
   check-head-below t,
@@ -1653,7 +1770,7 @@ check-term-returns-4 : (t : ℕ) → check-term-lts.Need-returns-4 (
   check-choices-below t,
   check-choices.Post,
 ) (check-term-at t) check-term.Post
-check-term-returns-4 t c = bare-checked _ _ _ _ _ _ _ (placed-head _ _ _ (c .before .before .before .before .before .if3 .left) (c .before .before .before .before .before .before .before .before .before .node-at .ensures .placed (not-false _ (c .before .before .before .before .before .before .before .if2 .left)))) (c .before .before .before .before .before .before .before .before .before .node-at .ensures .placed (not-false _ (c .before .before .before .before .before .before .before .if2 .left)) .count-is) (c .before .before .before .if4 .taken) (c .before .before .before .before .before .before .before .before .before .node-at .ensures .placed (not-false _ (c .before .before .before .before .before .before .before .if2 .left)) .inside) _ (c .bare-has .ensures)
+check-term-returns-5 t c = bare-checked _ _ _ _ _ _ _ (placed-head _ _ _ (c .before .before .before .before .before .if3 .left) (c .before .before .before .before .before .before .before .before .before .node-at .ensures .placed (not-false _ (c .before .before .before .before .before .before .before .if2 .left)))) (c .before .before .before .before .before .before .before .before .before .node-at .ensures .placed (not-false _ (c .before .before .before .before .before .before .before .if2 .left)) .count-is) (c .before .before .before .if5 .taken) (c .before .before .before .before .before .before .before .before .before .node-at .ensures .placed (not-false _ (c .before .before .before .before .before .before .before .if2 .left)) .inside) _ (c .bare-has .ensures)
 
 check-term-check-choices-requires : (t : ℕ) → check-term-lts.Need-check-choices-requires (
   node-at-reads.Asked,
@@ -1711,7 +1828,7 @@ check-term-learn-requires-2 : (t : ℕ) → check-term-lts.Need-learn-requires-2
 ) (check-term-at t) check-term.Post
 check-term-learn-requires-2 t c κs = search needs
 
-check-term-same-length-2 : (t : ℕ) → check-term-lts.Need-same-length-2 (
+check-term-same-length-3 : (t : ℕ) → check-term-lts.Need-same-length-3 (
   node-at-reads.Asked,
   node-at-reads.Learnt,
   check-head-below t,
@@ -1723,9 +1840,9 @@ check-term-same-length-2 : (t : ℕ) → check-term-lts.Need-same-length-2 (
   check-choices-below t,
   check-choices.Post,
 ) (check-term-at t) check-term.Post
-check-term-same-length-2 t c = (term-learnt _ _ _ _ _ _ (c .before .before .before .before .before .before .before .check-choices .ensures (c .before .before .before .before .before .before .before .before .before .before .before .if3 .left) (c .before .before .before .before .before .before .before .before .before .before .before .before .before .before .before .node-at .ensures .placed (not-false _ (c .before .before .before .before .before .before .before .before .before .before .before .before .before .if2 .left)))) _ (c .before .before .learn2 .ensures)) .keeps .long
+check-term-same-length-3 t c = (term-learnt _ _ _ _ _ _ (c .before .before .before .before .before .before .before .check-choices .ensures (c .before .before .before .before .before .before .before .before .before .before .before .if3 .left) (c .before .before .before .before .before .before .before .before .before .before .before .before .before .before .before .node-at .ensures .placed (not-false _ (c .before .before .before .before .before .before .before .before .before .before .before .before .before .if2 .left)))) _ (c .before .before .learn2 .ensures)) .keeps .long
 
-check-term-returns-5 : (t : ℕ) → check-term-lts.Need-returns-5 (
+check-term-returns-6 : (t : ℕ) → check-term-lts.Need-returns-6 (
   node-at-reads.Asked,
   node-at-reads.Learnt,
   check-head-below t,
@@ -1737,7 +1854,7 @@ check-term-returns-5 : (t : ℕ) → check-term-lts.Need-returns-5 (
   check-choices-below t,
   check-choices.Post,
 ) (check-term-at t) check-term.Post
-check-term-returns-5 t c = term-learnt _ _ _ _ _ _ (c .before .before .before .before .before .before .before .check-choices .ensures (c .before .before .before .before .before .before .before .before .before .before .before .if3 .left) (c .before .before .before .before .before .before .before .before .before .before .before .before .before .before .before .node-at .ensures .placed (not-false _ (c .before .before .before .before .before .before .before .before .before .before .before .before .before .if2 .left)))) _ (c .before .before .learn2 .ensures)
+check-term-returns-6 t c = term-learnt _ _ _ _ _ _ (c .before .before .before .before .before .before .before .check-choices .ensures (c .before .before .before .before .before .before .before .before .before .before .before .if3 .left) (c .before .before .before .before .before .before .before .before .before .before .before .before .before .before .before .node-at .ensures .placed (not-false _ (c .before .before .before .before .before .before .before .before .before .before .before .before .before .if2 .left)))) _ (c .before .before .learn2 .ensures)
 
 pub +check-args+check-choices+check-head+check-term-spec : {M : Type 1} → statement M
 +check-args+check-choices+check-head+check-term-spec =
@@ -1821,6 +1938,8 @@ pub +check-args+check-choices+check-head+check-term-spec : {M : Type 1} → stat
     (check-choices-same-length-2 t)
     (check-choices-returns-3 t))
     (λ t. check-head-lts.spec (
+      arity-of-reads.Asked,
+      arity-of-reads.Learnt,
       state-at-reads.Asked,
       state-at-reads.Learnt,
       row-in-reads.Asked,
@@ -1845,6 +1964,7 @@ pub +check-args+check-choices+check-head+check-term-spec : {M : Type 1} → stat
     (check-head-element-copy-out-constructors t)
     (check-head-returns-2 t)
     (check-head-returns-3 t)
+    (check-head-arity-of-requires t)
     (check-head-state-at-requires t)
     (check-head-returns-4 t)
     (check-head-returns-5 t)
@@ -1895,17 +2015,19 @@ pub +check-args+check-choices+check-head+check-term-spec : {M : Type 1} → stat
     (check-term-node-at-requires t)
     (check-term-returns-2 t)
     (check-term-check-head-requires t)
+    (check-term-same-length t)
+    (check-term-returns-3 t)
     (check-term-add-learn t)
     (check-term-element-copy-out-learn t)
     (check-term-learn-requires t)
-    (check-term-same-length t)
-    (check-term-returns-3 t)
+    (check-term-same-length-2 t)
+    (check-term-returns-4 t)
     (check-term-element-copy-out-own t)
     (check-term-bare-has-requires t)
-    (check-term-returns-4 t)
+    (check-term-returns-5 t)
     (check-term-check-choices-requires t)
     (check-term-add-learn-2 t)
     (check-term-element-copy-out-learn-2 t)
     (check-term-learn-requires-2 t)
-    (check-term-same-length-2 t)
-    (check-term-returns-5 t)
+    (check-term-same-length-3 t)
+    (check-term-returns-6 t)
