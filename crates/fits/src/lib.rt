@@ -43,10 +43,10 @@ fn fill_state(sorts: usize, t: usize, fit: &mut [u8])
     requires { ⌜ (t < 1024) × (sorts ≤ 64) × (length (now fit) ≡ 66560) ⌝ }
     ensures { λ _. ⌜ FillsState sorts t (now (fit .entry)) (now (fit .exit)) ⌝ }
 {
-    let mut s: usize = 1;
-    while s <= sorts {
+    let mut s: usize = sorts;
+    while 0 < s {
         fit[t * 65 + s] = 0;
-        s = s + 1;
+        s = s - 1;
     }
     fit[t * 65] = 1;
 }
@@ -64,12 +64,12 @@ fn write_row(
     requires { ⌜ (t < 1024) × (sorts ≤ 64) × (length (now fit) ≡ 66560) × (a < t) × (b < t) × Small sorts (now ones) × Small sorts (now others) ⌝ }
     ensures { λ _. ⌜ Wrote sorts t (both (now (fit .entry)) (now (ones .entry)) a (now (others .entry)) b) (now (fit .entry)) (now (fit .exit)) ⌝ }
 {
-    let mut s: usize = 1;
-    while s <= sorts {
+    let mut s: usize = sorts;
+    while 0 < s {
         let one = fit[a * 65 + wide(ones[s])];
         let other = fit[b * 65 + wide(others[s])];
         fit[t * 65 + s] = one & other;
-        s = s + 1;
+        s = s - 1;
     }
 }
 
@@ -78,12 +78,12 @@ fn meet_row(others: &[u8; 65], b: usize, sorts: usize, t: usize, fit: &mut [u8])
     requires { ⌜ (t < 1024) × (sorts ≤ 64) × (length (now fit) ≡ 66560) × (b < t) × Small sorts (now others) ⌝ }
     ensures { λ _. ⌜ Wrote sorts t (met (now (fit .entry)) t (now (others .entry)) b) (now (fit .entry)) (now (fit .exit)) ⌝ }
 {
-    let mut s: usize = 1;
-    while s <= sorts {
+    let mut s: usize = sorts;
+    while 0 < s {
         let one = fit[t * 65 + s];
         let other = fit[b * 65 + wide(others[s])];
         fit[t * 65 + s] = one & other;
-        s = s + 1;
+        s = s - 1;
     }
 }
 

@@ -1,5 +1,5 @@
--- `fill_state` meets its contract. The invariant: the flags from sort 1 on before s are there.
-use Prim.Native.Nat.{_+_, _-_, _<_, _≤_}
+-- `fill_state` meets its contract. The invariant: the flags behind sort s are there.
+use Prim.Native.Nat.{_≤_}
 use native.Mathlib.Omega.{arith}
 use mathlib.Core.Path.{refl}
 use lib.ListN.{length-set}
@@ -8,13 +8,13 @@ use Rattle.fits.proofs.fill_state.Statement.{statement}
 use Rattle.fits.proofs.fill_state.Tie as tie
 
 abbrev Inv-loop : tie.InvT-loop
-Inv-loop sorts t fit₀ s₀ fit s = (0 < s) × (s ≤ sorts + 1) × WroteTo t (λ _. 0) fit₀ fit s
+Inv-loop sorts t fit₀ s₀ fit s = (s ≤ sorts) × WroteTo sorts t (λ _. 0) fit₀ fit s
 
 abbrev μ-loop : tie.MeasureT-loop
-μ-loop sorts t fit₀ s₀ fit s = sorts + 1 - s
+μ-loop sorts t fit₀ s₀ fit s = s
 
 loop-holds : tie.Need-loop-holds Inv-loop μ-loop
-loop-holds c = (omega arith, omega arith, wrote-none _ _ _ (omega arith))
+loop-holds c = (omega arith, wrote-none _ _ _ _ (omega arith))
 
 mul-fit : tie.Need-mul-fit Inv-loop μ-loop
 mul-fit c = omega arith
@@ -25,14 +25,14 @@ add-fit c = omega arith
 slice-write-fit : tie.Need-slice-write-fit Inv-loop μ-loop
 slice-write-fit c = omega arith
 
-add-s : tie.Need-add-s Inv-loop μ-loop
-add-s c = omega arith
+sub-s : tie.Need-sub-s Inv-loop μ-loop
+sub-s c = omega arith
 
 loop-less : tie.Need-loop-less Inv-loop μ-loop
 loop-less c = omega arith
 
 loop-again : tie.Need-loop-again Inv-loop μ-loop
-loop-again c = let l = c .before .loop in (omega arith, omega arith, wrote-more _ _ _ (l .fit) (l .s) (l .inv .2) 0 (omega arith) (omega arith) refl)
+loop-again c = let l = c .before .loop in (omega arith, wrote-more _ _ _ _ (l .fit) (l .s) (l .inv .1) 0 (omega arith) (omega arith) refl)
 
 mul-fit-2 : tie.Need-mul-fit-2 Inv-loop μ-loop
 mul-fit-2 c = omega arith
@@ -44,7 +44,7 @@ same-length : tie.Need-same-length Inv-loop μ-loop
 same-length c = simp length-set (omega arith)
 
 returns : tie.Need-returns Inv-loop μ-loop
-returns c = let l = c .before .loop in state-all _ _ _ (l .fit) (l .s) (omega arith) (omega arith) (l .inv .2) (omega arith)
+returns c = let l = c .before .loop in state-all _ _ _ (l .fit) (l .s) (omega arith) (omega arith) (l .inv .1) (omega arith)
 
 pub fill-state-spec : {M : Type 1} → statement M
 fill-state-spec =
@@ -56,7 +56,7 @@ fill-state-spec =
     mul-fit
     add-fit
     slice-write-fit
-    add-s
+    sub-s
     loop-less
     loop-again
     mul-fit-2

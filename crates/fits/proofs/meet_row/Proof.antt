@@ -1,5 +1,5 @@
--- `meet_row` meets its contract. The invariant: the flags from sort 1 on before s are there.
-use Prim.Native.Nat.{_+_, _-_, _<_, _≤_}
+-- `meet_row` meets its contract. The invariant: the flags behind sort s are there.
+use Prim.Native.Nat.{_≤_}
 use native.Mathlib.Omega.{arith}
 use borrow.Author.Needs.{needs}
 use mathlib.Core.Path.{ap₂}
@@ -10,13 +10,13 @@ use Rattle.fits.proofs.meet_row.Statement.{statement}
 use Rattle.fits.proofs.meet_row.Tie as tie
 
 abbrev Inv-loop : tie.InvT-loop
-Inv-loop others b sorts t fit₀ s₀ fit s = (0 < s) × (s ≤ sorts + 1) × WroteTo t (met fit₀ t others b) fit₀ fit s
+Inv-loop others b sorts t fit₀ s₀ fit s = (s ≤ sorts) × WroteTo sorts t (met fit₀ t others b) fit₀ fit s
 
 abbrev μ-loop : tie.MeasureT-loop
-μ-loop others b sorts t fit₀ s₀ fit s = sorts + 1 - s
+μ-loop others b sorts t fit₀ s₀ fit s = s
 
 loop-holds : tie.Need-loop-holds Inv-loop μ-loop
-loop-holds c = (omega arith, omega arith, wrote-none _ _ _ (omega arith))
+loop-holds c = (omega arith, wrote-none _ _ _ _ (omega arith))
 
 mul-one : tie.Need-mul-one Inv-loop μ-loop
 mul-one c = omega arith
@@ -51,8 +51,8 @@ add-fit c = omega arith
 slice-write-fit : tie.Need-slice-write-fit Inv-loop μ-loop
 slice-write-fit c = omega arith
 
-add-s : tie.Need-add-s Inv-loop μ-loop
-add-s c = omega arith
+sub-s : tie.Need-sub-s Inv-loop μ-loop
+sub-s c = omega arith
 
 loop-less : tie.Need-loop-less Inv-loop μ-loop
 loop-less c = omega arith
@@ -62,16 +62,15 @@ loop-again c =
     let l = c .before .before .before .before .before .loop in
     let small = c .before .before .before .before .before .before .before .pre .4 (l .s) (omega arith) (omega arith) in (
       omega arith,
-      omega arith,
-      wrote-more _ _ _ (l .fit) (l .s) (l .inv .2) _ (omega arith) (omega arith)
-          (ap₂ bitAnd (l .inv .2 .others _ (λ m n. omega arith)) (flag-before _ _ _ (l .fit) (l .s) (l .inv .2) _ _ _ (omega arith) small (c .before .wide .ensures))),
+      wrote-more _ _ _ _ (l .fit) (l .s) (l .inv .1) _ (omega arith) (omega arith)
+          (ap₂ bitAnd (l .inv .1 .before _ (omega arith)) (flag-before _ _ _ _ (l .fit) (l .s) (l .inv .1) _ _ _ (omega arith) small (c .before .wide .ensures))),
     )
 
 same-length : tie.Need-same-length Inv-loop μ-loop
 same-length c = omega arith
 
 returns : tie.Need-returns Inv-loop μ-loop
-returns c = let l = c .before .loop in wrote-all _ _ _ (l .fit) (l .s) (l .inv .2) _ (omega arith)
+returns c = let l = c .before .loop in wrote-all _ _ _ _ (l .fit) (l .s) (l .inv .1) (omega arith)
 
 pub meet-row-spec : {M : Type 1} → statement M
 meet-row-spec =
@@ -91,7 +90,7 @@ meet-row-spec =
     mul-fit
     add-fit
     slice-write-fit
-    add-s
+    sub-s
     loop-less
     loop-again
     same-length

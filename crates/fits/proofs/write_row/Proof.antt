@@ -1,5 +1,5 @@
--- `write_row` meets its contract. The invariant: the flags from sort 1 on before s are there.
-use Prim.Native.Nat.{_+_, _-_, _<_, _≤_}
+-- `write_row` meets its contract. The invariant: the flags behind sort s are there.
+use Prim.Native.Nat.{_≤_}
 use native.Mathlib.Omega.{arith}
 use borrow.Author.Needs.{needs}
 use mathlib.Core.Path.{ap₂}
@@ -10,13 +10,13 @@ use Rattle.fits.proofs.write_row.Statement.{statement}
 use Rattle.fits.proofs.write_row.Tie as tie
 
 abbrev Inv-loop : tie.InvT-loop
-Inv-loop ones a others b sorts t fit₀ s₀ fit s = (0 < s) × (s ≤ sorts + 1) × WroteTo t (both fit₀ ones a others b) fit₀ fit s
+Inv-loop ones a others b sorts t fit₀ s₀ fit s = (s ≤ sorts) × WroteTo sorts t (both fit₀ ones a others b) fit₀ fit s
 
 abbrev μ-loop : tie.MeasureT-loop
-μ-loop ones a others b sorts t fit₀ s₀ fit s = sorts + 1 - s
+μ-loop ones a others b sorts t fit₀ s₀ fit s = s
 
 loop-holds : tie.Need-loop-holds Inv-loop μ-loop
-loop-holds c = (omega arith, omega arith, wrote-none _ _ _ (omega arith))
+loop-holds c = (omega arith, wrote-none _ _ _ _ (omega arith))
 
 mul-one : tie.Need-mul-one Inv-loop μ-loop
 mul-one c = omega arith
@@ -57,8 +57,8 @@ add-fit c = omega arith
 slice-write-fit : tie.Need-slice-write-fit Inv-loop μ-loop
 slice-write-fit c = omega arith
 
-add-s : tie.Need-add-s Inv-loop μ-loop
-add-s c = omega arith
+sub-s : tie.Need-sub-s Inv-loop μ-loop
+sub-s c = omega arith
 
 loop-less : tie.Need-loop-less Inv-loop μ-loop
 loop-less c = omega arith
@@ -70,17 +70,16 @@ loop-again c =
     let small = pre .5 (l .s) (omega arith) (omega arith) in
     let small2 = pre .6 (l .s) (omega arith) (omega arith) in (
       omega arith,
-      omega arith,
-      wrote-more _ _ _ (l .fit) (l .s) (l .inv .2) _ (omega arith) (omega arith)
-          (ap₂ bitAnd (flag-before _ _ _ (l .fit) (l .s) (l .inv .2) _ _ _ (omega arith) small (c .before .before .before .before .wide .ensures))
-          (flag-before _ _ _ (l .fit) (l .s) (l .inv .2) _ _ _ (omega arith) small2 (c .before .wide2 .ensures))),
+      wrote-more _ _ _ _ (l .fit) (l .s) (l .inv .1) _ (omega arith) (omega arith)
+          (ap₂ bitAnd (flag-before _ _ _ _ (l .fit) (l .s) (l .inv .1) _ _ _ (omega arith) small (c .before .before .before .before .wide .ensures))
+          (flag-before _ _ _ _ (l .fit) (l .s) (l .inv .1) _ _ _ (omega arith) small2 (c .before .wide2 .ensures))),
     )
 
 same-length : tie.Need-same-length Inv-loop μ-loop
 same-length c = omega arith
 
 returns : tie.Need-returns Inv-loop μ-loop
-returns c = let l = c .before .loop in wrote-all _ _ _ (l .fit) (l .s) (l .inv .2) _ (omega arith)
+returns c = let l = c .before .loop in wrote-all _ _ _ _ (l .fit) (l .s) (l .inv .1) (omega arith)
 
 pub write-row-spec : {M : Type 1} → statement M
 write-row-spec =
@@ -102,7 +101,7 @@ write-row-spec =
     mul-fit
     add-fit
     slice-write-fit
-    add-s
+    sub-s
     loop-less
     loop-again
     same-length
