@@ -1,1 +1,1 @@
-pub mod Arrows
+pub mod Flags

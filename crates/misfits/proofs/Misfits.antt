@@ -22,7 +22,7 @@ use Rattle.casefile.specs.Refusals.{Test, refuse_at_when_, first, wrongLength, 
 use Rattle.casefile.proofs.TypeTable.{count-payloads}
 use Rattle.fit_flags.specs.Fitted.{flag}
 use Rattle.misfits.specs.Misfits.{bindingFits, Offered, FirstMisfit, FindsMisfit}
-use Rattle.fit_flags.proofs.Arrows.{bit-says}
+use Rattle.fit_flags.proofs.Flags.{bit-says}
 
 -- The flag of binding i: its numbers and its nonterminal's sort, read through the index.
 module _ {file index fit : List ℕ} {bindings nonterminals types sorts : ℕ} {rs : List Record} (of : Offered file index fit bindings nonterminals types sorts rs) where
