@@ -80,7 +80,7 @@ module _ {file froms tos : List ℕ} {sorts t place len : ℕ} {old index : List
   arrow : Arrow (kn .listed) (kn .below) (kn .there .place-is) (kn .there .len-is)
   arrow = arrow-there (kn .listed) (kn .below) (kn .there .place-is) (kn .there .len-is) (kn .no-state)
 
-  numbers : (2 ≤ len) × (word file place ≡ arrow .result) × (words (drop 2 (getD (payloads type rs) t [])) ≡ arrow .parts)
+  numbers : (word file place ≡ arrow .result) × (words (drop 2 (getD (payloads type rs) t [])) ≡ arrow .parts)
   numbers = arrow-numbers (kn .listed) (kn .below) (kn .there .place-is) (kn .there .len-is) arrow
 
   sort-fits : (k : ℕ) → 0 < k → k ≤ sorts
@@ -90,7 +90,7 @@ module _ {file froms tos : List ℕ} {sorts t place len : ℕ} {old index : List
 
   module _ (result : ℕ) (e : result ≡ word file place) where
     result-is : result ≡ arrow .result
-    result-is = e ∙ numbers .1
+    result-is = e ∙ numbers .0
 
     pub result-before : result < t
     result-before = let l = arrow .result-before in omega (arith, result-is)
@@ -98,11 +98,11 @@ module _ {file froms tos : List ℕ} {sorts t place len : ℕ} {old index : List
     -- the result's flags decide together with all members
     members-all : (fit : List ℕ) → Fitted fit t sorts rs → Members (λ k. flag fit result (getD tos k 0)) 2
     members-all fit rows = record {
-      early = λ m h. arrow .parts-before m (subst (List·Memᴰ m) (numbers .2) h);
+      early = λ m h. arrow .parts-before m (subst (List·Memᴰ m) (numbers .1) h);
       left = λ k pos l. record {
         so-far = fitsAt rs (arrow .result) (getD tos k 0);
         is-flag = ap (λ r. flag fit r (getD tos k 0)) result-is ∙ rows (arrow .result) (getD tos k 0) (arrow .result-before) (sort-fits k pos l .2);
-        decides = sort-fits k pos l .0 ∙ ap (λ ms. fitsAt rs (arrow .result) (getD tos k 0) && all (λ m. fitsAt rs m (getD froms k 0)) ms) (sym (numbers .2));
+        decides = sort-fits k pos l .0 ∙ ap (λ ms. fitsAt rs (arrow .result) (getD tos k 0) && all (λ m. fitsAt rs m (getD froms k 0)) ms) (sym (numbers .1));
       };
     }
 

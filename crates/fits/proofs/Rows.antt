@@ -27,7 +27,7 @@ use Rattle.fits.specs.Filled.{Listed, TypeThere}
 
 -- where a type's payload lies, as it was read
 pub type-read : (file index : List ℕ) (t place len : ℕ) → IsPlace index (1120 + t) place → IsField 2 file (place - 4) len → TypeThere file index t place len
-type-read file index t place len p l = record { place-is = p .value; place-fits = p .bound; len-is = l .value; len-fits = l .bound }
+type-read file index t place len p l = record { place-is = p .value; len-is = l .value }
 
 -- the members of an arrow fit a sort where each number's type does
 members-fit : (types : List Ty) (a : Sort) (ms : List ℕ) → allFit (membersAt types ms) a ≡ all (λ m. fits (getD types m (state 0)) a) ms
@@ -121,10 +121,10 @@ module _ {file index : List ℕ} {types sorts : ℕ} {rs : List Record} (li : Li
       arrow-tree ne = sym (ap bit (ap₂ fits (arrow-there ne .is-arrow) (sort-zero rs)))
 
       -- its result is the number at its place, and its members are those from byte 2 on
-      pub arrow-numbers : (a : Arrow) → (2 ≤ len) × (word file place ≡ a .result) × (words (drop 2 (typePay t)) ≡ a .parts)
+      pub arrow-numbers : (a : Arrow) → (word file place ≡ a .result) × (words (drop 2 (typePay t)) ≡ a .parts)
       arrow-numbers a = by (decLt len 2)
         where
-          by : Dec (len < 2) → (2 ≤ len) × (word file place ≡ a .result) × (words (drop 2 (typePay t)) ≡ a .parts)
+          by : Dec (len < 2) → (word file place ≡ a .result) × (words (drop 2 (typePay t)) ≡ a .parts)
           by (yes l) =
               let none = words-done (typePay t) 0 (omega (arith, length-is)) in
               let some = a .numbers in
@@ -134,7 +134,7 @@ module _ {file index : List ℕ} {types sorts : ℕ} {rs : List Record} (li : Li
               let step = words-step (typePay t) 0 (omega (arith, length-is)) in
               let some = a .numbers in
               let there : word file place ≡ word (typePay t) 0 = ap (field 2 file) (sym (add-zero place)) ∙ payload-there 2 0 (omega (arith, length-is)) in
-              (omega arith, there ∙ (cc), cc)
+              (there ∙ (cc), cc)
 
       -- it fits another sort where its result fits what the sort goes to, and its members what it goes from
       pub arrow-fits : (a : Arrow) (s from to : ℕ) → 0 < s → s ≤ sorts

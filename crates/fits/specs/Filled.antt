@@ -25,9 +25,7 @@ pub record Listed (file index : List ℕ) (types sorts : ℕ) (rs : List Record)
 -- the payload of type t is the len bytes at place, as the index and the file say
 pub record TypeThere (file index : List ℕ) (t place len : ℕ) : Type 0 where
   pub place-is : place ≡ getD index (1120 + t) 0
-  pub place-fits : place < 65536
   pub len-is : len ≡ word file (place - 4)
-  pub len-fits : len < 65536
 
 -- the entries of a table for so many sorts are no more than 64
 abbrev pub Small : ℕ → List ℕ → Type 0

@@ -13,7 +13,7 @@ fn wide(number: u8) -> usize
     number as usize
 }
 
-// The number of a sort in one byte; 0 where a file has not so many sorts.
+// The number of a sort in one byte; 0 for a number past 64, which no sort has.
 fn small(number: usize) -> u8
     ensures { λ r. ⌜ (r ≤ 64) × (number ≤ 64 → r ≡ number) ⌝ }
 {

@@ -31,7 +31,7 @@ write-row-requires : tie.Need-write-row-requires Inv-loop μ-loop
 write-row-requires c κs = search needs
 
 same-length : tie.Need-same-length Inv-loop μ-loop
-same-length c = let e = length-set (c .before .before .before .before .before .before .before .before .before .args .fit .now) (c .before .before .before .before .before .before .before .before .before .args .t * 65) 0 in omega arith
+same-length c = let start = c .before .before .before .before .before .before .before .before .before in let e = length-set (start .args .fit .now) (start .args .t * 65) 0 in omega arith
 
 returns-2 : tie.Need-returns-2 Inv-loop μ-loop
 returns-2 c = result-only _ _ _ _ _ _ _ _ _ (c .before .before .before .before .before .before .word-at .ensures .value) (omega arith) _ (c .before .before .before .before .if2 .taken) (c .before .before .write-row .ensures)
@@ -46,13 +46,15 @@ same-length-2 : tie.Need-same-length-2 Inv-loop μ-loop
 same-length-2 c = simp length-set (omega arith)
 
 returns-3 : tie.Need-returns-3 Inv-loop μ-loop
-returns-3 c = first-late _ _ _ _ _ _ _ _ _ (c .before .before .before .before .word-at .ensures .value) (omega arith) _ (c .before .before .if2 .left) (c .before .word-at2 .ensures .value) (set (c .before .before .before .before .before .before .before .args .fit .now) (c .before .before .before .before .before .before .before .args .t * 65) 0) (c .if3 .taken)
+returns-3 c =
+    let start = c .before .before .before .before .before .before .before in
+    first-late _ _ _ _ _ _ _ _ _ (c .before .before .before .before .word-at .ensures .value) (omega arith) _ (c .before .before .if2 .left) (c .before .word-at2 .ensures .value) (set (start .args .fit .now) (start .args .t * 65) 0) (c .if3 .taken)
 
 write-row-requires-2 : tie.Need-write-row-requires-2 Inv-loop μ-loop
 write-row-requires-2 c κs = search needs
 
 loop-holds : tie.Need-loop-holds Inv-loop μ-loop
-loop-holds c = (omega arith, (let e = length-set (c .before .before .before .before .before .before .before .before .before .before .before .args .fit .now) (c .before .before .before .before .before .before .before .before .before .before .before .args .t * 65) 0 in omega arith), λ old a. a)
+loop-holds c = (omega arith, (let start = c .before .before .before .before .before .before .before .before .before .before .before in let e = length-set (start .args .fit .now) (start .args .t * 65) 0 in omega arith), λ old a. a)
 
 add-loop : tie.Need-add-loop Inv-loop μ-loop
 add-loop c = omega arith
@@ -64,12 +66,13 @@ word-at-requires-3 : tie.Need-word-at-requires-3 Inv-loop μ-loop
 word-at-requires-3 c κs = search needs
 
 same-length-3 : tie.Need-same-length-3 Inv-loop μ-loop
-same-length-3 c = let e = length-set (c .before .before .before .before .before .before .before .before .before .before .before .before .before .before .before .args .fit .now) (c .before .before .before .before .before .before .before .before .before .before .before .before .before .before .before .args .t * 65) 0 in omega arith
+same-length-3 c = let start = c .before .before .before .before .before .before .before .before .before .before .before .before .before .before .before in let e = length-set (start .args .fit .now) (start .args .t * 65) 0 in omega arith
 
 returns-4 : tie.Need-returns-4 Inv-loop μ-loop
 returns-4 c =
     let l = c .before .before .before .loop in
-    member-late _ _ _ _ _ _ _ _ (l .fit) (l .i) (l .inv .2 _ (first-met _ _ _ _ _ _ _ _ _ (c .before .before .before .before .before .before .before .before .before .before .before .before .word-at .ensures .value) (omega arith) _ (c .before .before .before .before .before .before .before .before .before .before .if2 .left) (c .before .before .before .before .before .before .before .before .before .word-at2 .ensures .value) _ (c .before .before .before .before .before .before .write-row2 .ensures))) _ (omega arith) (c .before .word-at3 .ensures .value) (c .if4 .taken)
+    let e = c .before .before .before .before .before .before .before .before .before in
+    member-late _ _ _ _ _ _ _ _ (l .fit) (l .i) (l .inv .2 _ (first-met _ _ _ _ _ _ _ _ _ (e .before .before .before .word-at .ensures .value) (omega arith) _ (e .before .if2 .left) (e .word-at2 .ensures .value) _ (c .before .before .before .before .before .before .write-row2 .ensures))) _ (omega arith) (c .before .word-at3 .ensures .value) (c .if4 .taken)
 
 meet-row-requires : tie.Need-meet-row-requires Inv-loop μ-loop
 meet-row-requires c κs = search needs
@@ -86,12 +89,13 @@ loop-again c =
     (omega arith, omega arith, λ old a. member-met _ _ _ _ _ _ _ _ (l .fit) (l .i) (l .inv .2 old a) _ (omega arith) (c .before .before .before .before .before .word-at3 .ensures .value) _ (c .before .before .meet-row .ensures))
 
 same-length-4 : tie.Need-same-length-4 Inv-loop μ-loop
-same-length-4 c = let e = length-set (c .before .before .before .before .before .before .before .before .before .before .before .before .before .args .fit .now) (c .before .before .before .before .before .before .before .before .before .before .before .before .before .args .t * 65) 0 in omega arith
+same-length-4 c = let start = c .before .before .before .before .before .before .before .before .before .before .before .before .before in let e = length-set (start .args .fit .now) (start .args .t * 65) 0 in omega arith
 
 returns-5 : tie.Need-returns-5 Inv-loop μ-loop
 returns-5 c =
     let l = c .before .loop in
-    all-met _ _ _ _ _ _ _ _ (l .fit) (l .i) (l .inv .2 _ (first-met _ _ _ _ _ _ _ _ _ (c .before .before .before .before .before .before .before .before .before .before .word-at .ensures .value) (omega arith) _ (c .before .before .before .before .before .before .before .before .if2 .left) (c .before .before .before .before .before .before .before .word-at2 .ensures .value) _ (c .before .before .before .before .write-row2 .ensures))) (omega arith)
+    let e = c .before .before .before .before .before .before .before in
+    all-met _ _ _ _ _ _ _ _ (l .fit) (l .i) (l .inv .2 _ (first-met _ _ _ _ _ _ _ _ _ (e .before .before .before .word-at .ensures .value) (omega arith) _ (e .before .if2 .left) (e .word-at2 .ensures .value) _ (c .before .before .before .before .write-row2 .ensures))) (omega arith)
 
 pub fill-arrow-spec : {M : Type 1} → statement M
 fill-arrow-spec =
