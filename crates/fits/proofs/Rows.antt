@@ -6,7 +6,7 @@ use native.Mathlib.Nat.{zero-add, add-zero}
 use mathlib.Core.Path.{_≡_, refl, sym, ap, ap₂, subst, _∙_}
 use mathlib.Core.Bool.{false, _&&_}
 use mathlib.Core.List.{List, [], _∷_, List·Memᴰ}
-use borrow.Author.Tests.{eq-eqb}
+use borrow.Author.Tests.{lt-leb, eq-eqb}
 use lib.Dec.{eqb}
 use lib.ListN.{length, getD, drop}
 use Rattle.scheme.specs.Lists.{all}
@@ -15,6 +15,7 @@ use Rattle.scheme.specs.Types.{Ty, state, arrow, fits, allFit}
 use Rattle.scheme.specs.Flags.{bit}
 use Rattle.records.specs.Fields.{field, byte, word, IsField}
 use Rattle.records.specs.Records.{Record}
+use Rattle.reading.specs.Reading.{partOf}
 use Rattle.casefile.specs.Kinds.{sort, type, payloads}
 use Rattle.casefile.specs.Tables.{words, membersAt, arrowFrom, typeFrom, typesOf, sortFrom, sortsOf}
 use Rattle.casefile.proofs.Steps.{words-step, words-done}
@@ -35,6 +36,10 @@ unfolding all membersAt allFit
 members-fit types a [] = refl
 members-fit types a (m ∷ ms) = ap (λ b. fits (getD types m (state 0)) a && b) (members-fit types a ms)
 
+part-past : (s : List ℕ) (start len : ℕ) → length s < start → partOf s start len ≡ []
+unfolding partOf
+part-past s start len h = rw (lt-leb (start + len) (length s) (omega arith)) refl
+
 state-from : (types : List Ty) (p : List ℕ) → length p ≡ 1 → typeFrom types p ≡ state (byte p 0)
 unfolding typeFrom
 state-from types p e = rw (eq-eqb (length p) 1 e) refl
@@ -52,6 +57,18 @@ module _ {file index : List ℕ} {types sorts : ℕ} {rs : List Record} (li : Li
 
   sort-counted : sorts ≡ length (payloads sort rs)
   sort-counted = sym (li .sorts-there .counted) ∙ count-payloads sort rs
+
+  -- a file of fewer than four bytes has no type
+  pub no-type : length file < 4 → (t : ℕ) → t < types → ⊥
+  unfolding words
+  no-type short t h = by (type-shape (li .passed) (li .type-bytes) t (omega (arith, type-counted)))
+    where
+      none : typePay t ≡ []
+      none = let b = li .types-there .behind-header t h in sym (li .types-there .payload-there t h) ∙ part-past file (getD index (1120 + t) 0) (length (typePay t)) (omega arith)
+
+      by : Shape t (typePay t) → ⊥
+      by (a-state q e) = let n = none in let z : _≡_ {A = ℕ} 0 1 = cc in omega arith
+      by (an-arrow r ms e f hr hms asc ps) = let n = ap words none in let z : _≡_ {A = ℕ} 0 1 = cc in omega arith
 
   -- a listed sort goes from one sort to another, by its record
   sort-there : (s from to : ℕ) → 0 < s → s ≤ sorts → from ≡ word file (getD index (s - 1) 0 + 0) → to ≡ word file (getD index (s - 1) 0 + 2)

@@ -151,7 +151,7 @@ fn fill_row(
     }
 }
 
-// Writes the table of so many types: 1 where a type fits a sort, else 0.
+// Writes the table of so many types: 1 where a type fits a sort, else 0. A file of fewer than four bytes has no type.
 pub fn fill_fits(file: &[u8], index: &[u16], types: usize, sorts: usize, fit: &mut [u8; 66560])
     ensures { λ _. ⌜ Fills (now (file .entry)) (now (index .entry)) types sorts (now (fit .exit)) ⌝ }
 {
@@ -159,6 +159,9 @@ pub fn fill_fits(file: &[u8], index: &[u16], types: usize, sorts: usize, fit: &m
         return;
     }
     if 64 < sorts {
+        return;
+    }
+    if file.len() < 4 {
         return;
     }
     let mut froms = [0u8; 65];

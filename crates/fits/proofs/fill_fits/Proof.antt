@@ -6,6 +6,7 @@ use borrow.Author.Needs.{needs}
 use Rattle.records.specs.Records.{Record}
 use Rattle.fit_flags.specs.Fitted.{Fitted}
 use Rattle.fits.specs.Filled.{Listed}
+use Rattle.fits.proofs.Rows.{no-type}
 use Rattle.fits.proofs.fill_fits.Statement.{statement}
 use Rattle.fits.proofs.fill_fits.Tie as tie
 
@@ -20,6 +21,9 @@ returns c rs li = absurd (omega arith)
 
 returns-2 : tie.Need-returns-2 Inv-loop μ-loop
 returns-2 c rs li = absurd (omega arith)
+
+returns-3 : tie.Need-returns-3 Inv-loop μ-loop
+returns-3 c rs li u s hu hs = absurd (no-type li (c .if3 .taken) u hu)
 
 slice-aggregate-read-sorts : tie.Need-slice-aggregate-read-sorts Inv-loop μ-loop
 slice-aggregate-read-sorts c = search needs
@@ -48,8 +52,8 @@ loop-again c =
     let (froms, tos) = b .before .before .before .read-sorts .ensures in
     (omega arith, λ rs li. c .fill-row .ensures (froms .1) (tos .1) _ rs li (omega arith) (b .loop .inv .1 rs li))
 
-returns-3 : tie.Need-returns-3 Inv-loop μ-loop
-returns-3 c rs li u s hu hs = c .before .loop .inv .1 rs li u s (omega arith) hs
+returns-4 : tie.Need-returns-4 Inv-loop μ-loop
+returns-4 c rs li u s hu hs = c .before .loop .inv .1 rs li u s (omega arith) hs
 
 pub fill-fits-spec : {M : Type 1} → statement M
 fill-fits-spec =
@@ -59,6 +63,7 @@ fill-fits-spec =
     μ-loop
     returns
     returns-2
+    returns-3
     slice-aggregate-read-sorts
     slice-aggregate-read-sorts-2
     read-sorts-requires
@@ -67,4 +72,4 @@ fill-fits-spec =
     add-t
     loop-less
     loop-again
-    returns-3)
+    returns-4)
