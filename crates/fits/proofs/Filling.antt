@@ -9,7 +9,7 @@ use lib.Seq.{getD-set-same, getD-set-other}
 use Rattle.scheme.specs.Flags.{bit}
 use Rattle.records.specs.Records.{Record}
 use Rattle.fit_flags.specs.Fitted.{flag, fitsAt, Fitted}
-use Rattle.fits.specs.Filled.{Listed, TypeThere, Wrote, FillsState}
+use Rattle.fits.specs.Filled.{Wrote, FillsState}
 use Rattle.fits.proofs.Rows.{state-tree, state-row}
 
 -- flags of type t that are written one before another
