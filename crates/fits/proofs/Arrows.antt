@@ -59,6 +59,15 @@ left-none : {f : ℕ → Bool} {x : ℕ} {whole : Bool} → Left f x whole [] �
 unfolding all
 left-none l = l .is-flag ∙ ap bit (sym (l .decides ∙ and-true (l .so-far)))
 
+-- a flag that is not set decides alone
+left-lost : {f : ℕ → Bool} {x : ℕ} {whole : Bool} {ms : List ℕ} → Left f x whole ms → x ≡ 0 → 0 ≡ bit whole
+unfolding bit
+left-lost {f} {x} {whole} {ms} l none = go (l .so-far) (sym (l .is-flag) ∙ none) (l .decides)
+  where
+    go : (b : Bool) → bit b ≡ 0 → whole ≡ (b && all f ms) → 0 ≡ bit whole
+    go true e d = absurd (omega arith)
+    go false e d = sym (ap bit d)
+
 module _ (rs : List Record) (froms : List ℕ) (sorts t : ℕ) where
   -- flags x of type t that decide for each sort together with the members that are left
   pub record Leads (x : ℕ → ℕ) (ms : List ℕ) : Type 0 where
@@ -194,6 +203,12 @@ module _ (file froms tos : List ℕ) (sorts t place len : ℕ) (old : List ℕ) 
       member-met fit′ w index types rs kn =
           let (before, ms) = at index types rs kn in
           (rows-kept kn (met fit t froms m) fit fit′ before w, members-more kn (flag fit t) i m ms h em fit (before .rows) (flag fit′ t) (w .flags))
+
+    -- where no flag is left, none comes back
+    pub none-met : ((k : ℕ) → 0 < k → k ≤ sorts → flag fit t k ≡ 0) → Filled fit
+    none-met none index types rs kn =
+        let (before, ms) = at index types rs kn in
+        fitted-more fit t sorts rs (before .rows) (before .tree) (λ k pos l. none k pos l ∙ left-lost (ms .left k pos l) (none k pos l))
 
     pub all-met : len < i + 2 → Filled fit
     all-met h index types rs kn =

@@ -44,6 +44,21 @@ module _ (sorts t : ℕ) (x : ℕ → ℕ) (old : List ℕ) where
     pub flag-before : (a k j : ℕ) → a < t → k ≤ 64 → j ≡ k → flag fit a j ≡ flag old a k
     flag-before a k j h l e = ap (flag fit a) e ∙ w .before (a * 65 + k) (omega arith)
 
+-- no flag of type t behind a sort is set
+pub record Unset (sorts t : ℕ) (fit : List ℕ) (s : ℕ) : Type 0 where
+  pub none : (k : ℕ) → s < k → k ≤ sorts → flag fit t k ≡ 0
+
+module _ (sorts t : ℕ) (fit : List ℕ) where
+  pub unset-none : Unset sorts t fit sorts
+  unset-none = record { none = λ k h l. absurd (omega arith) }
+
+  pub unset-more : (s : ℕ) → Unset sorts t fit s → flag fit t s ≡ 0 → Unset sorts t fit (s - 1)
+  unset-more s u e = record { none = λ k h l. by k h l (decLt s k) }
+    where
+      by : (k : ℕ) → s - 1 < k → k ≤ sorts → Dec (s < k) → flag fit t k ≡ 0
+      by k h l (yes m) = u .none k m l
+      by k h l (no m) = let same : k ≡ s = omega arith in ap (flag fit t) same ∙ e
+
 -- the table with a row more
 module _ (fit : List ℕ) (t sorts : ℕ) (rs : List Record) where
   pub fitted-more : Fitted fit t sorts rs → getD fit (t * 65) 0 ≡ bit (fitsAt rs t 0) → ((k : ℕ) → 0 < k → k ≤ sorts → flag fit t k ≡ bit (fitsAt rs t k)) → Fitted fit (t + 1) sorts rs

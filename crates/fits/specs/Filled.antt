@@ -1,6 +1,7 @@
 -- The table of fits, row by row.
 use Prim.Native.Nat.{ℕ, _+_, _-_, _*_, _<_, _≤_}
 use mathlib.Core.Path.{_≡_}
+use mathlib.Core.Bool.{Bool, false}
 use mathlib.Core.List.{List, []}
 use lib.ListN.{getD}
 use lib.Bits.{bitAnd}
@@ -52,6 +53,10 @@ both fit ones a others b s = andFlag fit (flag fit a (getD ones s 0)) others b s
 -- the flag of type t together with that of another type
 abbrev pub met : List ℕ → ℕ → List ℕ → ℕ → ℕ → ℕ
 met fit t others b s = andFlag fit (flag fit t s) others b s
+
+-- r says whether some flag of type t is set: where it says no, none is
+abbrev pub FindsFlag : ℕ → ℕ → List ℕ → Bool → Type 0
+FindsFlag sorts t fit r = r ≡ false → (s : ℕ) → 0 < s → s ≤ sorts → flag fit t s ≡ 0
 
 module _ (file index : List ℕ) where
   -- the table with the row of type t, where it had the rows before

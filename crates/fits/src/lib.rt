@@ -4,7 +4,7 @@ use records::word_at;
 ghost use mathlib.Core.Path.{_≡_};
 ghost use Prim.Native.Nat.{_<_, _≤_};
 ghost use lib.ListN.{length};
-ghost use Rattle.fits.specs.Filled.{Small, SortWords, Wrote, both, met, FillsState, FillsArrow, ReadsRow, Fills};
+ghost use Rattle.fits.specs.Filled.{Small, SortWords, Wrote, both, met, FindsFlag, FillsState, FillsArrow, ReadsRow, Fills};
 
 // A number of one byte, as wide as an index.
 fn wide(number: u8) -> usize
@@ -87,7 +87,23 @@ fn meet_row(others: &[u8; 65], b: usize, sorts: usize, t: usize, fit: &mut [u8])
     }
 }
 
-// Writes the row of type t, an arrow whose payload is the len bytes at place: where its result and each member fit.
+// Whether some flag of type t is set, for so many sorts.
+fn any_flag(sorts: usize, t: usize, fit: &[u8]) -> bool
+    requires { ⌜ (t < 1024) × (sorts ≤ 64) × (length (now fit) ≡ 66560) ⌝ }
+    ensures { λ r. ⌜ FindsFlag sorts t (now (fit .entry)) r ⌝ }
+{
+    let mut s: usize = sorts;
+    while 0 < s {
+        if fit[t * 65 + s] != 0 {
+            return true;
+        }
+        s = s - 1;
+    }
+    false
+}
+
+// Writes the row of type t, an arrow whose payload is the len bytes at place: where its result and each member fit. Where no flag
+// is left, no further member is looked at.
 fn fill_arrow(
     file: &[u8],
     froms: &[u8; 65],
@@ -115,6 +131,12 @@ fn fill_arrow(
         return;
     }
     write_row(tos, result, froms, first, sorts, t, fit);
+    if len < 6 {
+        return;
+    }
+    if !any_flag(sorts, t, fit) {
+        return;
+    }
     let mut i: usize = 4;
     while i + 2 <= len {
         let member = word_at(file, place + i);

@@ -4,8 +4,9 @@ use mathlib.Core.Path.{_≡_}
 use mathlib.Core.List.{List}
 use native.Mathlib.Omega.{arith}
 use borrow.Author.Needs.{needs}
+use borrow.Author.Tests.{not-true}
 use lib.ListN.{length, set, length-set}
-use Rattle.fits.proofs.Arrows.{ArrowTo, result-late, result-only, first-late, first-met, member-late, member-met, all-met}
+use Rattle.fits.proofs.Arrows.{ArrowTo, result-late, result-only, first-late, first-met, member-late, member-met, none-met, all-met}
 use Rattle.fits.proofs.fill_arrow.Statement.{statement}
 use Rattle.fits.proofs.fill_arrow.Tie as tie
 
@@ -53,8 +54,23 @@ returns-3 c =
 write-row-requires-2 : tie.Need-write-row-requires-2 Inv-loop μ-loop
 write-row-requires-2 c κs = search needs
 
+same-length-3 : tie.Need-same-length-3 Inv-loop μ-loop
+same-length-3 c = let start = c .before .before .before .before .before .before .before .before .before .before .before .before in let e = length-set (start .args .fit .now) (start .args .t * 65) 0 in omega arith
+
+returns-4 : tie.Need-returns-4 Inv-loop μ-loop
+returns-4 c = all-met _ _ _ _ _ _ _ _ _ 4 (first-met _ _ _ _ _ _ _ _ _ (c .before .before .before .before .before .before .before .before .before .word-at .ensures .value) (omega arith) _ (c .before .before .before .before .before .before .before .if2 .left) (c .before .before .before .before .before .before .word-at2 .ensures .value) _ (c .before .before .before .write-row2 .ensures)) (omega arith)
+
+any-flag-requires : tie.Need-any-flag-requires Inv-loop μ-loop
+any-flag-requires c κs = let start = c .before .before .before .before .before .before .before .before .before .before .before .before .before in let e = length-set (start .args .fit .now) (start .args .t * 65) 0 in search needs
+
+same-length-4 : tie.Need-same-length-4 Inv-loop μ-loop
+same-length-4 c = let start = c .before .before .before .before .before .before .before .before .before .before .before .before .before .before .before in let e = length-set (start .args .fit .now) (start .args .t * 65) 0 in omega arith
+
+returns-5 : tie.Need-returns-5 Inv-loop μ-loop
+returns-5 c = none-met _ _ _ _ _ _ _ _ _ 4 (first-met _ _ _ _ _ _ _ _ _ (c .before .before .before .before .before .before .before .before .before .before .before .before .word-at .ensures .value) (omega arith) _ (c .before .before .before .before .before .before .before .before .before .before .if2 .left) (c .before .before .before .before .before .before .before .before .before .word-at2 .ensures .value) _ (c .before .before .before .before .before .before .write-row2 .ensures)) (c .before .any-flag .ensures (not-true _ (c .if5 .taken)))
+
 loop-holds : tie.Need-loop-holds Inv-loop μ-loop
-loop-holds c = (omega arith, (let start = c .before .before .before .before .before .before .before .before .before .before .before in let e = length-set (start .args .fit .now) (start .args .t * 65) 0 in omega arith), λ old a. a)
+loop-holds c = (omega arith, (let start = c .before .before .before .before .before .before .before .before .before .before .before .before .before .before .before in let e = length-set (start .args .fit .now) (start .args .t * 65) 0 in omega arith), λ old a. a)
 
 add-loop : tie.Need-add-loop Inv-loop μ-loop
 add-loop c = omega arith
@@ -65,14 +81,13 @@ add-word-at-2 c = omega arith
 word-at-requires-3 : tie.Need-word-at-requires-3 Inv-loop μ-loop
 word-at-requires-3 c κs = search needs
 
-same-length-3 : tie.Need-same-length-3 Inv-loop μ-loop
-same-length-3 c = let start = c .before .before .before .before .before .before .before .before .before .before .before .before .before .before .before in let e = length-set (start .args .fit .now) (start .args .t * 65) 0 in omega arith
+same-length-5 : tie.Need-same-length-5 Inv-loop μ-loop
+same-length-5 c = let start = c .before .before .before .before .before .before .before .before .before .before .before .before .before .before .before .before .before .before .before in let e = length-set (start .args .fit .now) (start .args .t * 65) 0 in omega arith
 
-returns-4 : tie.Need-returns-4 Inv-loop μ-loop
-returns-4 c =
+returns-6 : tie.Need-returns-6 Inv-loop μ-loop
+returns-6 c =
     let l = c .before .before .before .loop in
-    let e = c .before .before .before .before .before .before .before .before .before in
-    member-late _ _ _ _ _ _ _ _ (l .fit) (l .i) (l .inv .2 _ (first-met _ _ _ _ _ _ _ _ _ (e .before .before .before .word-at .ensures .value) (omega arith) _ (e .before .if2 .left) (e .word-at2 .ensures .value) _ (c .before .before .before .before .before .before .write-row2 .ensures))) _ (omega arith) (c .before .word-at3 .ensures .value) (c .if4 .taken)
+    member-late _ _ _ _ _ _ _ _ (l .fit) (l .i) (l .inv .2 _ (first-met _ _ _ _ _ _ _ _ _ (c .before .before .before .before .before .before .before .before .before .before .before .before .before .before .before .before .word-at .ensures .value) (omega arith) _ (c .before .before .before .before .before .before .before .before .before .before .before .before .before .before .if2 .left) (c .before .before .before .before .before .before .before .before .before .before .before .before .before .word-at2 .ensures .value) _ (c .before .before .before .before .before .before .before .before .before .before .write-row2 .ensures))) _ (omega arith) (c .before .word-at3 .ensures .value) (c .if6 .taken)
 
 meet-row-requires : tie.Need-meet-row-requires Inv-loop μ-loop
 meet-row-requires c κs = search needs
@@ -88,14 +103,13 @@ loop-again c =
     let l = c .before .before .before .before .before .before .before .loop in
     (omega arith, omega arith, λ old a. member-met _ _ _ _ _ _ _ _ (l .fit) (l .i) (l .inv .2 old a) _ (omega arith) (c .before .before .before .before .before .word-at3 .ensures .value) _ (c .before .before .meet-row .ensures))
 
-same-length-4 : tie.Need-same-length-4 Inv-loop μ-loop
-same-length-4 c = let start = c .before .before .before .before .before .before .before .before .before .before .before .before .before in let e = length-set (start .args .fit .now) (start .args .t * 65) 0 in omega arith
+same-length-6 : tie.Need-same-length-6 Inv-loop μ-loop
+same-length-6 c = let start = c .before .before .before .before .before .before .before .before .before .before .before .before .before .before .before .before .before in let e = length-set (start .args .fit .now) (start .args .t * 65) 0 in omega arith
 
-returns-5 : tie.Need-returns-5 Inv-loop μ-loop
-returns-5 c =
+returns-7 : tie.Need-returns-7 Inv-loop μ-loop
+returns-7 c =
     let l = c .before .loop in
-    let e = c .before .before .before .before .before .before .before in
-    all-met _ _ _ _ _ _ _ _ (l .fit) (l .i) (l .inv .2 _ (first-met _ _ _ _ _ _ _ _ _ (e .before .before .before .word-at .ensures .value) (omega arith) _ (e .before .if2 .left) (e .word-at2 .ensures .value) _ (c .before .before .before .before .write-row2 .ensures))) (omega arith)
+    all-met _ _ _ _ _ _ _ _ (l .fit) (l .i) (l .inv .2 _ (first-met _ _ _ _ _ _ _ _ _ (c .before .before .before .before .before .before .before .before .before .before .before .before .before .before .word-at .ensures .value) (omega arith) _ (c .before .before .before .before .before .before .before .before .before .before .before .before .if2 .left) (c .before .before .before .before .before .before .before .before .before .before .before .word-at2 .ensures .value) _ (c .before .before .before .before .before .before .before .before .write-row2 .ensures))) (omega arith)
 
 pub fill-arrow-spec : {M : Type 1} → statement M
 fill-arrow-spec =
@@ -115,15 +129,20 @@ fill-arrow-spec =
     same-length-2
     returns-3
     write-row-requires-2
+    same-length-3
+    returns-4
+    any-flag-requires
+    same-length-4
+    returns-5
     loop-holds
     add-loop
     add-word-at-2
     word-at-requires-3
-    same-length-3
-    returns-4
+    same-length-5
+    returns-6
     meet-row-requires
     add-i
     loop-less
     loop-again
-    same-length-4
-    returns-5)
+    same-length-6
+    returns-7)
