@@ -1,16 +1,15 @@
 -- Arrows off, step by step; the type of a constructor, target by target.
-use Prim.Native.Nat.{ℕ, zero, suc, _+_, _-_, _<_, _≤_}
+use Prim.Native.Nat.{ℕ, suc, _+_, _-_, _<_, _≤_}
 use native.Mathlib.Omega.{arith}
-use native.Mathlib.Nat.{add-zero}
 use mathlib.Core.Path.{_≡_, refl, sym, ap, ap₂, subst, _∙_}
 use mathlib.Core.Bool.{Bool, true, false, _&&_}
-use mathlib.Core.List.{List, [], _∷_}
-use mathlib.Core.Option.{Option, none, some}
+use mathlib.Core.List.{List, _∷_}
+use mathlib.Core.Option.{none, some}
 use borrow.Author.Tests.{eq-eqb, ne-eqb, eqb-true, eqb-false}
 use lib.Dec.{eqb}
 use lib.ListN.{length, getD, take, drop, drop-of-length-le}
 use lib.Seq.{length-take-le, drop-cons, getD-take}
-use Rattle.scheme.specs.Types.{Ty, state, arrow, Tys, []ʸ, _∷ʸ_, members, same, sames, takes}
+use Rattle.scheme.specs.Types.{Ty, state, arrow, Tys, []ʸ, _∷ʸ_, members, same, takes}
 use Rattle.scheme.proofs.Lists.{and-no}
 use Rattle.records.specs.Records.{Record}
 use Rattle.goals.specs.Goals.{Goal, of-state, of-arrow, Typed, IsResult, CountsMembers, IsMember}

@@ -5,7 +5,6 @@ use mathlib.Core.Path.{_≡_, refl, sym, ap, subst, _∙_}
 use mathlib.Core.Bool.{Bool, true, false, _||_}
 use mathlib.Core.List.{List}
 use mathlib.Core.Option.{Option, none, some}
-use lib.ListN.{length}
 use Rattle.scheme.specs.Lists.{found, any}
 use Rattle.scheme.specs.Types.{Ty, same, domains}
 use Rattle.scheme.specs.Typing.{Automaton, headTypes}

@@ -1,10 +1,9 @@
 -- A head that stands alone. Section "Types and shrinking" of the scope: "A nonterminal has the types bound to it, a
 -- parameter the members given for it".
-use Prim.Native.Nat.{ℕ, suc, _<_, _≤_}
+use Prim.Native.Nat.{ℕ, _≤_}
 use mathlib.Core.Path.{_≡_}
 use mathlib.Core.Bool.{Bool, true}
 use mathlib.Core.List.{List}
-use lib.ListN.{length}
 use Rattle.scheme.specs.Lists.{any}
 use Rattle.scheme.specs.Types.{Ty, same, domains}
 use Rattle.scheme.specs.Typing.{Automaton, headTypes}

@@ -20,7 +20,7 @@ use Rattle.records.specs.Fields.{field}
 use Rattle.casefile.specs.Tables.{headOf, nodesOf, firstTerm}
 use Rattle.bodies.specs.Tables.{Stored}
 use Rattle.sort_codes.specs.Sorted.{Code}
-use Rattle.bodies.specs.Bodies.{Held, Fits, ArgumentsFit, Goods, Held-from, headsBy, Setting, HeadCode, HeldAs, Room, NodeRead, NodeTaken}
+use Rattle.bodies.specs.Bodies.{Held, Fits, ArgumentsFit, Goods, Held-from, headsBy, Setting, HeadCode, Room, NodeRead, NodeTaken}
 use Rattle.bodies.specs.declared.Arguments.{Arguments}
 use Rattle.sort_codes.proofs.Codes.{code-small}
 use Rattle.casefile.proofs.Cells.{cellAt, nodeAt, nodes-length, nodes-drop}

@@ -1,21 +1,15 @@
 -- The sorts of the heads of a body's nodes.
-use Prim.Native.Nat.{ℕ, zero, suc, _+_, _*_, _/_, _<_, _≤_}
-use mathlib.Core.Path.{_≡_, refl, sym, ap, subst, _∙_}
-use mathlib.Core.Bool.{Bool, false, _||_}
-use mathlib.Core.List.{List, [], _∷_, map}
+use Prim.Native.Nat.{ℕ, _+_, _*_, _/_, _<_, _≤_}
+use mathlib.Core.Path.{_≡_, refl, sym, subst, _∙_}
+use mathlib.Core.Bool.{false}
+use mathlib.Core.List.{List, [], _∷_}
 use native.Mathlib.Omega.{arith}
-use native.Mathlib.Nat.{le-of-suc-le-suc}
-use borrow.Author.Tests.{leb-false, ltb-false}
-use lib.Dec.{leb, ltb}
-use lib.ListN.{length, getD, take, drop, length-map, List·getD-map}
-use lib.Seq.{drop-cons, getD-take}
-use Rattle.scheme.specs.Lists.{any}
+use lib.ListN.{length, getD}
 use Rattle.scheme.specs.Sorts.{Sort, o, arguments}
 use Rattle.scheme.specs.Sorting.{headSort}
-use Rattle.scheme.specs.Prefix.{Node}
 use Rattle.scheme.proofs.Lists.{any-at, getD-map-in, getD-prefix}
 use Rattle.records.specs.Fields.{field}
-use Rattle.casefile.specs.Tables.{Cell, cellsOf, headOf, nodesOf}
+use Rattle.casefile.specs.Tables.{cellsOf, headOf}
 use Rattle.casefile.specs.Refusals.{wrongCell}
 use Rattle.sort_codes.specs.Sorted.{Code, listed, ParameterSort}
 use Rattle.casefile.proofs.Cells.{cellAt, cells-length, cells-at, cell-range}

@@ -12,7 +12,7 @@ use Rattle.scheme.specs.Sorting.{headSort, sortOf, sortAfter}
 use Rattle.scheme.specs.Terms.{Head, Terms, []ᵗ, _∷ᵗ_, countᵗ, nodes, nodesAll}
 use Rattle.scheme.specs.Prefix.{Node, takeᵗ, terms, complete, depth, deepest}
 use Rattle.records.specs.Fields.{field}
-use Rattle.casefile.specs.Tables.{Cell, cellsOf, headOf, nodesOf, firstTerm}
+use Rattle.casefile.specs.Tables.{cellsOf, headOf, nodesOf, firstTerm}
 use Rattle.casefile.specs.Refusals.{wrongCell, wrongBody}
 use Rattle.casefile.proofs.Cells.{cellAt}
 use Rattle.sort_codes.specs.Sorted.{Code, Coded}

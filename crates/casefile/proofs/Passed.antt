@@ -1,17 +1,17 @@
 -- What is known of the records of a file that is not refused: each passed its tests after those before it.
 -- `entry` below gives, for number i of a kind, the records before it, under which it passed 4 to 7.
-use Prim.Native.Nat.{ℕ, zero, suc, _+_, _<_, _≤_}
+use Prim.Native.Nat.{ℕ, _+_, _<_}
 use native.Mathlib.Omega.{arith}
 use native.Mathlib.Decide.{decLt}
-use mathlib.Core.Path.{_≡_, refl, sym, ap, ap₂, subst, _∙_}
+use mathlib.Core.Path.{_≡_, refl, sym, ap, subst, _∙_}
 use mathlib.Core.Logic.{_⊎_, inl, inr}
 use mathlib.Core.Bool.{Bool, true, false, _||_}
-use mathlib.Core.List.{List, [], _∷_, _++_, map, map-append, append-nil, append-assoc}
+use mathlib.Core.List.{List, [], _∷_, _++_, map-append, append-nil, append-assoc}
 use mathlib.Core.Option.{Option, none, some}
 use borrow.Author.Tests.{eqb-true}
 use lib.Dec.{eqb, ltb}
 use lib.ListN.{length, getD, take, length-append, List·getD-append}
-use lib.Seq.{take-append-seam, take-append-le, getD-append-seam, length-take-le}
+use lib.Seq.{take-append-seam, take-append-le, getD-append-seam}
 use Rattle.scheme.specs.Lists.{if_then_else_, keepIf, select}
 use Rattle.scheme.proofs.Lists.{select-append}
 use Rattle.records.specs.Records.{Record, Walk, end, cut, next, recordsOf, listed}

@@ -1,6 +1,5 @@
 -- A file is refused by 1 to 12, or it is a binding case or a path case. Sections "What is turned away" and "Verdicts" of the scope.
 use Prim.Native.Nat.{ℕ}
-use mathlib.Core.Bool.{Bool, true, false}
 use mathlib.Core.List.{List, [], _∷_, _++_}
 use mathlib.Core.Option.{Option, none, some}
 use Rattle.scheme.specs.Lists.{if_then_else_}

@@ -1,8 +1,8 @@
 -- What the records of a file say: sorts, constructors, nonterminals, bodies, automaton, types and bindings.
 -- Section "The case file" of the scope. Each table is read from records that passed the tests of specs/Refusals.antt;
 -- what such records cannot hold is read as 0.
-use Prim.Native.Nat.{ℕ, zero, suc}
-use mathlib.Core.Bool.{Bool, true, false, _&&_}
+use Prim.Native.Nat.{ℕ}
+use mathlib.Core.Bool.{_&&_}
 use mathlib.Core.List.{List, [], _∷_, _++_, map}
 use mathlib.Core.Option.{Option, none, some}
 use lib.Dec.{eqb}

@@ -1,7 +1,6 @@
 -- The two tables of specs/Ground.antt hold, by computation.
-use Prim.Native.Nat.{ℕ}
 use mathlib.Core.Path.{_≡_, refl}
-use mathlib.Core.List.{List, map}
+use mathlib.Core.List.{map}
 use lib.ListN.{length}
 use Rattle.scheme.specs.Lists.{found, any, all, keepIf, select, lastOr}
 use Rattle.scheme.specs.Sorts.{sameSort, arguments, treeSort}

@@ -6,8 +6,7 @@ use native.Mathlib.Omega.{arith}
 use mathlib.Core.Path.{_≡_, refl, sym, ap, subst, subst₂, _∙_}
 use mathlib.Core.Logic.{_⊎_, inl, inr}
 use mathlib.Core.Bool.{Bool, true, false, false≢true}
-use mathlib.Core.List.{List, [], _∷_, _++_, List·Memᴰ}
-use lib.Dec.{T}
+use mathlib.Core.List.{List, [], _++_, List·Memᴰ}
 use lib.ListN.{length, getD, drop}
 use Rattle.scheme.specs.Lists.{if_then_else_}
 use Rattle.scheme.specs.Reduction.{Plan, start}
@@ -16,23 +15,23 @@ use Rattle.scheme.specs.Rounds.{kept, rounds}
 use Rattle.scheme.specs.Acceptance.{holdsExactly, accepts}
 use Rattle.scheme.specs.Terms.{nodes}
 use Rattle.scheme.specs.Replay.{isErrorPath, Ending, refutes, lost, outgrown, elsewhere, replay}
-use Rattle.scheme.specs.Paths.{starting, Within, ReplaysTo, Ends}
+use Rattle.scheme.specs.Paths.{starting, Ends}
 use Rattle.scheme.specs.Safety.{SafetyRule}
 use Rattle.scheme.proofs.Rounds.{kept-sub, kept-consistent, kept-ends, rounds-kept, rounds-least}
-use Rattle.scheme.specs.Flags.{chosen, keptFlags}
+use Rattle.scheme.specs.Flags.{keptFlags}
 use Rattle.scheme.proofs.Flags.{chosen-kept, chosen-prefix, keptFlags-length}
 use Rattle.scheme.proofs.Acceptance.{holds-greatest, accepts-out, accepts-in, accepted-safe}
 use Rattle.scheme.proofs.Paths.{replay-ends, replay-refutes, refutes-error}
-use Rattle.records.specs.Records.{Record, recordsOf, listed}
+use Rattle.records.specs.Records.{Record}
 use Rattle.casefile.specs.Kinds.{Kind, payloads}
 use Rattle.casefile.specs.Refusals.{Refusal}
 use Rattle.casefile.specs.Tables.{planOf, automatonOf, bindingsOf}
 use Rattle.casefile.specs.Cases.{Case, refusedCase, bindingCase, pathCase, caseOf}
-use Rattle.casefile.proofs.Passed.{Accepted, binding-case, path-case}
-use Rattle.replay.specs.PathCases.{nodeLimit, PathAnswer, refutedPath, refusedPath, pathAnswer, replayed}
+use Rattle.casefile.proofs.Passed.{binding-case, path-case}
+use Rattle.replay.specs.PathCases.{nodeLimit, pathAnswer, replayed}
 use Rattle.shrink.specs.BindingCases.{Shrunk, shrunk}
-use Rattle.demands.specs.Answers.{Answer, proved, unproved, refuted, refused, Outcome, refusal, bindingOutcome, pathOutcome, outcomeOf, answer, flagsAfter}
-use Rattle.demands.specs.Demands.{planIn, automatonIn, offeredIn, lettersIn, startBinding, Shrinks, Replayed, Demand1, Demand2, Demand3}
+use Rattle.demands.specs.Answers.{Answer, proved, unproved, refuted, Outcome, refusal, bindingOutcome, pathOutcome, outcomeOf, answer, flagsAfter}
+use Rattle.demands.specs.Demands.{planIn, automatonIn, lettersIn, startBinding, Shrinks, Replayed, Demand1, Demand2, Demand3}
 
 -- Binding cases.
 module _ (aut : Automaton) (plan : Plan) (offered : List Binding) where

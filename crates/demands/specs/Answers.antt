@@ -1,6 +1,5 @@
 -- The answer for every file and every number of lent flags, and the flags afterwards. Section "Verdicts" of the scope.
 use Prim.Native.Nat.{ℕ}
-use mathlib.Core.Bool.{Bool, true, false}
 use mathlib.Core.List.{List, [], _++_}
 use lib.ListN.{length, drop}
 use Rattle.scheme.specs.Lists.{if_then_else_}

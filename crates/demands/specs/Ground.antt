@@ -2,7 +2,7 @@
 -- Sections "The ground case E" and "What is turned away" of the scope; bytes are in the order shown there.
 use Prim.Native.Nat.{ℕ, zero, suc, _/_, _%_}
 use mathlib.Core.List.{List, [], _∷_, _++_}
-use lib.ListN.{length, replicate, take}
+use lib.ListN.{length, replicate}
 use Rattle.demands.specs.Answers.{Answer, proved, unproved, refuted, refused}
 
 -- a worked line

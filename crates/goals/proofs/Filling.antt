@@ -10,7 +10,6 @@ use Rattle.records.specs.Fields.{word}
 use Rattle.records.specs.Records.{Record}
 use Rattle.casefile.specs.Kinds.{Kind, payloads}
 use Rattle.casefile.specs.Tables.{typesOf}
-use Rattle.casefile.proofs.Passed.{entry}
 use Rattle.casefile.proofs.TypeTable.{count-payloads}
 use Rattle.entries.specs.Index.{Indexed}
 use Rattle.entries.proofs.Stays.{indexed-same}

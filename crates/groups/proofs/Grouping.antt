@@ -12,7 +12,7 @@ use lib.ListN.{length, getD, set, length-set}
 use lib.Seq.{getD-set-same, getD-set-other, getD-take, length-take-le}
 use Rattle.records.specs.Fields.{word}
 use Rattle.records.specs.Records.{Record}
-use Rattle.casefile.specs.Kinds.{Kind, payloads, count}
+use Rattle.casefile.specs.Kinds.{Kind, payloads}
 use Rattle.casefile.specs.Refusals.{wrongLength, before, follows, misplaced}
 use Rattle.casefile.proofs.Passed.{Passed, entry}
 use Rattle.casefile.proofs.TypeTable.{count-payloads}

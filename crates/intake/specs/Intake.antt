@@ -1,8 +1,8 @@
 -- What the intake of a file answers: a refusal by 1 to 12, a binding case or a path case, with the tables of its records.
-use Prim.Native.Nat.{ℕ, _<_, _≤_}
+use Prim.Native.Nat.{ℕ, _<_}
 use mathlib.Core.Path.{_≡_}
 use mathlib.Core.List.{List, []}
-use lib.ListN.{length, getD}
+use lib.ListN.{getD}
 use Rattle.records.specs.Records.{recordsOf, listed}
 use Rattle.casefile.specs.Kinds.{Kind, payloads, count}
 use Rattle.casefile.specs.Cases.{refusedCase, bindingCase, pathCase, caseOf}

@@ -1,13 +1,10 @@
 -- An entry that the index holds is the payload of its record.
 use Prim.Native.Nat.{ℕ, _+_, _-_, _<_, _≤_}
 use native.Mathlib.Omega.{arith}
-use mathlib.Core.Path.{_≡_, refl, sym, ap, _∙_}
-use mathlib.Core.Bool.{Bool, true, false}
+use mathlib.Core.Path.{_≡_, refl, ap, _∙_}
 use mathlib.Core.List.{List, []}
 use borrow.Author.Tests.{lt-ltb, le-ltb, le-leb}
-use lib.Dec.{ltb}
-use lib.ListN.{getD, length, take}
-use Rattle.scheme.specs.Lists.{if_then_else_}
+use lib.ListN.{getD, length}
 use Rattle.records.specs.Fields.{word}
 use Rattle.records.specs.Records.{Record}
 use Rattle.reading.specs.Reading.{partOf}

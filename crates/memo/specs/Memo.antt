@@ -1,10 +1,10 @@
 -- Answers remembered for a node and a goal, one byte each: twice the number of the test that found it, and 1 more for yes.
 use Prim.Native.Nat.{ℕ, zero, suc, _+_, _*_, _/_, _%_, _<_}
 use mathlib.Core.Path.{_≡_}
-use mathlib.Core.Bool.{Bool, true, false, _&&_}
+use mathlib.Core.Bool.{Bool, true, _&&_}
 use mathlib.Core.List.{List, [], _∷_}
 use lib.Dec.{eqb, ltb, leb}
-use lib.ListN.{length, getD, set}
+use lib.ListN.{getD, set}
 use Rattle.scheme.specs.Lists.{if_then_else_}
 use Rattle.scheme.specs.Flags.{bit}
 

@@ -1,27 +1,25 @@
 -- The answer to a file with a path is that of the definitions, and refuted is said exactly where it is so.
-use Prim.Native.Nat.{ℕ, zero, suc, _+_, _<_, _≤_}
+use Prim.Native.Nat.{ℕ, _≤_}
 use native.Mathlib.Omega.{arith}
 use native.Mathlib.Nat.{zero-add}
 use mathlib.Core.Path.{_≡_, refl, sym, ap, subst, _∙_}
 use mathlib.Core.List.{List, []}
-use mathlib.Core.Option.{none}
 use lib.ListN.{length, getD}
 use Rattle.scheme.specs.Terms.{nodes}
 use Rattle.scheme.specs.Reduction.{start}
 use Rattle.scheme.specs.Replay.{Ending, refutes, lost, outgrown, elsewhere, replay}
-use Rattle.scheme.specs.Paths.{starting, Within, ReplaysTo, Ends}
+use Rattle.scheme.specs.Paths.{starting, Ends}
 use Rattle.scheme.proofs.Paths.{replay-ends, replay-refutes}
-use Rattle.records.specs.Records.{Record, recordsOf, listed}
+use Rattle.records.specs.Records.{recordsOf, listed}
 use Rattle.casefile.specs.Kinds.{Kind, payloads}
 use Rattle.casefile.specs.Tables.{planOf, automatonOf}
 use Rattle.casefile.specs.Cases
-use Rattle.casefile.specs.Cases.{refusedCase, bindingCase, pathCase, caseOf}
+use Rattle.casefile.specs.Cases.{pathCase, caseOf}
 use Rattle.casefile.proofs.Passed.{path-case}
-use Rattle.casefile.proofs.TypeTable.{count-payloads}
 use Rattle.whole_file.specs.declared.Case.{Case}
 use Rattle.whole_file.specs.declared.Case.the-variants.{Refused as RefusedCase, Bindings as BindingCase, Path}
-use Rattle.intake.specs.Intake.{caseAs, Taken, Tables, Leaves}
-use Rattle.replay.specs.PathCases.{nodeLimit, PathAnswer, refutedPath, refusedPath, pathAnswer, replayed}
+use Rattle.intake.specs.Intake.{caseAs, Taken, Leaves}
+use Rattle.replay.specs.PathCases.{nodeLimit, pathAnswer, replayed}
 use Rattle.replay.specs.Replays.{pathAs, ReplaysPath}
 use Rattle.replay.specs.declared.Replayed.{Replayed}
 use Rattle.replay.specs.declared.Replayed.the-variants.{Refuted as Refuted′, Refused as Refused′}

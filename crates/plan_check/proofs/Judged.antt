@@ -1,11 +1,11 @@
 -- What the judge found meets demand 1, by what the intake took the file for.
-use Prim.Native.Nat.{ℕ, _≤_}
+use Prim.Native.Nat.{ℕ}
 use mathlib.Core.Path.{_≡_, refl, sym, ap, subst, _∙_}
 use mathlib.Core.Bool.{Bool, true, false}
 use mathlib.Core.List.{List, [], _++_}
 use lib.ListN.{length, getD, drop}
 use Rattle.scheme.specs.Lists.{if_then_else_}
-use Rattle.records.specs.Records.{Record, recordsOf, listed}
+use Rattle.records.specs.Records.{recordsOf, listed}
 use Rattle.casefile.specs.Kinds.{Kind, payloads}
 use Rattle.casefile.specs.Tables.{planOf, automatonOf, bindingsOf}
 use Rattle.casefile.specs.Cases
@@ -20,7 +20,7 @@ use Rattle.replay.specs.declared.Replayed.{Replayed}
 use Rattle.replay.specs.declared.Replayed.the-variants.{Refuted as Refuted′, Refused as Refused′}
 use Rattle.shrink.specs.BindingCases.{Shrunk, shrunk}
 use Rattle.binding_cases.specs.Judging.{IsShrunk, JudgesBindings}
-use Rattle.demands.specs.Answers.{Answer, proved, unproved, refuted, refused, Outcome, refusal, bindingOutcome, pathOutcome, outcomeOf, answer, flagsAfter}
+use Rattle.demands.specs.Answers.{Answer, proved, unproved, refused, refusal, bindingOutcome, pathOutcome, outcomeOf, answer, flagsAfter}
 use Rattle.demands.specs.Demands.{Demand1}
 use Rattle.plan_check.specs.Verdicts.{answerAs, ofBindings, ofPath}
 use Rattle.plan_check.specs.declared.Verdict.{Verdict}

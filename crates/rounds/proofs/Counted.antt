@@ -8,8 +8,8 @@ use mathlib.Core.Path.{_≡_, refl, sym, ap, ap₂, subst, _∙_}
 use mathlib.Core.Bool.{Bool}
 use mathlib.Core.List.{List, [], _∷_, _++_}
 use borrow.Author.Tests.{eq-eqb, ne-eqb}
-use lib.ListN.{length, getD, set, take, drop, replicate, length-replicate, getD-replicate}
-use lib.Seq.{take-suc, drop-cons, take-suc-set, take-all, length-take-le, getD-take, drop-length, ext-getD}
+use lib.ListN.{length, getD, set, take, drop, replicate}
+use lib.Seq.{take-suc, drop-cons, take-suc-set, take-all, length-take-le, drop-length}
 use Rattle.scheme.specs.Lists.{keepIf}
 use Rattle.scheme.specs.Rounds
 use Rattle.scheme.specs.Rounds.{countTo}

@@ -3,7 +3,7 @@
 use Prim.Native.Nat.{ℕ, zero, suc, _+_, _/_, _%_, _<_, _≤_}
 use native.Mathlib.Omega.{arith}
 use native.Mathlib.Decide.{ℕ-discrete}
-use mathlib.Core.Path.{_≡_, refl, sym, ap, subst, _∙_}
+use mathlib.Core.Path.{_≡_, refl, sym, ap, _∙_}
 use mathlib.Core.Bool.{Bool, true, false, _&&_}
 use mathlib.Core.List.{List, [], map}
 use lib.ListN.{length, getD, set, length-set}
@@ -11,22 +11,19 @@ use lib.Seq.{getD-drop, getD-set-same, getD-set-other}
 use Rattle.scheme.specs.Terms.{nt, node, []ᵗ}
 use Rattle.scheme.specs.Prefix.{Node, flat}
 use Rattle.scheme.specs.Reduction.{body}
-use Rattle.scheme.specs.Typing.{Binding, bound}
+use Rattle.scheme.specs.Typing.{bound}
 use Rattle.scheme.specs.Flags.{bit, isKept, chosen}
 use Rattle.scheme.proofs.Lists.{getD-map-in}
 use Rattle.records.specs.Records.{Record}
-use Rattle.casefile.specs.Kinds.{Kind, number, payloads, count}
+use Rattle.casefile.specs.Kinds.{Kind, payloads, count}
 use Rattle.casefile.specs.Tables.{nodesOf, bodyOf, planOf, automatonOf, bindingsOf}
-use Rattle.casefile.proofs.Passed.{Passed}
 use Rattle.casefile.proofs.Cells.{nodeAt, nodes-length, nodes-drop}
 use Rattle.casefile.proofs.TypeTable.{count-payloads}
-use Rattle.entries.specs.Index.{Indexed}
 use Rattle.rule_bodies.specs.RuleBodies.{ruleOf}
 use Rattle.goals.proofs.Goals.{binding-there}
 use Rattle.candidates.specs.Candidates.{noBinding}
 use Rattle.candidates.proofs.Spanning.{binding-made}
 use Rattle.agreement.proofs.Agreeing.{bound-agrees, holds-agrees}
-use Rattle.touched.specs.Touched.{touches}
 use Rattle.touched.proofs.Touching.{untouched}
 use Rattle.binding_tests.specs.BindingTests.{Ready, symbolOf, IsSymbol}
 use Rattle.rounds.specs.Shrinking.{testOf, Settled, Marks}

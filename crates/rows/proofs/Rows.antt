@@ -2,7 +2,7 @@
 use Prim.Native.Nat.{ℕ, _+_, _<_, _≤_}
 use native.Mathlib.Omega.{arith}
 use mathlib.Core.Path.{_≡_, refl, sym, ap, _∙_}
-use mathlib.Core.List.{List, [], _∷_, map}
+use mathlib.Core.List.{List, [], _∷_}
 use mathlib.Core.Option.{none}
 use borrow.Author.Tests.{eqb-true, not-false}
 use lib.Dec.{eqb}
@@ -12,11 +12,11 @@ use Rattle.records.specs.Records.{Record}
 use Rattle.casefile.specs.Kinds.{Kind, payloads}
 use Rattle.casefile.specs.Tables.{aritiesOf}
 use Rattle.casefile.specs.Refusals.{wrongLength}
-use Rattle.casefile.proofs.Passed.{Passed, entry}
+use Rattle.casefile.proofs.Passed.{entry}
 use Rattle.casefile.proofs.TypeTable.{count-payloads}
 use Rattle.scheme.proofs.Lists.{getD-map-in}
 use Rattle.entries.specs.Index.{Indexed}
-use Rattle.moves.specs.Moves.{rowAt, targetsIn, TableFor}
+use Rattle.moves.specs.Moves.{rowAt, targetsIn}
 use Rattle.moves.proofs.Meaning.{no-state, no-constructor}
 use Rattle.rows.specs.Rows.{IsRow, IsArity}
 

@@ -5,19 +5,15 @@ use borrow.Author.Needs.{needs}
 use Rattle.binding_cases.proofs.starts_at.Statement.{statement}
 use Rattle.binding_cases.proofs.starts_at.Tie as tie
 
--- src/lib.rt:28:9
 returns : tie.Need-returns
 returns c = starts-dropped _ _ _ _ (c .if1 .taken)
 
--- src/lib.rt:31:9
 returns-2 : tie.Need-returns-2
 returns-2 c = starts-far _ _ _ _ (c .if2 .taken)
 
--- src/lib.rt:33:5
 own-of-requires : tie.Need-own-of-requires
 own-of-requires c κs = search needs
 
--- src/lib.rt:24:1
 returns-3 : tie.Need-returns-3
 returns-3 c = starts-here _ _ _ _ (c .before .before .if1 .left) (let h = c .before .if2 .left in omega arith) _ (c .own-of .ensures)
 

@@ -1,5 +1,4 @@
 -- `symbol_of` meets its contract.
-use native.Mathlib.Omega.{arith}
 use Rattle.binding_tests.proofs.Testing.{symbol-far, symbol-read}
 use borrow.Author.Needs.{needs}
 use Rattle.binding_tests.proofs.symbol_of.Statement.{statement}

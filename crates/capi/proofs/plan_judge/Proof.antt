@@ -3,28 +3,19 @@ use Rattle.capi.proofs.Exporting.{exported}
 use borrow.Author.Needs.{needs}
 use Rattle.capi.proofs.plan_judge.Statement.{statement}
 use Rattle.capi.proofs.plan_judge.Tie as tie
-use Rattle.capi.proofs.plan_judge.Reads as reads
-use Rattle.capi.proofs.plan_judge.Lts as lts
-use Rattle.capi.proofs.words_of.Reads as words-of-reads
-use Rattle.plan_check.proofs.judge.Reads as judge-reads
 
--- src/lib.rt:38:26
 judge-requires : tie.Need-judge-requires
 judge-requires c κs = search needs
 
--- src/lib.rt:38:17
 words-of-requires : tie.Need-words-of-requires
 words-of-requires c κs = search needs
 
--- src/lib.rt:40:5
 array-read-result : tie.Need-array-read-result
 array-read-result c = search needs
 
--- src/lib.rt:34:1
 same-length : tie.Need-same-length
 same-length c = search needs
 
--- src/lib.rt:34:1
 returns : tie.Need-returns
 returns c = exported _ _ _ _ (c .before .before .before .judge .ensures) _ (c .words-of .ensures)
 

@@ -3,38 +3,28 @@ use Rattle.capi.proofs.Exporting.{proved-words, unproved-words, refuted
 use borrow.Author.Needs.{needs}
 use Rattle.capi.proofs.words_of.Statement.{statement}
 use Rattle.capi.proofs.words_of.Tie as tie
-use Rattle.capi.proofs.words_of.Reads as reads
-use Rattle.capi.proofs.words_of.Lts as lts
 
--- src/lib.rt:14:13
 enum-known-verdict : tie.Need-enum-known-verdict
 enum-known-verdict c = search needs
 
--- src/lib.rt:19:13
 enum-known-verdict-2 : tie.Need-enum-known-verdict-2
 enum-known-verdict-2 c = search needs
 
--- src/lib.rt:24:13
 enum-known-verdict-3 : tie.Need-enum-known-verdict-3
 enum-known-verdict-3 c = search needs
 
--- src/lib.rt:28:28
 enum-known-verdict-4 : tie.Need-enum-known-verdict-4
 enum-known-verdict-4 c = search needs
 
--- src/lib.rt:9:1
 returns : tie.Need-returns
 returns c = proved-words _ _ _ _ (c .before .verdict .given .1)
 
--- src/lib.rt:9:1
 returns-2 : tie.Need-returns-2
 returns-2 c = unproved-words _ _ _ _ (c .before .verdict2 .given .1)
 
--- src/lib.rt:9:1
 returns-3 : tie.Need-returns-3
 returns-3 c = refuted-words _ _ _ _ (c .before .verdict3 .given .1)
 
--- src/lib.rt:9:1
 returns-4 : tie.Need-returns-4
 returns-4 c = refused-words _ _ _ (c .before .verdict4 .given .1)
 

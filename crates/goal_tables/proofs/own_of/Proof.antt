@@ -4,19 +4,15 @@ use borrow.Author.Needs.{needs}
 use Rattle.goal_tables.proofs.own_of.Statement.{statement}
 use Rattle.goal_tables.proofs.own_of.Tie as tie
 
--- src/lib.rt:75:9
 returns : tie.Need-returns
 returns c = own-far (c .if1 .taken)
 
--- src/lib.rt:77:21
 add-place-at : tie.Need-add-place-at
 add-place-at c = search needs
 
--- src/lib.rt:77:5
 place-at-requires : tie.Need-place-at-requires
 place-at-requires c κs = search needs
 
--- src/lib.rt:71:1
 returns-2 : tie.Need-returns-2
 returns-2 c = own-there _ (c .place-at .ensures .value)
 

@@ -4,23 +4,18 @@ use borrow.Author.Needs.{needs}
 use Rattle.goal_tables.proofs.result_of.Statement.{statement}
 use Rattle.goal_tables.proofs.result_of.Tie as tie
 
--- src/lib.rt:24:9
 returns : tie.Need-returns
 returns c = result-far (c .if1 .taken)
 
--- src/lib.rt:27:9
 returns-2 : tie.Need-returns-2
 returns-2 c = result-many (c .if2 .taken)
 
--- src/lib.rt:29:21
 add-place-at : tie.Need-add-place-at
 add-place-at c = search needs
 
--- src/lib.rt:29:5
 place-at-requires : tie.Need-place-at-requires
 place-at-requires c κs = search needs
 
--- src/lib.rt:20:1
 returns-3 : tie.Need-returns-3
 returns-3 c = result-there _ (c .place-at .ensures .value)
 

@@ -5,11 +5,6 @@ use borrow.Author.Needs.{needs}
 use Rattle.goals.proofs.Filling.{GoalsTo, goals-many, goals-none, goals-more, goals-all}
 use Rattle.goals.proofs.fill_goals.Statement.{statement}
 use Rattle.goals.proofs.fill_goals.Tie as tie
-use Rattle.goals.proofs.fill_goals.Reads as reads
-use Rattle.goals.proofs.fill_goals.Lts as lts
-use Rattle.enter.proofs.store.Reads as store-reads
-use Rattle.goals.proofs.goal_at.Reads as goal-at-reads
-use Rattle.goals.proofs.result_at.Reads as result-at-reads
 
 abbrev Inv-loop : tie.InvT-loop
 Inv-loop file index₀ types t₀ index t = GoalsTo file index₀ types t index
@@ -17,55 +12,42 @@ Inv-loop file index₀ types t₀ index t = GoalsTo file index₀ types t index
 abbrev μ-loop : tie.MeasureT-loop
 μ-loop file index₀ types t₀ index t = types - t
 
--- src/lib.rt:49:9
 returns : tie.Need-returns Inv-loop μ-loop
 returns c = goals-many (c .if1 .taken)
 
--- src/lib.rt:52:5
 loop-holds : tie.Need-loop-holds Inv-loop μ-loop
 loop-holds c = goals-none (c .if1 .left)
 
--- src/lib.rt:53:13
 goal-at-requires : tie.Need-goal-at-requires Inv-loop μ-loop
 goal-at-requires c κs = search needs
 
--- src/lib.rt:54:13
 result-at-requires : tie.Need-result-at-requires Inv-loop μ-loop
 result-at-requires c κs = search needs
 
--- src/lib.rt:55:22
 add-store : tie.Need-add-store Inv-loop μ-loop
 add-store c = let h = c .before .before .before .before .before .loop-test .taken in let f = c .before .before .before .before .before .before .loop .inv .few in omega arith
 
--- src/lib.rt:55:9
 store-requires : tie.Need-store-requires Inv-loop μ-loop
 store-requires c κs = search needs
 
--- src/lib.rt:56:22
 add-store-2 : tie.Need-add-store-2 Inv-loop μ-loop
 add-store-2 c = let h = c .before .before .before .before .before .before .before .before .before .loop-test .taken in let f = c .before .before .before .before .before .before .before .before .before .before .loop .inv .few in omega arith
 
--- src/lib.rt:56:9
 store-requires-2 : tie.Need-store-requires-2 Inv-loop μ-loop
 store-requires-2 c κs = search needs
 
--- src/lib.rt:57:13
 add-t : tie.Need-add-t Inv-loop μ-loop
 add-t c = let h = c .before .before .before .before .before .before .before .before .before .before .before .before .loop-test .taken in let f = c .before .before .before .before .before .before .before .before .before .before .before .before .before .loop .inv .few in omega arith
 
--- src/lib.rt:52:5
 loop-less : tie.Need-loop-less Inv-loop μ-loop
 loop-less c = let h = c .before .before .before .before .before .before .before .before .before .before .before .before .loop-test .taken in omega arith
 
--- src/lib.rt:52:5
 loop-again : tie.Need-loop-again Inv-loop μ-loop
 loop-again c = goals-more (c .before .before .before .before .before .before .before .before .before .before .before .before .before .loop .inv) (c .before .before .before .before .before .before .before .before .before .before .before .before .loop-test .taken) _ _ (c .before .before .before .before .before .before .before .before .before .before .goal-at .ensures) (c .before .before .before .before .before .before .before .before .result-at .ensures) _ _ (c .before .before .before .before .before .before .store .ensures) (c .before .before .store2 .ensures)
 
--- src/lib.rt:45:1
 same-length : tie.Need-same-length Inv-loop μ-loop
 same-length c = c .before .loop .inv .long
 
--- src/lib.rt:45:1
 returns-2 : tie.Need-returns-2 Inv-loop μ-loop
 returns-2 c = goals-all (c .before .loop .inv) (c .loop-test .left)
 

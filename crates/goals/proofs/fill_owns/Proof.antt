@@ -5,12 +5,6 @@ use borrow.Author.Needs.{needs}
 use Rattle.goals.proofs.Filling.{OwnsTo, owns-many, owns-none, owns-more, owns-all}
 use Rattle.goals.proofs.fill_owns.Statement.{statement}
 use Rattle.goals.proofs.fill_owns.Tie as tie
-use Rattle.goals.proofs.fill_owns.Reads as reads
-use Rattle.goals.proofs.fill_owns.Lts as lts
-use Rattle.enter.proofs.store.Reads as store-reads
-use Rattle.entries.proofs.place_at.Reads as place-at-reads
-use Rattle.goals.proofs.goal_at.Reads as goal-at-reads
-use Rattle.records.proofs.word_at.Reads as word-at-reads
 
 abbrev Inv-loop : tie.InvT-loop
 Inv-loop file index₀ types bindings b₀ index b = OwnsTo file index₀ types bindings b index
@@ -18,59 +12,45 @@ Inv-loop file index₀ types bindings b₀ index b = OwnsTo file index₀ types 
 abbrev μ-loop : tie.MeasureT-loop
 μ-loop file index₀ types bindings b₀ index b = bindings - b
 
--- src/lib.rt:66:9
 returns : tie.Need-returns Inv-loop μ-loop
 returns c = owns-many (c .if1 .taken)
 
--- src/lib.rt:69:5
 loop-holds : tie.Need-loop-holds Inv-loop μ-loop
 loop-holds c = owns-none (c .if1 .left)
 
--- src/lib.rt:70:37
 add-place-at : tie.Need-add-place-at Inv-loop μ-loop
 add-place-at c = let h = c .before .loop-test .taken in let f = c .before .before .loop .inv .few in omega arith
 
--- src/lib.rt:70:13
 place-at-requires : tie.Need-place-at-requires Inv-loop μ-loop
 place-at-requires c κs = search needs
 
--- src/lib.rt:71:61
 add-word-at : tie.Need-add-word-at Inv-loop μ-loop
 add-word-at c = search needs
 
--- src/lib.rt:71:47
 word-at-requires : tie.Need-word-at-requires Inv-loop μ-loop
 word-at-requires c κs = search needs
 
--- src/lib.rt:71:13
 goal-at-requires : tie.Need-goal-at-requires Inv-loop μ-loop
 goal-at-requires c κs = search needs
 
--- src/lib.rt:72:22
 add-store : tie.Need-add-store Inv-loop μ-loop
 add-store c = let h = c .before .before .before .before .before .before .loop-test .taken in let f = c .before .before .before .before .before .before .before .loop .inv .few in omega arith
 
--- src/lib.rt:72:9
 store-requires : tie.Need-store-requires Inv-loop μ-loop
 store-requires c κs = search needs
 
--- src/lib.rt:73:13
 add-b : tie.Need-add-b Inv-loop μ-loop
 add-b c = let h = c .before .before .before .before .before .before .before .before .before .loop-test .taken in let f = c .before .before .before .before .before .before .before .before .before .before .loop .inv .few in omega arith
 
--- src/lib.rt:69:5
 loop-less : tie.Need-loop-less Inv-loop μ-loop
 loop-less c = let h = c .before .before .before .before .before .before .before .before .before .loop-test .taken in omega arith
 
--- src/lib.rt:69:5
 loop-again : tie.Need-loop-again Inv-loop μ-loop
 loop-again c = owns-more (c .before .before .before .before .before .before .before .before .before .before .loop .inv) (c .before .before .before .before .before .before .before .before .before .loop-test .taken) _ _ _ (c .before .before .before .before .before .before .before .place-at .ensures .value) (c .before .before .before .before .before .word-at .ensures .value) (c .before .before .before .before .goal-at .ensures) _ (c .before .before .store .ensures)
 
--- src/lib.rt:62:1
 same-length : tie.Need-same-length Inv-loop μ-loop
 same-length c = c .before .loop .inv .long
 
--- src/lib.rt:62:1
 returns-2 : tie.Need-returns-2 Inv-loop μ-loop
 returns-2 c = owns-all (c .before .loop .inv) (c .loop-test .left)
 

@@ -2,7 +2,6 @@
 use Prim.Native.Nat.{_+_, _-_, _≤_}
 use native.Mathlib.Omega.{arith}
 use borrow.Author.Needs.{needs}
-use lib.ListN.{length}
 use Rattle.groups.specs.Groups.{nonterminalIn, Sofar}
 use Rattle.groups.proofs.Grouping.{group-none, group-more, group-not, group-all}
 use Rattle.groups.proofs.fill_groups.Statement.{statement}

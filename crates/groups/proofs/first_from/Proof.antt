@@ -1,19 +1,12 @@
-use Prim.Native.Nat.{ℕ, _+_, _-_, _<_, _≤_}
-use mathlib.Core.Path.{_≡_, refl, sym, ap, subst, _∙_}
-use mathlib.Core.Logic.{⊎-elim}
-use mathlib.Core.List.{List}
+use Prim.Native.Nat.{_-_}
+use mathlib.Core.Path.{ap, _∙_}
 use native.Mathlib.Omega.{arith}
 use borrow.Author.Needs.{needs}
-use lib.ListN.{length, drop}
 use Rattle.records.specs.Fields.{word}
 use Rattle.groups.specs.Groups.{nonterminalIn}
 use Rattle.groups.proofs.Grouping.{Seeking, seek-none, seek-here, seek-more, seek-end}
 use Rattle.groups.proofs.first_from.Statement.{statement}
 use Rattle.groups.proofs.first_from.Tie as tie
-use Rattle.groups.proofs.first_from.Reads as reads
-use Rattle.groups.proofs.first_from.Lts as lts
-use Rattle.entries.proofs.place_at.Reads as place-at-reads
-use Rattle.records.proofs.word_at.Reads as word-at-reads
 
 abbrev Inv-loop : tie.InvT-loop
 Inv-loop file index n from f i₀ i = Seeking (nonterminalIn file index) n from f i

@@ -2,9 +2,6 @@ use borrow.Author.Needs.{needs}
 use Prim.Native.Nat.{_-_}
 use Rattle.intake_cases.proofs.main.Statement.{statement}
 use Rattle.intake_cases.proofs.main.Tie as tie
-use Rattle.intake_cases.proofs.main.Reads as reads
-use Rattle.intake_cases.proofs.main.Lts as lts
-use Rattle.intake_cases.proofs.one.Reads as one-reads
 
 abbrev Inv-loop : tie.InvT-loop
 Inv-loop i₀ i = Unit {0}
@@ -12,31 +9,24 @@ Inv-loop i₀ i = Unit {0}
 abbrev μ-loop : tie.MeasureT-loop
 μ-loop i₀ i = 2000 - i
 
--- src/main.rt:86:5
 loop-holds : tie.Need-loop-holds Inv-loop μ-loop
 loop-holds c = search needs
 
--- src/main.rt:86:23
 one-requires : tie.Need-one-requires Inv-loop μ-loop
 one-requires c κs = search needs
 
--- src/main.rt:87:13
 add-i : tie.Need-add-i Inv-loop μ-loop
 add-i c = search needs
 
--- src/main.rt:86:5
 loop-less : tie.Need-loop-less Inv-loop μ-loop
 loop-less c = search needs
 
--- src/main.rt:86:5
 loop-again : tie.Need-loop-again Inv-loop μ-loop
 loop-again c = search needs
 
--- src/main.rt:84:1
 returns : tie.Need-returns Inv-loop μ-loop
 returns c = search needs
 
--- src/main.rt:84:1
 returns-2 : tie.Need-returns-2 Inv-loop μ-loop
 returns-2 c = search needs
 

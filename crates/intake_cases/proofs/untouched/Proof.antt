@@ -3,8 +3,6 @@ use lib.ListN.{length}
 use borrow.Author.Needs.{needs}
 use Rattle.intake_cases.proofs.untouched.Statement.{statement}
 use Rattle.intake_cases.proofs.untouched.Tie as tie
-use Rattle.intake_cases.proofs.untouched.Reads as reads
-use Rattle.intake_cases.proofs.untouched.Lts as lts
 
 abbrev Inv-loop : tie.InvT-loop
 Inv-loop flags i₀ i = Unit {0}
@@ -12,31 +10,24 @@ Inv-loop flags i₀ i = Unit {0}
 abbrev μ-loop : tie.MeasureT-loop
 μ-loop flags i₀ i = length flags - i
 
--- src/main.rt:46:5
 loop-holds : tie.Need-loop-holds Inv-loop μ-loop
 loop-holds c = search needs
 
--- src/main.rt:47:12
 shared-slice-read-if1 : tie.Need-shared-slice-read-if1 Inv-loop μ-loop
 shared-slice-read-if1 c = search needs
 
--- src/main.rt:48:13
 returns : tie.Need-returns Inv-loop μ-loop
 returns c = search needs
 
--- src/main.rt:50:13
 add-i : tie.Need-add-i Inv-loop μ-loop
 add-i c = search needs
 
--- src/main.rt:46:5
 loop-less : tie.Need-loop-less Inv-loop μ-loop
 loop-less c = search needs
 
--- src/main.rt:46:5
 loop-again : tie.Need-loop-again Inv-loop μ-loop
 loop-again c = search needs
 
--- src/main.rt:44:1
 returns-2 : tie.Need-returns-2 Inv-loop μ-loop
 returns-2 c = search needs
 

@@ -5,27 +5,21 @@ use borrow.Author.Needs.{needs}
 use Rattle.judge_cases.proofs.judge_with.Statement.{statement}
 use Rattle.judge_cases.proofs.judge_with.Tie as tie
 
--- src/main.rt:160:9
 returns : tie.Need-returns
 returns c = search needs
 
--- src/main.rt:165:29
 slice-relend-prefix-judge : tie.Need-slice-relend-prefix-judge
 slice-relend-prefix-judge c = search needs
 
--- src/main.rt:165:29
 slice-aggregate-judge : tie.Need-slice-aggregate-judge
 slice-aggregate-judge c = sym (length-take-le (c .before .before .before .before .args .lent) (c .before .before .before .before .args .flags .now) (omega arith))
 
--- src/main.rt:165:5
 judge-requires : tie.Need-judge-requires
 judge-requires c κs = search needs
 
--- src/main.rt:158:1
 same-length : tie.Need-same-length
 same-length c = search needs
 
--- src/main.rt:158:1
 returns-2 : tie.Need-returns-2
 returns-2 c = search needs
 

@@ -1,10 +1,8 @@
 use Prim.Native.Nat.{_-_}
 use lib.ListN.{length}
-use mathlib.Core.Path.{_≡_}
 use borrow.Author.Needs.{needs}
 use Rattle.judge_cases.proofs.say_first_flags.Statement.{statement}
 use Rattle.judge_cases.proofs.say_first_flags.Tie as tie
-use Rattle.judge_cases.proofs.say_flag.Reads as say-flag-reads
 
 abbrev Inv-loop : tie.InvT-loop
 Inv-loop flags n i₀ i = Unit {0}
@@ -12,39 +10,30 @@ Inv-loop flags n i₀ i = Unit {0}
 abbrev μ-loop : tie.MeasureT-loop
 μ-loop flags n i₀ i = length flags - i
 
--- src/main.rt:115:5
 loop-holds : tie.Need-loop-holds Inv-loop μ-loop
 loop-holds c = search needs
 
--- src/main.rt:116:18
 shared-slice-read-say-flag : tie.Need-shared-slice-read-say-flag Inv-loop μ-loop
 shared-slice-read-say-flag c = search needs
 
--- src/main.rt:116:9
 say-flag-requires : tie.Need-say-flag-requires Inv-loop μ-loop
 say-flag-requires c κs = search needs
 
--- src/main.rt:117:13
 add-i : tie.Need-add-i Inv-loop μ-loop
 add-i c = search needs
 
--- src/main.rt:115:5
 loop-less : tie.Need-loop-less Inv-loop μ-loop
 loop-less c = search needs
 
--- src/main.rt:115:5
 loop-again : tie.Need-loop-again Inv-loop μ-loop
 loop-again c = search needs
 
--- src/main.rt:113:1
 returns : tie.Need-returns Inv-loop μ-loop
 returns c = search needs
 
--- src/main.rt:113:1
 returns-2 : tie.Need-returns-2 Inv-loop μ-loop
 returns-2 c = search needs
 
--- src/main.rt:113:1
 returns-3 : tie.Need-returns-3 Inv-loop μ-loop
 returns-3 c = search needs
 

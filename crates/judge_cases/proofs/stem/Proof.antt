@@ -7,19 +7,15 @@ use borrow.Author.Needs.{needs}
 use Rattle.judge_cases.proofs.stem.Statement.{statement}
 use Rattle.judge_cases.proofs.stem.Tie as tie
 
--- src/main.rt:209:9
 returns : tie.Need-returns
 returns c = search needs
 
--- src/main.rt:211:13
 sub-n : tie.Need-sub-n
 sub-n c = search needs
 
--- src/main.rt:212:5
 slice-aggregate-result : tie.Need-slice-aggregate-result
 slice-aggregate-result c = sym (length-take-le (length (c .before .before .args .path .now) - 5) (c .before .before .args .path .now) (omega arith))
 
--- src/main.rt:207:1
 returns-2 : tie.Need-returns-2
 returns-2 c = search needs
 

@@ -7,27 +7,21 @@ use borrow.Author.Needs.{needs}
 use Rattle.lookup.proofs.entry.Statement.{statement}
 use Rattle.lookup.proofs.entry.Tie as tie
 
--- src/lib.rt:12:9
 place-at-requires : tie.Need-place-at-requires
 place-at-requires c κs = search needs
 
--- src/lib.rt:14:9
 payload-requires : tie.Need-payload-requires
 payload-requires c κs = search needs
 
--- src/lib.rt:14:9
 returns : tie.Need-returns
 returns c = c .payload .ensures ∙ part-none _ ∙ sym (entry-none _ _ _ _ (c .before .before .place-at .ensures .value) (c .before .if1 .taken))
 
--- src/lib.rt:16:9
 word-at-requires : tie.Need-word-at-requires
 word-at-requires c κs = search needs
 
--- src/lib.rt:17:5
 payload-requires-2 : tie.Need-payload-requires-2
 payload-requires-2 c κs = search needs
 
--- src/lib.rt:9:1
 returns-2 : tie.Need-returns-2
 returns-2 c = c .payload2 .ensures ∙ ap (partOf (now (c .before .before .before .before .before .before .args .file)) (c .before .before .before .place-at .result)) (c .before .word-at .ensures .value) ∙ sym (entry-some _ _ _ _ (c .before .before .before .place-at .ensures .value) (c .before .before .if1 .left))
 

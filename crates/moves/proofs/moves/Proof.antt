@@ -6,11 +6,6 @@ use Rattle.moves.specs.Moves.{Sofar}
 use Rattle.moves.proofs.Filling.{sofar-none, sofar-put, sofar-state, sofar-constructor}
 use Rattle.moves.proofs.moves.Statement.{statement}
 use Rattle.moves.proofs.moves.Tie as tie
-use Rattle.moves.proofs.moves.Reads as reads
-use Rattle.moves.proofs.moves.Lts as lts
-use Rattle.entries.proofs.place_at.Reads as place-at-reads
-use Rattle.moves.proofs.target_at.Reads as target-at-reads
-use Rattle.records.proofs.byte_at.Reads as byte-at-reads
 
 abbrev Inv-loop : tie.InvT-loop
 Inv-loop file index n t₀ k₀ t k = Sofar file index n t k

@@ -9,23 +9,18 @@ use borrow.Author.Needs.{needs}
 use Rattle.wants.proofs.target_of.Statement.{statement}
 use Rattle.wants.proofs.target_of.Tie as tie
 
--- src/lib.rt:27:9
 returns : tie.Need-returns
 returns c = search needs
 
--- src/lib.rt:29:13
 array-read-result : tie.Need-array-read-result
 array-read-result c = search needs
 
--- src/lib.rt:29:13
 cast-result : tie.Need-cast-result
 cast-result c = search needs
 
--- src/lib.rt:29:5
 add-result : tie.Need-add-result
 add-result c = let h : Fits w8 (getD (c .before .args .t2) (c .before .args .i % 4) 0) = search needs in omega arith
 
--- src/lib.rt:23:1
 returns-2 : tie.Need-returns-2
 returns-2 c = target-there (let k = c .if1 .left in omega arith) (let h : Fits w8 (getD (c .before .args .t2) (c .before .args .i % 4) 0) = search needs in omega arith)
 
