@@ -180,8 +180,9 @@ module _ (file before counts ends lent flags : List ℕ) (r : Bool) (many rounds
             let all-fit = known₀ .fits Kind.binding in
             let te = et .value in
             let bindings = known₀ .entries Kind.binding .counted in
-            let owns = fills-owns .owns rs listed₁ there (omega arith) (omega (arith, fills-goals .long)) in
-            let goals₂ : Goals third types rs = goals-kept (listed .few) (fills-owns .stays) (fills-goals .goals rs listed₀ (omega arith)) in
+            let goals₁ : Goals second types rs = fills-goals .goals rs listed₀ (omega arith) in
+            let owns = fills-owns .owns rs listed₁ goals₁ there (omega arith) (omega (arith, fills-goals .long)) in
+            let goals₂ : Goals third types rs = goals-kept (listed .few) (fills-owns .stays) goals₁ in
             let goals : Goals index types rs = goals-kept (listed .few) (λ i h. fills-rows .stays i (omega arith)) goals₂ in
             let typed : Typed file index types rs = record { passed = ok; bytes = listed .bytes; there = listed .there; few = listed .few; goals = goals; owns = owns-kept third index types rs (omega arith) (fills-rows .stays) owns } in
             let all-rules : Indexed file index Kind.rule rules rs = subst (λ n. Indexed file index Kind.rule n rs) (sym (er .value)) (known .entries Kind.rule) in

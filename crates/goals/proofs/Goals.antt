@@ -21,7 +21,7 @@ use Rattle.casefile.proofs.Repeats.{getD-mem}
 use Rattle.casefile.proofs.Steps.{words-step, words-done}
 use Rattle.casefile.proofs.TypeNumbers.{Shape, a-state, an-arrow}
 use Rattle.casefile.proofs.TypeTable.{count-payloads, type-shape, type-made, types-distinct}
-use Rattle.goals.specs.Goals.{Goal, of-state, of-arrow, Listed, Typed, ReadsGoal, ReadsResult}
+use Rattle.goals.specs.Goals.{Goal, of-state, of-arrow, Listed, Typed, ReadsGoal, Entered, ReadsEntered}
 
 -- the numbers of a payload, and how many bytes they take
 words-length : (p : List ℕ) (i : ℕ) → length (words (drop i p)) ≡ (length p - i) / 2
@@ -195,26 +195,22 @@ module _ {file index : List ℕ} {n t : ℕ} where
             let l = length-there w t k start es in
             absurd (eqb-false (length (getD (payloads Kind.type rs) t [])) 1 x (omega arith))
 
--- the result of an arrow
-module _ {file index : List ℕ} {n g : ℕ} where
-  far-goal : {rs : List Record} → Listed file index n rs → n ≤ g → (a : Tys) (τ : Ty) → Goal rs n g (arrow a τ) → ⊥
-  far-goal w h a τ x = let i = arrow-record w g a τ x .inside in omega arith
+-- the goal that a type is, where the first of the types have theirs in the index
+module _ {file index : List ℕ} {n entered t r : ℕ} where
+  pub goal-entered : t < entered → r ≡ getD index (4450 + t) 0 → ReadsEntered file index n entered t r
+  goal-entered h e = record { goal = λ rs w there k. subst (λ x. Goal rs n x (getD (typesOf rs) t (state 0))) (sym e) (there t h) }
 
-  pub result-many : 1024 < n → ReadsResult file index n g 65535
-  result-many h = record { result = λ rs w a τ x. absurd (omega (arith, w .few)) }
+  pub goal-read : ReadsGoal file index n t r → ReadsEntered file index n entered t r
+  goal-read is = record { goal = λ rs w there k. is .goal rs w k }
 
-  pub result-far : n ≤ g → ReadsResult file index n g 65535
-  result-far h = record { result = λ rs w a τ x. absurd (far-goal w h a τ x) }
-
-  pub result-there : (start : ℕ) → start ≡ getD index (1120 + g) 0 → (m r : ℕ) → m ≡ word file start → ReadsGoal file index n m r → ReadsResult file index n g r
-  result-there start es m r em is =
-      record {
-        result = λ rs w a τ x.
-            let k = arrow-record w g a τ x in
-            let z : start + 0 ≡ start = omega arith in
-            let f : m ≡ word (getD (payloads Kind.type rs) g []) 0 = em ∙ ap (word file) (sym z) ∙ field-there w g (k .inside) start es 2 0 (k .long) in
-            subst (Goal rs n r) (ap (λ i. getD (typesOf rs) i (state 0)) f ∙ k .result-is) (is .goal rs w (omega (arith, k .result-below)));
-      }
+-- the result of an arrow: the type whose number its record has first
+pub result-there : {file index : List ℕ} {n entered g : ℕ} (start : ℕ) → start ≡ getD index (1120 + g) 0 → (m r : ℕ) → m ≡ word file start → ReadsEntered file index n entered m r
+    → (rs : List Record) → Listed file index n rs → Entered index n rs entered → (a : Tys) (τ : Ty) → Goal rs n g (arrow a τ) → Goal rs n r τ
+result-there {file} {index} {n} {entered} {g} start es m r em is rs w there a τ x =
+    let k = arrow-record w g a τ x in
+    let z : start + 0 ≡ start = omega arith in
+    let f : m ≡ word (getD (payloads Kind.type rs) g []) 0 = em ∙ ap (word file) (sym z) ∙ field-there w g (k .inside) start es 2 0 (k .long) in
+    subst (Goal rs n r) (ap (λ i. getD (typesOf rs) i (state 0)) f ∙ k .result-is) (is .goal rs w there (omega (arith, k .result-below)))
 
 -- the records of types, with no tables
 pub listed : {file index : List ℕ} {n : ℕ} {rs : List Record} → Typed file index n rs → Listed file index n rs

@@ -60,9 +60,13 @@ pub record Typed (file index : List ℕ) (n : ℕ) (rs : List Record) : Type 0 w
 pub record ReadsGoal (file index : List ℕ) (n : ℕ) (t r : ℕ) : Type 0 where
   pub goal : (rs : List Record) → Listed file index n rs → t < n → Goal rs n r (getD (typesOf rs) t (state 0))
 
--- by the records: r is the result of an arrow
-pub record ReadsResult (file index : List ℕ) (n : ℕ) (g r : ℕ) : Type 0 where
-  pub result : (rs : List Record) → Listed file index n rs → (a : Tys) (τ : Ty) → Goal rs n g (arrow a τ) → Goal rs n r τ
+-- the index has the first of the types as goals
+abbrev pub Entered : List ℕ → ℕ → List Record → ℕ → Type 0
+Entered index n rs entered = (i : ℕ) → i < entered → Goal rs n (getD index (goalBase + i) 0) (getD (typesOf rs) i (state 0))
+
+-- by the index, where it has the first of the types as goals, and by the records: r is the goal that type t is
+pub record ReadsEntered (file index : List ℕ) (n entered : ℕ) (t r : ℕ) : Type 0 where
+  pub goal : (rs : List Record) → Listed file index n rs → Entered index n rs entered → t < n → Goal rs n r (getD (typesOf rs) t (state 0))
 
 -- the index after goals and results were entered: all up to them is as it was
 pub record FillsGoals (file before : List ℕ) (n : ℕ) (index : List ℕ) : Type 0 where
@@ -74,7 +78,7 @@ pub record FillsGoals (file before : List ℕ) (n : ℕ) (index : List ℕ) : Ty
 pub record FillsOwns (file before : List ℕ) (n bindings : ℕ) (index : List ℕ) : Type 0 where
   pub long : length index ≡ length before
   pub stays : (i : ℕ) → i < ownBase → getD index i 0 ≡ getD before i 0
-  pub owns : (rs : List Record) → Listed file before n rs → Indexed file before Kind.binding bindings rs → bindings ≤ 1024 → 7522 ≤ length before → Owns index n rs
+  pub owns : (rs : List Record) → Listed file before n rs → Goals before n rs → Indexed file before Kind.binding bindings rs → bindings ≤ 1024 → 7522 ≤ length before → Owns index n rs
 
 -- by the tables: r is the goal that type t is
 pub record IsGoal (index : List ℕ) (n : ℕ) (t r : ℕ) : Type 0 where

@@ -5,7 +5,8 @@ use enter::store;
 use entries::place_at;
 use records::byte_at;
 use records::word_at;
-ghost use Rattle.goals.specs.Goals.{ReadsGoal, ReadsResult, FillsGoals, FillsOwns};
+ghost use Prim.Native.Nat.{_<_};
+ghost use Rattle.goals.specs.Goals.{ReadsGoal, ReadsEntered, FillsGoals, FillsOwns};
 
 // The goal that type t is, by its record.
 fn goal_at(file: &[u8], index: &[u16], types: usize, t: usize) -> usize
@@ -27,18 +28,15 @@ fn goal_at(file: &[u8], index: &[u16], types: usize, t: usize) -> usize
     types + byte_at(file, start)
 }
 
-// The result of an arrow, as a goal, by its record.
-fn result_at(file: &[u8], index: &[u16], types: usize, t: usize) -> usize
-    ensures { λ r. ⌜ ReadsResult (now (file .entry)) (now (index .entry)) types t r ⌝ }
+// The goal that type t is, where the first of the types have theirs in the index: by the index, or by the record of t.
+fn goal_so_far(file: &[u8], index: &[u16], types: usize, entered: usize, t: usize) -> usize
+    requires { ⌜ t < 65536 ⌝ }
+    ensures { λ r. ⌜ ReadsEntered (now (file .entry)) (now (index .entry)) types entered t r ⌝ }
 {
-    if 1024 < types {
-        return 65535;
+    if t < entered {
+        return place_at(index, 4450 + t);
     }
-    if types <= t {
-        return 65535;
-    }
-    let payload = place_at(index, 1120 + t);
-    goal_at(file, index, types, word_at(file, payload))
+    goal_at(file, index, types, t)
 }
 
 // Enters the goals that the types are and the results of the arrows.
@@ -51,7 +49,8 @@ pub fn fill_goals(file: &[u8], index: &mut [u16], types: usize)
     let mut t: usize = 0;
     while t < types {
         let goal = goal_at(file, index, types, t);
-        let result = result_at(file, index, types, t);
+        let payload = place_at(index, 1120 + t);
+        let result = goal_so_far(file, index, types, t, word_at(file, payload));
         store(index, 4450 + t, goal);
         store(index, 5474 + t, result);
         t = t + 1;
@@ -68,7 +67,7 @@ pub fn fill_owns(file: &[u8], index: &mut [u16], types: usize, bindings: usize)
     let mut b: usize = 0;
     while b < bindings {
         let place = place_at(index, 2144 + b);
-        let own = goal_at(file, index, types, word_at(file, place + 2));
+        let own = goal_so_far(file, index, types, types, word_at(file, place + 2));
         store(index, 6498 + b, own);
         b = b + 1;
     }

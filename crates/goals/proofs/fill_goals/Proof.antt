@@ -21,29 +21,38 @@ loop-holds c = goals-none (c .if1 .left)
 goal-at-requires : tie.Need-goal-at-requires Inv-loop μ-loop
 goal-at-requires c κs = search needs
 
-result-at-requires : tie.Need-result-at-requires Inv-loop μ-loop
-result-at-requires c κs = search needs
+add-place-at : tie.Need-add-place-at Inv-loop μ-loop
+add-place-at c = let h = c .before .before .before .loop-test .taken in let f = c .before .before .before .before .loop .inv .few in omega arith
+
+place-at-requires : tie.Need-place-at-requires Inv-loop μ-loop
+place-at-requires c κs = search needs
+
+word-at-requires : tie.Need-word-at-requires Inv-loop μ-loop
+word-at-requires c κs = search needs
+
+goal-so-far-requires : tie.Need-goal-so-far-requires Inv-loop μ-loop
+goal-so-far-requires c κs = c .word-at .ensures .bound
 
 add-store : tie.Need-add-store Inv-loop μ-loop
-add-store c = let h = c .before .before .before .before .before .loop-test .taken in let f = c .before .before .before .before .before .before .loop .inv .few in omega arith
+add-store c = let h = c .before .before .before .before .before .before .before .before .loop-test .taken in let f = c .before .before .before .before .before .before .before .before .before .loop .inv .few in omega arith
 
 store-requires : tie.Need-store-requires Inv-loop μ-loop
 store-requires c κs = search needs
 
 add-store-2 : tie.Need-add-store-2 Inv-loop μ-loop
-add-store-2 c = let h = c .before .before .before .before .before .before .before .before .before .loop-test .taken in let f = c .before .before .before .before .before .before .before .before .before .before .loop .inv .few in omega arith
+add-store-2 c = let h = c .before .before .before .before .before .before .before .before .before .before .before .before .loop-test .taken in let f = c .before .before .before .before .before .before .before .before .before .before .before .before .before .loop .inv .few in omega arith
 
 store-requires-2 : tie.Need-store-requires-2 Inv-loop μ-loop
 store-requires-2 c κs = search needs
 
 add-t : tie.Need-add-t Inv-loop μ-loop
-add-t c = let h = c .before .before .before .before .before .before .before .before .before .before .before .before .loop-test .taken in let f = c .before .before .before .before .before .before .before .before .before .before .before .before .before .loop .inv .few in omega arith
+add-t c = let h = c .before .before .before .before .before .before .before .before .before .before .before .before .before .before .before .loop-test .taken in let f = c .before .before .before .before .before .before .before .before .before .before .before .before .before .before .before .before .loop .inv .few in omega arith
 
 loop-less : tie.Need-loop-less Inv-loop μ-loop
-loop-less c = let h = c .before .before .before .before .before .before .before .before .before .before .before .before .loop-test .taken in omega arith
+loop-less c = let h = c .before .before .before .before .before .before .before .before .before .before .before .before .before .before .before .loop-test .taken in omega arith
 
 loop-again : tie.Need-loop-again Inv-loop μ-loop
-loop-again c = goals-more (c .before .before .before .before .before .before .before .before .before .before .before .before .before .loop .inv) (c .before .before .before .before .before .before .before .before .before .before .before .before .loop-test .taken) _ _ (c .before .before .before .before .before .before .before .before .before .before .goal-at .ensures) (c .before .before .before .before .before .before .before .before .result-at .ensures) _ _ (c .before .before .before .before .before .before .store .ensures) (c .before .before .store2 .ensures)
+loop-again c = goals-more (c .before .before .before .before .before .before .before .before .before .before .before .before .before .before .before .before .loop .inv) (c .before .before .before .before .before .before .before .before .before .before .before .before .before .before .before .loop-test .taken) _ (c .before .before .before .before .before .before .before .before .before .before .before .before .before .goal-at .ensures) _ _ _ (c .before .before .before .before .before .before .before .before .before .before .before .place-at .ensures .value) (c .before .before .before .before .before .before .before .before .before .word-at .ensures .value) (c .before .before .before .before .before .before .before .before .goal-so-far .ensures) _ _ (c .before .before .before .before .before .before .store .ensures) (c .before .before .store2 .ensures)
 
 same-length : tie.Need-same-length Inv-loop μ-loop
 same-length c = c .before .loop .inv .long
@@ -60,7 +69,10 @@ fill-goals-spec =
     returns
     loop-holds
     goal-at-requires
-    result-at-requires
+    add-place-at
+    place-at-requires
+    word-at-requires
+    goal-so-far-requires
     add-store
     store-requires
     add-store-2

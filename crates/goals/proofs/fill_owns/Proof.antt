@@ -30,8 +30,8 @@ add-word-at c = search needs
 word-at-requires : tie.Need-word-at-requires Inv-loop μ-loop
 word-at-requires c κs = search needs
 
-goal-at-requires : tie.Need-goal-at-requires Inv-loop μ-loop
-goal-at-requires c κs = search needs
+goal-so-far-requires : tie.Need-goal-so-far-requires Inv-loop μ-loop
+goal-so-far-requires c κs = c .word-at .ensures .bound
 
 add-store : tie.Need-add-store Inv-loop μ-loop
 add-store c = let h = c .before .before .before .before .before .before .loop-test .taken in let f = c .before .before .before .before .before .before .before .loop .inv .few in omega arith
@@ -46,7 +46,7 @@ loop-less : tie.Need-loop-less Inv-loop μ-loop
 loop-less c = let h = c .before .before .before .before .before .before .before .before .before .loop-test .taken in omega arith
 
 loop-again : tie.Need-loop-again Inv-loop μ-loop
-loop-again c = owns-more (c .before .before .before .before .before .before .before .before .before .before .loop .inv) (c .before .before .before .before .before .before .before .before .before .loop-test .taken) _ _ _ (c .before .before .before .before .before .before .before .place-at .ensures .value) (c .before .before .before .before .before .word-at .ensures .value) (c .before .before .before .before .goal-at .ensures) _ (c .before .before .store .ensures)
+loop-again c = owns-more (c .before .before .before .before .before .before .before .before .before .before .loop .inv) (c .before .before .before .before .before .before .before .before .before .loop-test .taken) _ _ _ (c .before .before .before .before .before .before .before .place-at .ensures .value) (c .before .before .before .before .before .word-at .ensures .value) (c .before .before .before .before .goal-so-far .ensures) _ (c .before .before .store .ensures)
 
 same-length : tie.Need-same-length Inv-loop μ-loop
 same-length c = c .before .loop .inv .long
@@ -66,7 +66,7 @@ fill-owns-spec =
     place-at-requires
     add-word-at
     word-at-requires
-    goal-at-requires
+    goal-so-far-requires
     add-store
     store-requires
     add-b
