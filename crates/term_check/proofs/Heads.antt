@@ -41,9 +41,10 @@ use Rattle.term_check.specs.Checking.{At, AllAt, Body, ns, width, Settin
 use Rattle.term_check.proofs.Places.{at-inside, at-head}
 use Rattle.term_check.proofs.Arguments.{keeps-all}
 
-learnt-length : (memo : List ℕ) (width stamp i goal : ℕ) (b : Bool) → length (learnt memo width stamp i goal b) ≡ length memo
+-- what is entered leaves the table as long as it was
+pub learnt-length : (memo : List ℕ) (width stamp i goal : ℕ) (b : Bool) (last : List ℕ) → last ≡ learnt memo width stamp i goal b → length last ≡ length memo
 unfolding learnt
-learnt-length memo width stamp i goal b = go (covered width i goal && ltb stamp 128)
+learnt-length memo width stamp i goal b last e = ap length e ∙ go (covered width i goal && ltb stamp 128)
   where
     go : (c : Bool) → length (if c then set memo (key width i goal) (code stamp b) else memo) ≡ length memo
     go true = length-set memo (key width i goal) (code stamp b)
@@ -70,7 +71,7 @@ module _ (x : Body) (memo : List ℕ) (i goal : ℕ) where
   term-learnt after b told last e =
       record {
         keeps = record {
-          long = ap length e ∙ learnt-length after (width x) (x .test .stamp) i goal b ∙ told .keeps .long;
+          long = learnt-length after (width x) (x .test .stamp) i goal b last e ∙ told .keeps .long;
           remembers = λ rs τ s r. subst (Remembers x rs τ) (sym e) (faithful-learnt (Right x rs τ) after (width x) (x .test .stamp) i goal b (told .keeps .remembers rs τ s r) (told .answer rs τ s r));
           under = λ n bound h u. subst (λ m. Under m n bound) (sym e) (learnt-under after (width x) (x .test .stamp) i goal b n bound (told .keeps .under n bound h u) h);
         };

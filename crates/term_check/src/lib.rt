@@ -82,10 +82,9 @@ fn end_of(ends: &[u16], first: usize, at: usize) -> usize
     place_at(&ends[first..], at)
 }
 
-// Whether the term at a node has a type, a goal by its number. What is found of a term with arguments is remembered; what
-// is remembered already the callers know. The numbers of the test are how many types and constructors there are, the goal
-// that the binding's type is, which test this is for the memo, the place and the bytes of the body, and the number of its
-// first node.
+// Whether the term at a node has a type, a goal by its number. The numbers of the test are how many types and constructors
+// there are, the goal that the binding's type is, which test this is for the memo, the place and the bytes of the body, and
+// the number of its first node.
 pub fn check_term(
     file: &[u8],
     index: &[u16; 8034],
@@ -108,12 +107,7 @@ pub fn check_term(
         return false;
     }
     if front.tag == 0 {
-        let yes = check_head(file, index, groups, kept, ends, test, memo, at, front, goal);
-        if front.count == 0 {
-            return yes;
-        }
-        learn(memo, types + 16, test[3], at, goal, yes);
-        return yes;
+        return check_head(file, index, groups, kept, ends, test, memo, at, front, goal);
     }
     if front.count == 0 {
         let own = test[2];
@@ -130,9 +124,7 @@ pub fn check_term(
             goal,
         );
     }
-    let yes = check_choices(file, index, groups, kept, ends, test, memo, at, front, goal);
-    learn(memo, types + 16, test[3], at, goal, yes);
-    yes
+    check_choices(file, index, groups, kept, ends, test, memo, at, front, goal)
 }
 
 // Whether the type of the constructor in front of a term leads to the goal: it does if the targets of its transition, at the
@@ -188,14 +180,8 @@ fn check_head(
             return false;
         }
         i = i + 1;
-        let old = known(memo, types + 16, test[3], next, target);
-        if old == 1 {
+        if !check_term(file, index, groups, kept, ends, test, memo, next, target) {
             return false;
-        }
-        if old != 2 {
-            if !check_term(file, index, groups, kept, ends, test, memo, next, target) {
-                return false;
-            }
         }
         next = end;
     }
@@ -252,7 +238,9 @@ fn check_choices(
     false
 }
 
-// Whether the `count` arguments from node `first` on have what the type of their head asks for.
+// Whether the `count` arguments from node `first` on have what the type of their head asks for. What is found of an argument
+// is remembered, for another type of the head may ask for the same. The arguments of a constructor need no memo: a constructor
+// has one type for a goal, so that they are asked once for each goal of the argument that they stand in.
 fn check_args(
     file: &[u8],
     index: &[u16; 8034],
@@ -297,7 +285,9 @@ fn check_args(
             if old == 2 {
                 j = known_until(file, index, memo, types, test[3], at, asked, many, j);
             } else {
-                if !check_term(file, index, groups, kept, ends, test, memo, at, member) {
+                let yes = check_term(file, index, groups, kept, ends, test, memo, at, member);
+                learn(memo, types + 16, test[3], at, member, yes);
+                if !yes {
                     return false;
                 }
             }

@@ -9,7 +9,7 @@ use borrow.Author.Tests.{not-true, not-false}
 use Rattle.goals.specs.Goals.{CountsMembers}
 use Rattle.term_check.specs.Nodes.{testBy, bodyBy, endsBy}
 use Rattle.term_check.proofs.Arguments.{Args, member-few, args-start, args-many, args-end, args-stuck, args-next, args-lacks, args-has}
-use Rattle.term_check.proofs.Heads.{types-many, term-past, known-yes, known-no, term-learnt, placed-head}
+use Rattle.term_check.proofs.Heads.{types-many, term-past, known-yes, known-no, learnt-length, term-learnt, placed-head}
 use Rattle.term_check.proofs.Runs.{args-run}
 use Rattle.term_check.proofs.Targets.{targets-no-state, targets-no-constructor, targets-not-served, targets-told, target-past, target-stuck, target-lacks, target-has}
 use Rattle.term_check.proofs.Choices.{bare-checked, Tried, tried-start, tried-end, tried-miss, tried-fails, tried-leads}
@@ -117,6 +117,8 @@ check-args-element-copy-out-types : (t : ℕ) → check-args-lts.Need-element-co
   known-until-reads.Learnt,
   check-term-below t,
   check-term.Post,
+  learn-reads.Asked,
+  learn-reads.Learnt,
 ) (check-args-at t) check-args.Post check-args-Inv-loop check-args-μ-loop
 check-args-element-copy-out-types t c = search needs
 
@@ -135,6 +137,8 @@ check-args-returns : (t : ℕ) → check-args-lts.Need-returns (
   known-until-reads.Learnt,
   check-term-below t,
   check-term.Post,
+  learn-reads.Asked,
+  learn-reads.Learnt,
 ) (check-args-at t) check-args.Post check-args-Inv-loop check-args-μ-loop
 check-args-returns t c = args-many _ _ _ _ _ _ _ (c .if1 .taken)
 
@@ -153,6 +157,8 @@ check-args-members-of-requires : (t : ℕ) → check-args-lts.Need-members-of-re
   known-until-reads.Learnt,
   check-term-below t,
   check-term.Post,
+  learn-reads.Asked,
+  learn-reads.Learnt,
 ) (check-args-at t) check-args.Post check-args-Inv-loop check-args-μ-loop
 check-args-members-of-requires t c κs = search needs
 
@@ -171,6 +177,8 @@ check-args-loop-holds : (t : ℕ) → check-args-lts.Need-loop-holds (
   known-until-reads.Learnt,
   check-term-below t,
   check-term.Post,
+  learn-reads.Asked,
+  learn-reads.Learnt,
 ) (check-args-at t) check-args.Post check-args-Inv-loop check-args-μ-loop
 check-args-loop-holds t c = (args-start _ _ _ _ _ _ _, c .members-of .ensures)
 
@@ -189,6 +197,8 @@ check-args-wanted-requires : (t : ℕ) → check-args-lts.Need-wanted-requires (
   known-until-reads.Learnt,
   check-term-below t,
   check-term.Post,
+  learn-reads.Asked,
+  learn-reads.Learnt,
 ) (check-args-at t) check-args.Post check-args-Inv-loop check-args-μ-loop
 check-args-wanted-requires t c κs = search needs
 
@@ -207,6 +217,8 @@ check-args-element-copy-out-end-of : (t : ℕ) → check-args-lts.Need-element-c
   known-until-reads.Learnt,
   check-term-below t,
   check-term.Post,
+  learn-reads.Asked,
+  learn-reads.Learnt,
 ) (check-args-at t) check-args.Post check-args-Inv-loop check-args-μ-loop
 check-args-element-copy-out-end-of t c = search needs
 
@@ -225,6 +237,8 @@ check-args-end-of-requires : (t : ℕ) → check-args-lts.Need-end-of-requires (
   known-until-reads.Learnt,
   check-term-below t,
   check-term.Post,
+  learn-reads.Asked,
+  learn-reads.Learnt,
 ) (check-args-at t) check-args.Post check-args-Inv-loop check-args-μ-loop
 check-args-end-of-requires t c κs = search needs
 
@@ -243,6 +257,8 @@ check-args-same-length : (t : ℕ) → check-args-lts.Need-same-length (
   known-until-reads.Learnt,
   check-term-below t,
   check-term.Post,
+  learn-reads.Asked,
+  learn-reads.Learnt,
 ) (check-args-at t) check-args.Post check-args-Inv-loop check-args-μ-loop
 check-args-same-length t c = c .before .before .before .before .before .before .before .before .loop .inv .0 .keeps .long
 
@@ -261,6 +277,8 @@ check-args-returns-2 : (t : ℕ) → check-args-lts.Need-returns-2 (
   known-until-reads.Learnt,
   check-term-below t,
   check-term.Post,
+  learn-reads.Asked,
+  learn-reads.Learnt,
 ) (check-args-at t) check-args.Post check-args-Inv-loop check-args-μ-loop
 check-args-returns-2 t c = args-stuck _ (c .before .before .before .before .before .before .before .before .loop .inv .0) (c .before .before .before .before .before .before .before .loop-test .taken) _ (c .before .before .before .before .before .wanted .ensures (c .before .before .before .before .before .before .before .before .loop .inv .1) _ _) _ (c .before .end-of .ensures) (c .if3 .taken)
 
@@ -279,6 +297,8 @@ check-args-result-of-requires : (t : ℕ) → check-args-lts.Need-result-of-requ
   known-until-reads.Learnt,
   check-term-below t,
   check-term.Post,
+  learn-reads.Asked,
+  learn-reads.Learnt,
 ) (check-args-at t) check-args.Post check-args-Inv-loop check-args-μ-loop
 check-args-result-of-requires t c κs = search needs
 
@@ -297,6 +317,8 @@ check-args-members-of-requires-2 : (t : ℕ) → check-args-lts.Need-members-of-
   known-until-reads.Learnt,
   check-term-below t,
   check-term.Post,
+  learn-reads.Asked,
+  learn-reads.Learnt,
 ) (check-args-at t) check-args.Post check-args-Inv-loop check-args-μ-loop
 check-args-members-of-requires-2 t c κs = search needs
 
@@ -315,6 +337,8 @@ check-args-add-i : (t : ℕ) → check-args-lts.Need-add-i (
   known-until-reads.Learnt,
   check-term-below t,
   check-term.Post,
+  learn-reads.Asked,
+  learn-reads.Learnt,
 ) (check-args-at t) check-args.Post check-args-Inv-loop check-args-μ-loop
 check-args-add-i t c = let h = c .before .before .before .before .before .before .before .before .before .before .before .loop-test .taken in omega arith
 
@@ -333,6 +357,8 @@ check-args-loop-less : (t : ℕ) → check-args-lts.Need-loop-less (
   known-until-reads.Learnt,
   check-term-below t,
   check-term.Post,
+  learn-reads.Asked,
+  learn-reads.Learnt,
 ) (check-args-at t) check-args.Post check-args-Inv-loop check-args-μ-loop
 check-args-loop-less t c = let h = c .before .before .before .before .before .before .before .before .before .before .before .loop-test .taken in let f = c .before .before .before .before .before .before .before .before .before .before .before .before .loop .inv .0 .few in omega arith
 
@@ -351,6 +377,8 @@ check-args-loop-again : (t : ℕ) → check-args-lts.Need-loop-again (
   known-until-reads.Learnt,
   check-term-below t,
   check-term.Post,
+  learn-reads.Asked,
+  learn-reads.Learnt,
 ) (check-args-at t) check-args.Post check-args-Inv-loop check-args-μ-loop
 check-args-loop-again t c = (args-next _ (c .before .before .before .before .before .before .before .before .before .before .before .before .loop .inv .0) (c .before .before .before .before .before .before .before .before .before .before .before .loop-test .taken) _ (c .before .before .before .before .before .before .before .before .before .wanted .ensures (c .before .before .before .before .before .before .before .before .before .before .before .before .loop .inv .1) _ _) (c .before .before .before .before .before .before .before .before .if2 .taken) _ _ _ (c .before .before .before .before .before .end-of .ensures) (let h = c .before .before .before .before .if3 .left in omega arith) (follow-result _ (c .before .before .result-of .ensures)) (omega arith), c .members-of2 .ensures)
 
@@ -369,6 +397,8 @@ check-args-add-j : (t : ℕ) → check-args-lts.Need-add-j (
   known-until-reads.Learnt,
   check-term-below t,
   check-term.Post,
+  learn-reads.Asked,
+  learn-reads.Learnt,
 ) (check-args-at t) check-args.Post check-args-Inv-loop check-args-μ-loop
 check-args-add-j t c = let f = c .before .before .before .before .loop .inv .0 .few in omega arith
 
@@ -387,6 +417,8 @@ check-args-add-known : (t : ℕ) → check-args-lts.Need-add-known (
   known-until-reads.Learnt,
   check-term-below t,
   check-term.Post,
+  learn-reads.Asked,
+  learn-reads.Learnt,
 ) (check-args-at t) check-args.Post check-args-Inv-loop check-args-μ-loop
 check-args-add-known t c = let h = c .before .before .before .before .before .before .before .before .if1 .left in omega arith
 
@@ -405,6 +437,8 @@ check-args-element-copy-out-known : (t : ℕ) → check-args-lts.Need-element-co
   known-until-reads.Learnt,
   check-term-below t,
   check-term.Post,
+  learn-reads.Asked,
+  learn-reads.Learnt,
 ) (check-args-at t) check-args.Post check-args-Inv-loop check-args-μ-loop
 check-args-element-copy-out-known t c = search needs
 
@@ -423,6 +457,8 @@ check-args-known-requires : (t : ℕ) → check-args-lts.Need-known-requires (
   known-until-reads.Learnt,
   check-term-below t,
   check-term.Post,
+  learn-reads.Asked,
+  learn-reads.Learnt,
 ) (check-args-at t) check-args.Post check-args-Inv-loop check-args-μ-loop
 check-args-known-requires t c κs = search needs
 
@@ -441,6 +477,8 @@ check-args-same-length-2 : (t : ℕ) → check-args-lts.Need-same-length-2 (
   known-until-reads.Learnt,
   check-term-below t,
   check-term.Post,
+  learn-reads.Asked,
+  learn-reads.Learnt,
 ) (check-args-at t) check-args.Post check-args-Inv-loop check-args-μ-loop
 check-args-same-length-2 t c = c .before .before .before .before .before .before .before .before .loop .inv .0 .keeps .long
 
@@ -459,6 +497,8 @@ check-args-returns-3 : (t : ℕ) → check-args-lts.Need-returns-3 (
   known-until-reads.Learnt,
   check-term-below t,
   check-term.Post,
+  learn-reads.Asked,
+  learn-reads.Learnt,
 ) (check-args-at t) check-args.Post check-args-Inv-loop check-args-μ-loop
 check-args-returns-3 t c = args-lacks _ (c .before .before .before .before .before .before .before .before .loop .inv .0) (c .before .before .before .before .before .before .before .loop-test .taken) _ (c .before .before .before .before .before .wanted .ensures (c .before .before .before .before .before .before .before .before .loop .inv .1) _ _) (c .before .before .before .before .if2 .left) _ _ (known-no _ _ _ _ _ (c .before .known .ensures) (c .if4 .taken)) refl
 
@@ -478,6 +518,8 @@ check-args-element-copy-out-known-until :
       known-until-reads.Learnt,
       check-term-below t,
       check-term.Post,
+      learn-reads.Asked,
+      learn-reads.Learnt,
     ) (check-args-at t) check-args.Post check-args-Inv-loop check-args-μ-loop
 check-args-element-copy-out-known-until t c = search needs
 
@@ -496,6 +538,8 @@ check-args-known-until-requires : (t : ℕ) → check-args-lts.Need-known-until-
   known-until-reads.Learnt,
   check-term-below t,
   check-term.Post,
+  learn-reads.Asked,
+  learn-reads.Learnt,
 ) (check-args-at t) check-args.Post check-args-Inv-loop check-args-μ-loop
 check-args-known-until-requires t c κs = search needs
 
@@ -514,6 +558,8 @@ check-args-loop-less-2 : (t : ℕ) → check-args-lts.Need-loop-less-2 (
   known-until-reads.Learnt,
   check-term-below t,
   check-term.Post,
+  learn-reads.Asked,
+  learn-reads.Learnt,
 ) (check-args-at t) check-args.Post check-args-Inv-loop check-args-μ-loop
 check-args-loop-less-2 t c = let h = c .before .before .before .before .before .before .before .before .before .before .before .before .loop-test .taken in let f = member-few _ _ (c .before .before .before .before .before .before .before .before .before .before .wanted .ensures (c .before .before .before .before .before .before .before .before .before .before .before .before .before .loop .inv .1) [] 0 .few) (c .before .before .before .before .before .before .before .before .before .if2 .left) in let o = c .known-until .ensures .onward in omega arith
 
@@ -532,6 +578,8 @@ check-args-loop-again-2 : (t : ℕ) → check-args-lts.Need-loop-again-2 (
   known-until-reads.Learnt,
   check-term-below t,
   check-term.Post,
+  learn-reads.Asked,
+  learn-reads.Learnt,
 ) (check-args-at t) check-args.Post check-args-Inv-loop check-args-μ-loop
 check-args-loop-again-2 t c = (args-run _ _ _ (args-has _ (c .before .before .before .before .before .before .before .before .before .before .before .before .before .loop .inv .0) (c .before .before .before .before .before .before .before .before .before .before .before .before .loop-test .taken) _ (c .before .before .before .before .before .before .before .before .before .before .wanted .ensures (c .before .before .before .before .before .before .before .before .before .before .before .before .before .loop .inv .1) _ _) (c .before .before .before .before .before .before .before .before .before .if2 .left) _ _ (known-yes _ _ _ _ _ (c .before .before .before .before .before .before .known .ensures) (c .before .before .before .before .if5 .taken)) refl _ (omega arith)) (c .before .before .before .before .before .before .before .before .before .before .before .before .loop-test .taken) (c .before .before .before .before .before .before .before .before .before .before .before .before .before .loop .inv .1) (c .known-until .ensures), c .before .before .before .before .before .before .before .before .before .before .before .before .before .loop .inv .1)
 
@@ -550,8 +598,70 @@ check-args-check-term-requires : (t : ℕ) → check-args-lts.Need-check-term-re
   known-until-reads.Learnt,
   check-term-below t,
   check-term.Post,
+  learn-reads.Asked,
+  learn-reads.Learnt,
 ) (check-args-at t) check-args.Post check-args-Inv-loop check-args-μ-loop
 check-args-check-term-requires t c κs = let p = c .before .before .before .before .before .before .before .before .before .before .before .before .before .before .before .before .before .pre .0 in let f = c .before .before .before .before .before .before .before .before .before .before .loop .inv .0 .forward in (omega arith, Prim.tt)
+
+check-args-add-learn : (t : ℕ) → check-args-lts.Need-add-learn (
+  members-of-reads.Asked,
+  members-of-reads.Learnt,
+  wanted-reads.Asked,
+  wanted-reads.Learnt,
+  end-of-reads.Asked,
+  end-of-reads.Learnt,
+  result-of-reads.Asked,
+  result-of-reads.Learnt,
+  known-reads.Asked,
+  known-reads.Learnt,
+  known-until-reads.Asked,
+  known-until-reads.Learnt,
+  check-term-below t,
+  check-term.Post,
+  learn-reads.Asked,
+  learn-reads.Learnt,
+) (check-args-at t) check-args.Post check-args-Inv-loop check-args-μ-loop
+check-args-add-learn t c = search needs
+
+check-args-element-copy-out-learn : (t : ℕ) → check-args-lts.Need-element-copy-out-learn (
+  members-of-reads.Asked,
+  members-of-reads.Learnt,
+  wanted-reads.Asked,
+  wanted-reads.Learnt,
+  end-of-reads.Asked,
+  end-of-reads.Learnt,
+  result-of-reads.Asked,
+  result-of-reads.Learnt,
+  known-reads.Asked,
+  known-reads.Learnt,
+  known-until-reads.Asked,
+  known-until-reads.Learnt,
+  check-term-below t,
+  check-term.Post,
+  learn-reads.Asked,
+  learn-reads.Learnt,
+) (check-args-at t) check-args.Post check-args-Inv-loop check-args-μ-loop
+check-args-element-copy-out-learn t c = search needs
+
+check-args-learn-requires : (t : ℕ) → check-args-lts.Need-learn-requires (
+  members-of-reads.Asked,
+  members-of-reads.Learnt,
+  wanted-reads.Asked,
+  wanted-reads.Learnt,
+  end-of-reads.Asked,
+  end-of-reads.Learnt,
+  result-of-reads.Asked,
+  result-of-reads.Learnt,
+  known-reads.Asked,
+  known-reads.Learnt,
+  known-until-reads.Asked,
+  known-until-reads.Learnt,
+  check-term-below t,
+  check-term.Post,
+  learn-reads.Asked,
+  learn-reads.Learnt,
+) (check-args-at t) check-args.Post check-args-Inv-loop check-args-μ-loop
+check-args-learn-requires t c κs = search needs
 
 check-args-same-length-3 : (t : ℕ) → check-args-lts.Need-same-length-3 (
   members-of-reads.Asked,
@@ -568,8 +678,10 @@ check-args-same-length-3 : (t : ℕ) → check-args-lts.Need-same-length-3 (
   known-until-reads.Learnt,
   check-term-below t,
   check-term.Post,
+  learn-reads.Asked,
+  learn-reads.Learnt,
 ) (check-args-at t) check-args.Post check-args-Inv-loop check-args-μ-loop
-check-args-same-length-3 t c = (args-lacks _ (c .before .before .before .before .before .before .before .before .before .before .before .before .before .before .loop .inv .0) (c .before .before .before .before .before .before .before .before .before .before .before .before .before .loop-test .taken) _ (c .before .before .before .before .before .before .before .before .before .before .before .wanted .ensures (c .before .before .before .before .before .before .before .before .before .before .before .before .before .before .loop .inv .1) _ _) (c .before .before .before .before .before .before .before .before .before .before .if2 .left) _ _ (c .before .before .before .check-term .ensures) (not-true _ (c .if6 .taken))) .keeps .long
+check-args-same-length-3 t c = learnt-length _ _ _ _ _ _ _ (c .before .before .before .learn .ensures) ∙ c .before .before .before .before .before .before .before .before .check-term .ensures .keeps .long ∙ c .before .before .before .before .before .before .before .before .before .before .before .before .before .before .before .before .before .before .before .loop .inv .0 .keeps .long
 
 check-args-returns-4 : (t : ℕ) → check-args-lts.Need-returns-4 (
   members-of-reads.Asked,
@@ -586,8 +698,10 @@ check-args-returns-4 : (t : ℕ) → check-args-lts.Need-returns-4 (
   known-until-reads.Learnt,
   check-term-below t,
   check-term.Post,
+  learn-reads.Asked,
+  learn-reads.Learnt,
 ) (check-args-at t) check-args.Post check-args-Inv-loop check-args-μ-loop
-check-args-returns-4 t c = args-lacks _ (c .before .before .before .before .before .before .before .before .before .before .before .before .before .before .loop .inv .0) (c .before .before .before .before .before .before .before .before .before .before .before .before .before .loop-test .taken) _ (c .before .before .before .before .before .before .before .before .before .before .before .wanted .ensures (c .before .before .before .before .before .before .before .before .before .before .before .before .before .before .loop .inv .1) _ _) (c .before .before .before .before .before .before .before .before .before .before .if2 .left) _ _ (c .before .before .before .check-term .ensures) (not-true _ (c .if6 .taken))
+check-args-returns-4 t c = args-lacks _ (c .before .before .before .before .before .before .before .before .before .before .before .before .before .before .before .before .before .before .before .loop .inv .0) (c .before .before .before .before .before .before .before .before .before .before .before .before .before .before .before .before .before .before .loop-test .taken) _ (c .before .before .before .before .before .before .before .before .before .before .before .before .before .before .before .before .wanted .ensures (c .before .before .before .before .before .before .before .before .before .before .before .before .before .before .before .before .before .before .before .loop .inv .1) _ _) (c .before .before .before .before .before .before .before .before .before .before .before .before .before .before .before .if2 .left) _ _ (term-learnt _ _ _ _ _ _ (c .before .before .before .before .before .before .before .before .check-term .ensures) _ (c .before .before .before .learn .ensures)) (not-true _ (c .if6 .taken))
 
 check-args-loop-less-3 : (t : ℕ) → check-args-lts.Need-loop-less-3 (
   members-of-reads.Asked,
@@ -604,8 +718,10 @@ check-args-loop-less-3 : (t : ℕ) → check-args-lts.Need-loop-less-3 (
   known-until-reads.Learnt,
   check-term-below t,
   check-term.Post,
+  learn-reads.Asked,
+  learn-reads.Learnt,
 ) (check-args-at t) check-args.Post check-args-Inv-loop check-args-μ-loop
-check-args-loop-less-3 t c = let h = c .before .before .before .before .before .before .before .before .before .before .before .before .before .loop-test .taken in let f = member-few _ _ (c .before .before .before .before .before .before .before .before .before .before .before .wanted .ensures (c .before .before .before .before .before .before .before .before .before .before .before .before .before .before .loop .inv .1) [] 0 .few) (c .before .before .before .before .before .before .before .before .before .before .if2 .left) in omega arith
+check-args-loop-less-3 t c = let h = c .before .before .before .before .before .before .before .before .before .before .before .before .before .before .before .before .before .before .loop-test .taken in let f = member-few _ _ (c .before .before .before .before .before .before .before .before .before .before .before .before .before .before .before .before .wanted .ensures (c .before .before .before .before .before .before .before .before .before .before .before .before .before .before .before .before .before .before .before .loop .inv .1) [] 0 .few) (c .before .before .before .before .before .before .before .before .before .before .before .before .before .before .before .if2 .left) in omega arith
 
 check-args-loop-again-3 : (t : ℕ) → check-args-lts.Need-loop-again-3 (
   members-of-reads.Asked,
@@ -622,8 +738,10 @@ check-args-loop-again-3 : (t : ℕ) → check-args-lts.Need-loop-again-3 (
   known-until-reads.Learnt,
   check-term-below t,
   check-term.Post,
+  learn-reads.Asked,
+  learn-reads.Learnt,
 ) (check-args-at t) check-args.Post check-args-Inv-loop check-args-μ-loop
-check-args-loop-again-3 t c = (args-has _ (c .before .before .before .before .before .before .before .before .before .before .before .before .before .before .loop .inv .0) (c .before .before .before .before .before .before .before .before .before .before .before .before .before .loop-test .taken) _ (c .before .before .before .before .before .before .before .before .before .before .before .wanted .ensures (c .before .before .before .before .before .before .before .before .before .before .before .before .before .before .loop .inv .1) _ _) (c .before .before .before .before .before .before .before .before .before .before .if2 .left) _ _ (c .before .before .before .check-term .ensures) (not-false _ (c .if6 .left)) _ (omega arith), c .before .before .before .before .before .before .before .before .before .before .before .before .before .before .loop .inv .1)
+check-args-loop-again-3 t c = (args-has _ (c .before .before .before .before .before .before .before .before .before .before .before .before .before .before .before .before .before .before .before .loop .inv .0) (c .before .before .before .before .before .before .before .before .before .before .before .before .before .before .before .before .before .before .loop-test .taken) _ (c .before .before .before .before .before .before .before .before .before .before .before .before .before .before .before .before .wanted .ensures (c .before .before .before .before .before .before .before .before .before .before .before .before .before .before .before .before .before .before .before .loop .inv .1) _ _) (c .before .before .before .before .before .before .before .before .before .before .before .before .before .before .before .if2 .left) _ _ (term-learnt _ _ _ _ _ _ (c .before .before .before .before .before .before .before .before .check-term .ensures) _ (c .before .before .before .learn .ensures)) (not-false _ (c .if6 .left)) _ (omega arith), c .before .before .before .before .before .before .before .before .before .before .before .before .before .before .before .before .before .before .before .loop .inv .1)
 
 check-args-same-length-4 : (t : ℕ) → check-args-lts.Need-same-length-4 (
   members-of-reads.Asked,
@@ -640,6 +758,8 @@ check-args-same-length-4 : (t : ℕ) → check-args-lts.Need-same-length-4 (
   known-until-reads.Learnt,
   check-term-below t,
   check-term.Post,
+  learn-reads.Asked,
+  learn-reads.Learnt,
 ) (check-args-at t) check-args.Post check-args-Inv-loop check-args-μ-loop
 check-args-same-length-4 t c = c .before .loop .inv .0 .keeps .long
 
@@ -658,6 +778,8 @@ check-args-returns-5 : (t : ℕ) → check-args-lts.Need-returns-5 (
   known-until-reads.Learnt,
   check-term-below t,
   check-term.Post,
+  learn-reads.Asked,
+  learn-reads.Learnt,
 ) (check-args-at t) check-args.Post check-args-Inv-loop check-args-μ-loop
 check-args-returns-5 t c = args-end _ (c .before .loop .inv .0) (omega arith)
 
@@ -846,8 +968,6 @@ check-head-element-copy-out-types : (t : ℕ) → check-head-lts.Need-element-co
   target-of-reads.Learnt,
   end-of-reads.Asked,
   end-of-reads.Learnt,
-  known-reads.Asked,
-  known-reads.Learnt,
   check-term-below t,
   check-term.Post,
 ) (check-head-at t) check-head.Post check-head-Inv-loop check-head-μ-loop
@@ -866,8 +986,6 @@ check-head-returns : (t : ℕ) → check-head-lts.Need-returns (
   target-of-reads.Learnt,
   end-of-reads.Asked,
   end-of-reads.Learnt,
-  known-reads.Asked,
-  known-reads.Learnt,
   check-term-below t,
   check-term.Post,
 ) (check-head-at t) check-head.Post check-head-Inv-loop check-head-μ-loop
@@ -887,8 +1005,6 @@ check-head-element-copy-out-constructors :
       target-of-reads.Learnt,
       end-of-reads.Asked,
       end-of-reads.Learnt,
-      known-reads.Asked,
-      known-reads.Learnt,
       check-term-below t,
       check-term.Post,
     ) (check-head-at t) check-head.Post check-head-Inv-loop check-head-μ-loop
@@ -907,8 +1023,6 @@ check-head-returns-2 : (t : ℕ) → check-head-lts.Need-returns-2 (
   target-of-reads.Learnt,
   end-of-reads.Asked,
   end-of-reads.Learnt,
-  known-reads.Asked,
-  known-reads.Learnt,
   check-term-below t,
   check-term.Post,
 ) (check-head-at t) check-head.Post check-head-Inv-loop check-head-μ-loop
@@ -927,8 +1041,6 @@ check-head-returns-3 : (t : ℕ) → check-head-lts.Need-returns-3 (
   target-of-reads.Learnt,
   end-of-reads.Asked,
   end-of-reads.Learnt,
-  known-reads.Asked,
-  known-reads.Learnt,
   check-term-below t,
   check-term.Post,
 ) (check-head-at t) check-head.Post check-head-Inv-loop check-head-μ-loop
@@ -947,8 +1059,6 @@ check-head-arity-of-requires : (t : ℕ) → check-head-lts.Need-arity-of-requir
   target-of-reads.Learnt,
   end-of-reads.Asked,
   end-of-reads.Learnt,
-  known-reads.Asked,
-  known-reads.Learnt,
   check-term-below t,
   check-term.Post,
 ) (check-head-at t) check-head.Post check-head-Inv-loop check-head-μ-loop
@@ -967,8 +1077,6 @@ check-head-state-at-requires : (t : ℕ) → check-head-lts.Need-state-at-requir
   target-of-reads.Learnt,
   end-of-reads.Asked,
   end-of-reads.Learnt,
-  known-reads.Asked,
-  known-reads.Learnt,
   check-term-below t,
   check-term.Post,
 ) (check-head-at t) check-head.Post check-head-Inv-loop check-head-μ-loop
@@ -987,8 +1095,6 @@ check-head-returns-4 : (t : ℕ) → check-head-lts.Need-returns-4 (
   target-of-reads.Learnt,
   end-of-reads.Asked,
   end-of-reads.Learnt,
-  known-reads.Asked,
-  known-reads.Learnt,
   check-term-below t,
   check-term.Post,
 ) (check-head-at t) check-head.Post check-head-Inv-loop check-head-μ-loop
@@ -1007,8 +1113,6 @@ check-head-returns-5 : (t : ℕ) → check-head-lts.Need-returns-5 (
   target-of-reads.Learnt,
   end-of-reads.Asked,
   end-of-reads.Learnt,
-  known-reads.Asked,
-  known-reads.Learnt,
   check-term-below t,
   check-term.Post,
 ) (check-head-at t) check-head.Post check-head-Inv-loop check-head-μ-loop
@@ -1027,8 +1131,6 @@ check-head-row-in-requires : (t : ℕ) → check-head-lts.Need-row-in-requires (
   target-of-reads.Learnt,
   end-of-reads.Asked,
   end-of-reads.Learnt,
-  known-reads.Asked,
-  known-reads.Learnt,
   check-term-below t,
   check-term.Post,
 ) (check-head-at t) check-head.Post check-head-Inv-loop check-head-μ-loop
@@ -1047,8 +1149,6 @@ check-head-row-serves-requires : (t : ℕ) → check-head-lts.Need-row-serves-re
   target-of-reads.Learnt,
   end-of-reads.Asked,
   end-of-reads.Learnt,
-  known-reads.Asked,
-  known-reads.Learnt,
   check-term-below t,
   check-term.Post,
 ) (check-head-at t) check-head.Post check-head-Inv-loop check-head-μ-loop
@@ -1067,8 +1167,6 @@ check-head-returns-6 : (t : ℕ) → check-head-lts.Need-returns-6 (
   target-of-reads.Learnt,
   end-of-reads.Asked,
   end-of-reads.Learnt,
-  known-reads.Asked,
-  known-reads.Learnt,
   check-term-below t,
   check-term.Post,
 ) (check-head-at t) check-head.Post check-head-Inv-loop check-head-μ-loop
@@ -1087,8 +1185,6 @@ check-head-loop-holds : (t : ℕ) → check-head-lts.Need-loop-holds (
   target-of-reads.Learnt,
   end-of-reads.Asked,
   end-of-reads.Learnt,
-  known-reads.Asked,
-  known-reads.Learnt,
   check-term-below t,
   check-term.Post,
 ) (check-head-at t) check-head.Post check-head-Inv-loop check-head-μ-loop
@@ -1107,8 +1203,6 @@ check-head-target-of-requires : (t : ℕ) → check-head-lts.Need-target-of-requ
   target-of-reads.Learnt,
   end-of-reads.Asked,
   end-of-reads.Learnt,
-  known-reads.Asked,
-  known-reads.Learnt,
   check-term-below t,
   check-term.Post,
 ) (check-head-at t) check-head.Post check-head-Inv-loop check-head-μ-loop
@@ -1127,8 +1221,6 @@ check-head-same-length : (t : ℕ) → check-head-lts.Need-same-length (
   target-of-reads.Learnt,
   end-of-reads.Asked,
   end-of-reads.Learnt,
-  known-reads.Asked,
-  known-reads.Learnt,
   check-term-below t,
   check-term.Post,
 ) (check-head-at t) check-head.Post check-head-Inv-loop check-head-μ-loop
@@ -1147,8 +1239,6 @@ check-head-returns-7 : (t : ℕ) → check-head-lts.Need-returns-7 (
   target-of-reads.Learnt,
   end-of-reads.Asked,
   end-of-reads.Learnt,
-  known-reads.Asked,
-  known-reads.Learnt,
   check-term-below t,
   check-term.Post,
 ) (check-head-at t) check-head.Post check-head-Inv-loop check-head-μ-loop
@@ -1167,8 +1257,6 @@ check-head-element-copy-out-end-of : (t : ℕ) → check-head-lts.Need-element-c
   target-of-reads.Learnt,
   end-of-reads.Asked,
   end-of-reads.Learnt,
-  known-reads.Asked,
-  known-reads.Learnt,
   check-term-below t,
   check-term.Post,
 ) (check-head-at t) check-head.Post check-head-Inv-loop check-head-μ-loop
@@ -1187,8 +1275,6 @@ check-head-end-of-requires : (t : ℕ) → check-head-lts.Need-end-of-requires (
   target-of-reads.Learnt,
   end-of-reads.Asked,
   end-of-reads.Learnt,
-  known-reads.Asked,
-  known-reads.Learnt,
   check-term-below t,
   check-term.Post,
 ) (check-head-at t) check-head.Post check-head-Inv-loop check-head-μ-loop
@@ -1207,8 +1293,6 @@ check-head-same-length-2 : (t : ℕ) → check-head-lts.Need-same-length-2 (
   target-of-reads.Learnt,
   end-of-reads.Asked,
   end-of-reads.Learnt,
-  known-reads.Asked,
-  known-reads.Learnt,
   check-term-below t,
   check-term.Post,
 ) (check-head-at t) check-head.Post check-head-Inv-loop check-head-μ-loop
@@ -1227,8 +1311,6 @@ check-head-returns-8 : (t : ℕ) → check-head-lts.Need-returns-8 (
   target-of-reads.Learnt,
   end-of-reads.Asked,
   end-of-reads.Learnt,
-  known-reads.Asked,
-  known-reads.Learnt,
   check-term-below t,
   check-term.Post,
 ) (check-head-at t) check-head.Post check-head-Inv-loop check-head-μ-loop
@@ -1247,112 +1329,10 @@ check-head-add-i : (t : ℕ) → check-head-lts.Need-add-i (
   target-of-reads.Learnt,
   end-of-reads.Asked,
   end-of-reads.Learnt,
-  known-reads.Asked,
-  known-reads.Learnt,
   check-term-below t,
   check-term.Post,
 ) (check-head-at t) check-head.Post check-head-Inv-loop check-head-μ-loop
 check-head-add-i t c = let h = c .before .before .before .before .before .before .loop-test .taken in omega arith
-
-check-head-add-known : (t : ℕ) → check-head-lts.Need-add-known (
-  arity-of-reads.Asked,
-  arity-of-reads.Learnt,
-  state-at-reads.Asked,
-  state-at-reads.Learnt,
-  row-in-reads.Asked,
-  row-in-reads.Learnt,
-  row-serves-reads.Asked,
-  row-serves-reads.Learnt,
-  target-of-reads.Asked,
-  target-of-reads.Learnt,
-  end-of-reads.Asked,
-  end-of-reads.Learnt,
-  known-reads.Asked,
-  known-reads.Learnt,
-  check-term-below t,
-  check-term.Post,
-) (check-head-at t) check-head.Post check-head-Inv-loop check-head-μ-loop
-check-head-add-known t c = let h = c .before .before .before .before .before .before .before .before .before .before .before .before .before .before .before .before .before .before .before .before .before .before .before .if1 .left in omega arith
-
-check-head-element-copy-out-known : (t : ℕ) → check-head-lts.Need-element-copy-out-known (
-  arity-of-reads.Asked,
-  arity-of-reads.Learnt,
-  state-at-reads.Asked,
-  state-at-reads.Learnt,
-  row-in-reads.Asked,
-  row-in-reads.Learnt,
-  row-serves-reads.Asked,
-  row-serves-reads.Learnt,
-  target-of-reads.Asked,
-  target-of-reads.Learnt,
-  end-of-reads.Asked,
-  end-of-reads.Learnt,
-  known-reads.Asked,
-  known-reads.Learnt,
-  check-term-below t,
-  check-term.Post,
-) (check-head-at t) check-head.Post check-head-Inv-loop check-head-μ-loop
-check-head-element-copy-out-known t c = search needs
-
-check-head-known-requires : (t : ℕ) → check-head-lts.Need-known-requires (
-  arity-of-reads.Asked,
-  arity-of-reads.Learnt,
-  state-at-reads.Asked,
-  state-at-reads.Learnt,
-  row-in-reads.Asked,
-  row-in-reads.Learnt,
-  row-serves-reads.Asked,
-  row-serves-reads.Learnt,
-  target-of-reads.Asked,
-  target-of-reads.Learnt,
-  end-of-reads.Asked,
-  end-of-reads.Learnt,
-  known-reads.Asked,
-  known-reads.Learnt,
-  check-term-below t,
-  check-term.Post,
-) (check-head-at t) check-head.Post check-head-Inv-loop check-head-μ-loop
-check-head-known-requires t c κs = search needs
-
-check-head-same-length-3 : (t : ℕ) → check-head-lts.Need-same-length-3 (
-  arity-of-reads.Asked,
-  arity-of-reads.Learnt,
-  state-at-reads.Asked,
-  state-at-reads.Learnt,
-  row-in-reads.Asked,
-  row-in-reads.Learnt,
-  row-serves-reads.Asked,
-  row-serves-reads.Learnt,
-  target-of-reads.Asked,
-  target-of-reads.Learnt,
-  end-of-reads.Asked,
-  end-of-reads.Learnt,
-  known-reads.Asked,
-  known-reads.Learnt,
-  check-term-below t,
-  check-term.Post,
-) (check-head-at t) check-head.Post check-head-Inv-loop check-head-μ-loop
-check-head-same-length-3 t c = c .before .before .before .before .before .before .before .before .before .before .before .loop .inv .keeps .long
-
-check-head-returns-9 : (t : ℕ) → check-head-lts.Need-returns-9 (
-  arity-of-reads.Asked,
-  arity-of-reads.Learnt,
-  state-at-reads.Asked,
-  state-at-reads.Learnt,
-  row-in-reads.Asked,
-  row-in-reads.Learnt,
-  row-serves-reads.Asked,
-  row-serves-reads.Learnt,
-  target-of-reads.Asked,
-  target-of-reads.Learnt,
-  end-of-reads.Asked,
-  end-of-reads.Learnt,
-  known-reads.Asked,
-  known-reads.Learnt,
-  check-term-below t,
-  check-term.Post,
-) (check-head-at t) check-head.Post check-head-Inv-loop check-head-μ-loop
-check-head-returns-9 t c = λ z p. targets-told _ _ _ _ _ _ _ (p .number-is) (p .count-is) (c .before .before .before .before .before .before .before .before .before .before .before .before .before .before .before .before .before .before .before .state-at .ensures _ _ (c .before .before .before .before .before .before .before .before .before .before .before .before .before .before .before .before .before .before .before .before .before .arity-of .ensures)) _ (p .tag-is) z (let h = c .before .before .before .before .before .before .before .before .before .before .before .before .before .before .before .before .before .before .if4 .left in omega arith) (let h = c .before .before .before .before .before .before .before .before .before .before .before .before .before .before .before .before .before .if5 .left in omega arith) _ (c .before .before .before .before .before .before .before .before .before .before .before .before .before .before .before .row-in .ensures) _ (c .before .before .before .before .before .before .before .before .before .before .before .before .before .row-serves .ensures _ _ (c .before .before .before .before .before .before .before .before .before .before .before .before .before .before .before .before .before .before .before .before .before .arity-of .ensures)) (not-false _ (c .before .before .before .before .before .before .before .before .before .before .before .before .if6 .left)) _ (p .first-is) _ _ (target-lacks _ (c .before .before .before .before .before .before .before .before .before .before .before .loop .inv) (c .before .before .before .before .before .before .before .before .before .before .loop-test .taken) _ (c .before .before .before .before .before .before .before .before .before .target-of .ensures) (c .before .before .before .before .before .before .before .before .if7 .left) _ _ (known-no _ _ _ _ _ (c .before .known .ensures) (c .if9 .taken)) refl)
 
 check-head-check-term-requires : (t : ℕ) → check-head-lts.Need-check-term-requires (
   arity-of-reads.Asked,
@@ -1367,14 +1347,12 @@ check-head-check-term-requires : (t : ℕ) → check-head-lts.Need-check-term-re
   target-of-reads.Learnt,
   end-of-reads.Asked,
   end-of-reads.Learnt,
-  known-reads.Asked,
-  known-reads.Learnt,
   check-term-below t,
   check-term.Post,
 ) (check-head-at t) check-head.Post check-head-Inv-loop check-head-μ-loop
-check-head-check-term-requires t c κs = let p = c .before .before .before .before .before .before .before .before .before .before .before .before .before .before .before .before .before .before .before .before .before .before .before .before .before .before .before .before .before .before .before .before .pre .0 in let f = c .before .before .before .before .before .before .before .before .before .before .before .before .before .loop .inv .forward in let h = c .before .before .before .before .before .before .before .before .before .before .before .before .before .before .before .before .before .before .before .before .before .before .before .before .before .if3 .left in let g = c .before .before .before .before .before .before .before .before .before .before .before .before .before .before .before .before .before .before .before .before .before .before .before .before .before .before .before .before .before .before .before .before .fits .at in (omega arith, Prim.tt)
+check-head-check-term-requires t c κs = let p = c .before .before .before .before .before .before .before .before .before .before .before .before .before .before .before .before .before .before .before .before .before .before .before .before .before .before .before .pre .0 in let f = c .before .before .before .before .before .before .before .before .loop .inv .forward in let h = c .before .before .before .before .before .before .before .before .before .before .before .before .before .before .before .before .before .before .before .before .if3 .left in let g = c .before .before .before .before .before .before .before .before .before .before .before .before .before .before .before .before .before .before .before .before .before .before .before .before .before .before .before .fits .at in (omega arith, Prim.tt)
 
-check-head-same-length-4 : (t : ℕ) → check-head-lts.Need-same-length-4 (
+check-head-same-length-3 : (t : ℕ) → check-head-lts.Need-same-length-3 (
   arity-of-reads.Asked,
   arity-of-reads.Learnt,
   state-at-reads.Asked,
@@ -1387,14 +1365,12 @@ check-head-same-length-4 : (t : ℕ) → check-head-lts.Need-same-length-4 (
   target-of-reads.Learnt,
   end-of-reads.Asked,
   end-of-reads.Learnt,
-  known-reads.Asked,
-  known-reads.Learnt,
   check-term-below t,
   check-term.Post,
 ) (check-head-at t) check-head.Post check-head-Inv-loop check-head-μ-loop
-check-head-same-length-4 t c = c .before .before .before .check-term .ensures .keeps .long ∙ c .before .before .before .before .before .before .before .before .before .before .before .before .before .before .before .before .before .loop .inv .keeps .long
+check-head-same-length-3 t c = c .before .before .before .check-term .ensures .keeps .long ∙ c .before .before .before .before .before .before .before .before .before .before .before .before .loop .inv .keeps .long
 
-check-head-returns-10 : (t : ℕ) → check-head-lts.Need-returns-10 (
+check-head-returns-9 : (t : ℕ) → check-head-lts.Need-returns-9 (
   arity-of-reads.Asked,
   arity-of-reads.Learnt,
   state-at-reads.Asked,
@@ -1407,12 +1383,10 @@ check-head-returns-10 : (t : ℕ) → check-head-lts.Need-returns-10 (
   target-of-reads.Learnt,
   end-of-reads.Asked,
   end-of-reads.Learnt,
-  known-reads.Asked,
-  known-reads.Learnt,
   check-term-below t,
   check-term.Post,
 ) (check-head-at t) check-head.Post check-head-Inv-loop check-head-μ-loop
-check-head-returns-10 t c = λ z p. targets-told _ _ _ _ _ _ _ (p .number-is) (p .count-is) (c .before .before .before .before .before .before .before .before .before .before .before .before .before .before .before .before .before .before .before .before .before .before .before .before .before .state-at .ensures _ _ (c .before .before .before .before .before .before .before .before .before .before .before .before .before .before .before .before .before .before .before .before .before .before .before .before .before .before .before .arity-of .ensures)) _ (p .tag-is) z (let h = c .before .before .before .before .before .before .before .before .before .before .before .before .before .before .before .before .before .before .before .before .before .before .before .before .if4 .left in omega arith) (let h = c .before .before .before .before .before .before .before .before .before .before .before .before .before .before .before .before .before .before .before .before .before .before .before .if5 .left in omega arith) _ (c .before .before .before .before .before .before .before .before .before .before .before .before .before .before .before .before .before .before .before .before .before .row-in .ensures) _ (c .before .before .before .before .before .before .before .before .before .before .before .before .before .before .before .before .before .before .before .row-serves .ensures _ _ (c .before .before .before .before .before .before .before .before .before .before .before .before .before .before .before .before .before .before .before .before .before .before .before .before .before .before .before .arity-of .ensures)) (not-false _ (c .before .before .before .before .before .before .before .before .before .before .before .before .before .before .before .before .before .before .if6 .left)) _ (p .first-is) _ _ (target-lacks _ (c .before .before .before .before .before .before .before .before .before .before .before .before .before .before .before .before .before .loop .inv) (c .before .before .before .before .before .before .before .before .before .before .before .before .before .before .before .before .loop-test .taken) _ (c .before .before .before .before .before .before .before .before .before .before .before .before .before .before .before .target-of .ensures) (c .before .before .before .before .before .before .before .before .before .before .before .before .before .before .if7 .left) _ _ (c .before .before .before .check-term .ensures) (not-true _ (c .if11 .taken)))
+check-head-returns-9 t c = λ z p. targets-told _ _ _ _ _ _ _ (p .number-is) (p .count-is) (c .before .before .before .before .before .before .before .before .before .before .before .before .before .before .before .before .before .before .before .before .state-at .ensures _ _ (c .before .before .before .before .before .before .before .before .before .before .before .before .before .before .before .before .before .before .before .before .before .before .arity-of .ensures)) _ (p .tag-is) z (let h = c .before .before .before .before .before .before .before .before .before .before .before .before .before .before .before .before .before .before .before .if4 .left in omega arith) (let h = c .before .before .before .before .before .before .before .before .before .before .before .before .before .before .before .before .before .before .if5 .left in omega arith) _ (c .before .before .before .before .before .before .before .before .before .before .before .before .before .before .before .before .row-in .ensures) _ (c .before .before .before .before .before .before .before .before .before .before .before .before .before .before .row-serves .ensures _ _ (c .before .before .before .before .before .before .before .before .before .before .before .before .before .before .before .before .before .before .before .before .before .before .arity-of .ensures)) (not-false _ (c .before .before .before .before .before .before .before .before .before .before .before .before .before .if6 .left)) _ (p .first-is) _ _ (target-lacks _ (c .before .before .before .before .before .before .before .before .before .before .before .before .loop .inv) (c .before .before .before .before .before .before .before .before .before .before .before .loop-test .taken) _ (c .before .before .before .before .before .before .before .before .before .before .target-of .ensures) (c .before .before .before .before .before .before .before .before .before .if7 .left) _ _ (c .before .before .before .check-term .ensures) (not-true _ (c .if9 .taken)))
 
 check-head-loop-less : (t : ℕ) → check-head-lts.Need-loop-less (
   arity-of-reads.Asked,
@@ -1427,12 +1401,10 @@ check-head-loop-less : (t : ℕ) → check-head-lts.Need-loop-less (
   target-of-reads.Learnt,
   end-of-reads.Asked,
   end-of-reads.Learnt,
-  known-reads.Asked,
-  known-reads.Learnt,
   check-term-below t,
   check-term.Post,
 ) (check-head-at t) check-head.Post check-head-Inv-loop check-head-μ-loop
-check-head-loop-less t c = let h = c .before .before .before .before .before .before .before .before .before .before .before .before .before .before .before .before .loop-test .taken in omega arith
+check-head-loop-less t c = let h = c .before .before .before .before .before .before .before .before .before .before .before .loop-test .taken in omega arith
 
 check-head-loop-again : (t : ℕ) → check-head-lts.Need-loop-again (
   arity-of-reads.Asked,
@@ -1447,14 +1419,12 @@ check-head-loop-again : (t : ℕ) → check-head-lts.Need-loop-again (
   target-of-reads.Learnt,
   end-of-reads.Asked,
   end-of-reads.Learnt,
-  known-reads.Asked,
-  known-reads.Learnt,
   check-term-below t,
   check-term.Post,
 ) (check-head-at t) check-head.Post check-head-Inv-loop check-head-μ-loop
-check-head-loop-again t c = target-has _ (c .before .before .before .before .before .before .before .before .before .before .before .before .before .before .before .before .before .loop .inv) (c .before .before .before .before .before .before .before .before .before .before .before .before .before .before .before .before .loop-test .taken) _ (c .before .before .before .before .before .before .before .before .before .before .before .before .before .before .before .target-of .ensures) (c .before .before .before .before .before .before .before .before .before .before .before .before .before .before .if7 .left) _ _ (c .before .before .before .check-term .ensures) (not-false _ (c .if11 .left)) _ _ (c .before .before .before .before .before .before .before .before .before .before .before .end-of .ensures) (let h = c .before .before .before .before .before .before .before .before .before .before .if8 .left in omega arith) (omega arith)
+check-head-loop-again t c = target-has _ (c .before .before .before .before .before .before .before .before .before .before .before .before .loop .inv) (c .before .before .before .before .before .before .before .before .before .before .before .loop-test .taken) _ (c .before .before .before .before .before .before .before .before .before .before .target-of .ensures) (c .before .before .before .before .before .before .before .before .before .if7 .left) _ _ (c .before .before .before .check-term .ensures) (not-false _ (c .if9 .left)) _ _ (c .before .before .before .before .before .before .end-of .ensures) (let h = c .before .before .before .before .before .if8 .left in omega arith) (omega arith)
 
-check-head-loop-less-2 : (t : ℕ) → check-head-lts.Need-loop-less-2 (
+check-head-same-length-4 : (t : ℕ) → check-head-lts.Need-same-length-4 (
   arity-of-reads.Asked,
   arity-of-reads.Learnt,
   state-at-reads.Asked,
@@ -1467,14 +1437,12 @@ check-head-loop-less-2 : (t : ℕ) → check-head-lts.Need-loop-less-2 (
   target-of-reads.Learnt,
   end-of-reads.Asked,
   end-of-reads.Learnt,
-  known-reads.Asked,
-  known-reads.Learnt,
   check-term-below t,
   check-term.Post,
 ) (check-head-at t) check-head.Post check-head-Inv-loop check-head-μ-loop
-check-head-loop-less-2 t c = let h = c .before .before .before .before .before .before .before .before .before .before .before .loop-test .taken in omega arith
+check-head-same-length-4 t c = c .before .loop .inv .keeps .long
 
-check-head-loop-again-2 : (t : ℕ) → check-head-lts.Need-loop-again-2 (
+check-head-returns-10 : (t : ℕ) → check-head-lts.Need-returns-10 (
   arity-of-reads.Asked,
   arity-of-reads.Learnt,
   state-at-reads.Asked,
@@ -1487,60 +1455,16 @@ check-head-loop-again-2 : (t : ℕ) → check-head-lts.Need-loop-again-2 (
   target-of-reads.Learnt,
   end-of-reads.Asked,
   end-of-reads.Learnt,
-  known-reads.Asked,
-  known-reads.Learnt,
   check-term-below t,
   check-term.Post,
 ) (check-head-at t) check-head.Post check-head-Inv-loop check-head-μ-loop
-check-head-loop-again-2 t c = target-has _ (c .before .before .before .before .before .before .before .before .before .before .before .before .loop .inv) (c .before .before .before .before .before .before .before .before .before .before .before .loop-test .taken) _ (c .before .before .before .before .before .before .before .before .before .before .target-of .ensures) (c .before .before .before .before .before .before .before .before .before .if7 .left) _ _ (known-yes _ _ _ _ _ (c .before .before .known .ensures) (c .if10 .left)) refl _ _ (c .before .before .before .before .before .before .end-of .ensures) (let h = c .before .before .before .before .before .if8 .left in omega arith) (omega arith)
-
-check-head-same-length-5 : (t : ℕ) → check-head-lts.Need-same-length-5 (
-  arity-of-reads.Asked,
-  arity-of-reads.Learnt,
-  state-at-reads.Asked,
-  state-at-reads.Learnt,
-  row-in-reads.Asked,
-  row-in-reads.Learnt,
-  row-serves-reads.Asked,
-  row-serves-reads.Learnt,
-  target-of-reads.Asked,
-  target-of-reads.Learnt,
-  end-of-reads.Asked,
-  end-of-reads.Learnt,
-  known-reads.Asked,
-  known-reads.Learnt,
-  check-term-below t,
-  check-term.Post,
-) (check-head-at t) check-head.Post check-head-Inv-loop check-head-μ-loop
-check-head-same-length-5 t c = c .before .loop .inv .keeps .long
-
-check-head-returns-11 : (t : ℕ) → check-head-lts.Need-returns-11 (
-  arity-of-reads.Asked,
-  arity-of-reads.Learnt,
-  state-at-reads.Asked,
-  state-at-reads.Learnt,
-  row-in-reads.Asked,
-  row-in-reads.Learnt,
-  row-serves-reads.Asked,
-  row-serves-reads.Learnt,
-  target-of-reads.Asked,
-  target-of-reads.Learnt,
-  end-of-reads.Asked,
-  end-of-reads.Learnt,
-  known-reads.Asked,
-  known-reads.Learnt,
-  check-term-below t,
-  check-term.Post,
-) (check-head-at t) check-head.Post check-head-Inv-loop check-head-μ-loop
-check-head-returns-11 t c = λ z p. targets-told _ _ _ _ _ _ _ (p .number-is) (p .count-is) (c .before .before .before .before .before .before .before .before .before .state-at .ensures _ _ (c .before .before .before .before .before .before .before .before .before .before .before .arity-of .ensures)) _ (p .tag-is) z (let h = c .before .before .before .before .before .before .before .before .if4 .left in omega arith) (let h = c .before .before .before .before .before .before .before .if5 .left in omega arith) _ (c .before .before .before .before .before .row-in .ensures) _ (c .before .before .before .row-serves .ensures _ _ (c .before .before .before .before .before .before .before .before .before .before .before .arity-of .ensures)) (not-false _ (c .before .before .if6 .left)) _ (p .first-is) _ _ (args-end _ (c .before .loop .inv) (c .loop-test .left))
+check-head-returns-10 t c = λ z p. targets-told _ _ _ _ _ _ _ (p .number-is) (p .count-is) (c .before .before .before .before .before .before .before .before .before .state-at .ensures _ _ (c .before .before .before .before .before .before .before .before .before .before .before .arity-of .ensures)) _ (p .tag-is) z (let h = c .before .before .before .before .before .before .before .before .if4 .left in omega arith) (let h = c .before .before .before .before .before .before .before .if5 .left in omega arith) _ (c .before .before .before .before .before .row-in .ensures) _ (c .before .before .before .row-serves .ensures _ _ (c .before .before .before .before .before .before .before .before .before .before .before .arity-of .ensures)) (not-false _ (c .before .before .if6 .left)) _ (p .first-is) _ _ (args-end _ (c .before .loop .inv) (c .loop-test .left))
 
 check-term-element-copy-out-types : (t : ℕ) → check-term-lts.Need-element-copy-out-types (
   node-at-reads.Asked,
   node-at-reads.Learnt,
   check-head-below t,
   check-head.Post,
-  learn-reads.Asked,
-  learn-reads.Learnt,
   bare-has-reads.Asked,
   bare-has-reads.Learnt,
   check-choices-below t,
@@ -1553,8 +1477,6 @@ check-term-returns : (t : ℕ) → check-term-lts.Need-returns (
   node-at-reads.Learnt,
   check-head-below t,
   check-head.Post,
-  learn-reads.Asked,
-  learn-reads.Learnt,
   bare-has-reads.Asked,
   bare-has-reads.Learnt,
   check-choices-below t,
@@ -1567,8 +1489,6 @@ check-term-element-copy-out-node-at : (t : ℕ) → check-term-lts.Need-element-
   node-at-reads.Learnt,
   check-head-below t,
   check-head.Post,
-  learn-reads.Asked,
-  learn-reads.Learnt,
   bare-has-reads.Asked,
   bare-has-reads.Learnt,
   check-choices-below t,
@@ -1581,8 +1501,6 @@ check-term-element-copy-out-node-at-2 : (t : ℕ) → check-term-lts.Need-elemen
   node-at-reads.Learnt,
   check-head-below t,
   check-head.Post,
-  learn-reads.Asked,
-  learn-reads.Learnt,
   bare-has-reads.Asked,
   bare-has-reads.Learnt,
   check-choices-below t,
@@ -1595,8 +1513,6 @@ check-term-node-at-requires : (t : ℕ) → check-term-lts.Need-node-at-requires
   node-at-reads.Learnt,
   check-head-below t,
   check-head.Post,
-  learn-reads.Asked,
-  learn-reads.Learnt,
   bare-has-reads.Asked,
   bare-has-reads.Learnt,
   check-choices-below t,
@@ -1609,8 +1525,6 @@ check-term-returns-2 : (t : ℕ) → check-term-lts.Need-returns-2 (
   node-at-reads.Learnt,
   check-head-below t,
   check-head.Post,
-  learn-reads.Asked,
-  learn-reads.Learnt,
   bare-has-reads.Asked,
   bare-has-reads.Learnt,
   check-choices-below t,
@@ -1623,8 +1537,6 @@ check-term-check-head-requires : (t : ℕ) → check-term-lts.Need-check-head-re
   node-at-reads.Learnt,
   check-head-below t,
   check-head.Post,
-  learn-reads.Asked,
-  learn-reads.Learnt,
   bare-has-reads.Asked,
   bare-has-reads.Learnt,
   check-choices-below t,
@@ -1637,106 +1549,30 @@ check-term-same-length : (t : ℕ) → check-term-lts.Need-same-length (
   node-at-reads.Learnt,
   check-head-below t,
   check-head.Post,
-  learn-reads.Asked,
-  learn-reads.Learnt,
   bare-has-reads.Asked,
   bare-has-reads.Learnt,
   check-choices-below t,
   check-choices.Post,
 ) (check-term-at t) check-term.Post
-check-term-same-length t c = (c .before .before .before .before .check-head .ensures (c .before .before .before .before .before .before .if3 .taken) (c .before .before .before .before .before .before .before .before .before .before .node-at .ensures .placed (not-false _ (c .before .before .before .before .before .before .before .before .if2 .left)))) .keeps .long
+check-term-same-length t c = (c .before .before .check-head .ensures (c .before .before .before .before .if3 .taken) (c .before .before .before .before .before .before .before .before .node-at .ensures .placed (not-false _ (c .before .before .before .before .before .before .if2 .left)))) .keeps .long
 
 check-term-returns-3 : (t : ℕ) → check-term-lts.Need-returns-3 (
   node-at-reads.Asked,
   node-at-reads.Learnt,
   check-head-below t,
   check-head.Post,
-  learn-reads.Asked,
-  learn-reads.Learnt,
   bare-has-reads.Asked,
   bare-has-reads.Learnt,
   check-choices-below t,
   check-choices.Post,
 ) (check-term-at t) check-term.Post
-check-term-returns-3 t c = c .before .before .before .before .check-head .ensures (c .before .before .before .before .before .before .if3 .taken) (c .before .before .before .before .before .before .before .before .before .before .node-at .ensures .placed (not-false _ (c .before .before .before .before .before .before .before .before .if2 .left)))
-
-check-term-add-learn : (t : ℕ) → check-term-lts.Need-add-learn (
-  node-at-reads.Asked,
-  node-at-reads.Learnt,
-  check-head-below t,
-  check-head.Post,
-  learn-reads.Asked,
-  learn-reads.Learnt,
-  bare-has-reads.Asked,
-  bare-has-reads.Learnt,
-  check-choices-below t,
-  check-choices.Post,
-) (check-term-at t) check-term.Post
-check-term-add-learn t c = search needs
-
-check-term-element-copy-out-learn : (t : ℕ) → check-term-lts.Need-element-copy-out-learn (
-  node-at-reads.Asked,
-  node-at-reads.Learnt,
-  check-head-below t,
-  check-head.Post,
-  learn-reads.Asked,
-  learn-reads.Learnt,
-  bare-has-reads.Asked,
-  bare-has-reads.Learnt,
-  check-choices-below t,
-  check-choices.Post,
-) (check-term-at t) check-term.Post
-check-term-element-copy-out-learn t c = search needs
-
-check-term-learn-requires : (t : ℕ) → check-term-lts.Need-learn-requires (
-  node-at-reads.Asked,
-  node-at-reads.Learnt,
-  check-head-below t,
-  check-head.Post,
-  learn-reads.Asked,
-  learn-reads.Learnt,
-  bare-has-reads.Asked,
-  bare-has-reads.Learnt,
-  check-choices-below t,
-  check-choices.Post,
-) (check-term-at t) check-term.Post
-check-term-learn-requires t c κs = search needs
-
-check-term-same-length-2 : (t : ℕ) → check-term-lts.Need-same-length-2 (
-  node-at-reads.Asked,
-  node-at-reads.Learnt,
-  check-head-below t,
-  check-head.Post,
-  learn-reads.Asked,
-  learn-reads.Learnt,
-  bare-has-reads.Asked,
-  bare-has-reads.Learnt,
-  check-choices-below t,
-  check-choices.Post,
-) (check-term-at t) check-term.Post
-check-term-same-length-2 t c = (term-learnt _ _ _ _ _ _ (c .before .before .before .before .before .before .before .before .before .check-head .ensures (c .before .before .before .before .before .before .before .before .before .before .before .if3 .taken) (c .before .before .before .before .before .before .before .before .before .before .before .before .before .before .before .node-at .ensures .placed (not-false _ (c .before .before .before .before .before .before .before .before .before .before .before .before .before .if2 .left)))) _ (c .before .before .learn .ensures)) .keeps .long
-
-check-term-returns-4 : (t : ℕ) → check-term-lts.Need-returns-4 (
-  node-at-reads.Asked,
-  node-at-reads.Learnt,
-  check-head-below t,
-  check-head.Post,
-  learn-reads.Asked,
-  learn-reads.Learnt,
-  bare-has-reads.Asked,
-  bare-has-reads.Learnt,
-  check-choices-below t,
-  check-choices.Post,
-) (check-term-at t) check-term.Post
-check-term-returns-4 t c = term-learnt _ _ _ _ _ _ (c .before .before .before .before .before .before .before .before .before .check-head .ensures (c .before .before .before .before .before .before .before .before .before .before .before .if3 .taken) (c .before .before .before .before .before .before .before .before .before .before .before .before .before .before .before .node-at .ensures .placed (not-false _ (c .before .before .before .before .before .before .before .before .before .before .before .before .before .if2 .left)))) _ (c .before .before .learn .ensures)
+check-term-returns-3 t c = c .before .before .check-head .ensures (c .before .before .before .before .if3 .taken) (c .before .before .before .before .before .before .before .before .node-at .ensures .placed (not-false _ (c .before .before .before .before .before .before .if2 .left)))
 
 check-term-element-copy-out-own : (t : ℕ) → check-term-lts.Need-element-copy-out-own (
   node-at-reads.Asked,
   node-at-reads.Learnt,
   check-head-below t,
   check-head.Post,
-  learn-reads.Asked,
-  learn-reads.Learnt,
   bare-has-reads.Asked,
   bare-has-reads.Learnt,
   check-choices-below t,
@@ -1749,8 +1585,6 @@ check-term-bare-has-requires : (t : ℕ) → check-term-lts.Need-bare-has-requir
   node-at-reads.Learnt,
   check-head-below t,
   check-head.Post,
-  learn-reads.Asked,
-  learn-reads.Learnt,
   bare-has-reads.Asked,
   bare-has-reads.Learnt,
   check-choices-below t,
@@ -1758,27 +1592,23 @@ check-term-bare-has-requires : (t : ℕ) → check-term-lts.Need-bare-has-requir
 ) (check-term-at t) check-term.Post
 check-term-bare-has-requires t c κs = search needs
 
-check-term-returns-5 : (t : ℕ) → check-term-lts.Need-returns-5 (
+check-term-returns-4 : (t : ℕ) → check-term-lts.Need-returns-4 (
   node-at-reads.Asked,
   node-at-reads.Learnt,
   check-head-below t,
   check-head.Post,
-  learn-reads.Asked,
-  learn-reads.Learnt,
   bare-has-reads.Asked,
   bare-has-reads.Learnt,
   check-choices-below t,
   check-choices.Post,
 ) (check-term-at t) check-term.Post
-check-term-returns-5 t c = bare-checked _ _ _ _ _ _ _ (placed-head _ _ _ (c .before .before .before .before .before .if3 .left) (c .before .before .before .before .before .before .before .before .before .node-at .ensures .placed (not-false _ (c .before .before .before .before .before .before .before .if2 .left)))) (c .before .before .before .before .before .before .before .before .before .node-at .ensures .placed (not-false _ (c .before .before .before .before .before .before .before .if2 .left)) .count-is) (c .before .before .before .if5 .taken) (c .before .before .before .before .before .before .before .before .before .node-at .ensures .placed (not-false _ (c .before .before .before .before .before .before .before .if2 .left)) .inside) _ (c .bare-has .ensures)
+check-term-returns-4 t c = bare-checked _ _ _ _ _ _ _ (placed-head _ _ _ (c .before .before .before .before .before .if3 .left) (c .before .before .before .before .before .before .before .before .before .node-at .ensures .placed (not-false _ (c .before .before .before .before .before .before .before .if2 .left)))) (c .before .before .before .before .before .before .before .before .before .node-at .ensures .placed (not-false _ (c .before .before .before .before .before .before .before .if2 .left)) .count-is) (c .before .before .before .if4 .taken) (c .before .before .before .before .before .before .before .before .before .node-at .ensures .placed (not-false _ (c .before .before .before .before .before .before .before .if2 .left)) .inside) _ (c .bare-has .ensures)
 
 check-term-check-choices-requires : (t : ℕ) → check-term-lts.Need-check-choices-requires (
   node-at-reads.Asked,
   node-at-reads.Learnt,
   check-head-below t,
   check-head.Post,
-  learn-reads.Asked,
-  learn-reads.Learnt,
   bare-has-reads.Asked,
   bare-has-reads.Learnt,
   check-choices-below t,
@@ -1786,75 +1616,29 @@ check-term-check-choices-requires : (t : ℕ) → check-term-lts.Need-check-choi
 ) (check-term-at t) check-term.Post
 check-term-check-choices-requires t c κs = let p = c .before .before .before .before .before .before .before .before .before .before .before .before .before .before .pre .0 in (omega arith, Prim.tt)
 
-check-term-add-learn-2 : (t : ℕ) → check-term-lts.Need-add-learn-2 (
+check-term-same-length-2 : (t : ℕ) → check-term-lts.Need-same-length-2 (
   node-at-reads.Asked,
   node-at-reads.Learnt,
   check-head-below t,
   check-head.Post,
-  learn-reads.Asked,
-  learn-reads.Learnt,
   bare-has-reads.Asked,
   bare-has-reads.Learnt,
   check-choices-below t,
   check-choices.Post,
 ) (check-term-at t) check-term.Post
-check-term-add-learn-2 t c = search needs
+check-term-same-length-2 t c = (c .before .before .check-choices .ensures (c .before .before .before .before .before .before .if3 .left) (c .before .before .before .before .before .before .before .before .before .before .node-at .ensures .placed (not-false _ (c .before .before .before .before .before .before .before .before .if2 .left)))) .keeps .long
 
-check-term-element-copy-out-learn-2 : (t : ℕ) → check-term-lts.Need-element-copy-out-learn-2 (
+check-term-returns-5 : (t : ℕ) → check-term-lts.Need-returns-5 (
   node-at-reads.Asked,
   node-at-reads.Learnt,
   check-head-below t,
   check-head.Post,
-  learn-reads.Asked,
-  learn-reads.Learnt,
   bare-has-reads.Asked,
   bare-has-reads.Learnt,
   check-choices-below t,
   check-choices.Post,
 ) (check-term-at t) check-term.Post
-check-term-element-copy-out-learn-2 t c = search needs
-
-check-term-learn-requires-2 : (t : ℕ) → check-term-lts.Need-learn-requires-2 (
-  node-at-reads.Asked,
-  node-at-reads.Learnt,
-  check-head-below t,
-  check-head.Post,
-  learn-reads.Asked,
-  learn-reads.Learnt,
-  bare-has-reads.Asked,
-  bare-has-reads.Learnt,
-  check-choices-below t,
-  check-choices.Post,
-) (check-term-at t) check-term.Post
-check-term-learn-requires-2 t c κs = search needs
-
-check-term-same-length-3 : (t : ℕ) → check-term-lts.Need-same-length-3 (
-  node-at-reads.Asked,
-  node-at-reads.Learnt,
-  check-head-below t,
-  check-head.Post,
-  learn-reads.Asked,
-  learn-reads.Learnt,
-  bare-has-reads.Asked,
-  bare-has-reads.Learnt,
-  check-choices-below t,
-  check-choices.Post,
-) (check-term-at t) check-term.Post
-check-term-same-length-3 t c = (term-learnt _ _ _ _ _ _ (c .before .before .before .before .before .before .before .check-choices .ensures (c .before .before .before .before .before .before .before .before .before .before .before .if3 .left) (c .before .before .before .before .before .before .before .before .before .before .before .before .before .before .before .node-at .ensures .placed (not-false _ (c .before .before .before .before .before .before .before .before .before .before .before .before .before .if2 .left)))) _ (c .before .before .learn2 .ensures)) .keeps .long
-
-check-term-returns-6 : (t : ℕ) → check-term-lts.Need-returns-6 (
-  node-at-reads.Asked,
-  node-at-reads.Learnt,
-  check-head-below t,
-  check-head.Post,
-  learn-reads.Asked,
-  learn-reads.Learnt,
-  bare-has-reads.Asked,
-  bare-has-reads.Learnt,
-  check-choices-below t,
-  check-choices.Post,
-) (check-term-at t) check-term.Post
-check-term-returns-6 t c = term-learnt _ _ _ _ _ _ (c .before .before .before .before .before .before .before .check-choices .ensures (c .before .before .before .before .before .before .before .before .before .before .before .if3 .left) (c .before .before .before .before .before .before .before .before .before .before .before .before .before .before .before .node-at .ensures .placed (not-false _ (c .before .before .before .before .before .before .before .before .before .before .before .before .before .if2 .left)))) _ (c .before .before .learn2 .ensures)
+check-term-returns-5 t c = c .before .before .check-choices .ensures (c .before .before .before .before .before .before .if3 .left) (c .before .before .before .before .before .before .before .before .before .before .node-at .ensures .placed (not-false _ (c .before .before .before .before .before .before .before .before .if2 .left)))
 
 pub +check-args+check-choices+check-head+check-term-spec : {M : Type 1} → statement M
 +check-args+check-choices+check-head+check-term-spec =
@@ -1873,6 +1657,8 @@ pub +check-args+check-choices+check-head+check-term-spec : {M : Type 1} → stat
       known-until-reads.Learnt,
       check-term-below t,
       check-term.Post,
+      learn-reads.Asked,
+      learn-reads.Learnt,
     )
     (check-args-at t)
     check-args.Post
@@ -1903,6 +1689,9 @@ pub +check-args+check-choices+check-head+check-term-spec : {M : Type 1} → stat
     (check-args-loop-less-2 t)
     (check-args-loop-again-2 t)
     (check-args-check-term-requires t)
+    (check-args-add-learn t)
+    (check-args-element-copy-out-learn t)
+    (check-args-learn-requires t)
     (check-args-same-length-3 t)
     (check-args-returns-4 t)
     (check-args-loop-less-3 t)
@@ -1950,8 +1739,6 @@ pub +check-args+check-choices+check-head+check-term-spec : {M : Type 1} → stat
       target-of-reads.Learnt,
       end-of-reads.Asked,
       end-of-reads.Learnt,
-      known-reads.Asked,
-      known-reads.Learnt,
       check-term-below t,
       check-term.Post,
     )
@@ -1980,27 +1767,18 @@ pub +check-args+check-choices+check-head+check-term-spec : {M : Type 1} → stat
     (check-head-same-length-2 t)
     (check-head-returns-8 t)
     (check-head-add-i t)
-    (check-head-add-known t)
-    (check-head-element-copy-out-known t)
-    (check-head-known-requires t)
+    (check-head-check-term-requires t)
     (check-head-same-length-3 t)
     (check-head-returns-9 t)
-    (check-head-check-term-requires t)
-    (check-head-same-length-4 t)
-    (check-head-returns-10 t)
     (check-head-loop-less t)
     (check-head-loop-again t)
-    (check-head-loop-less-2 t)
-    (check-head-loop-again-2 t)
-    (check-head-same-length-5 t)
-    (check-head-returns-11 t))
+    (check-head-same-length-4 t)
+    (check-head-returns-10 t))
     λ t. check-term-lts.spec (
       node-at-reads.Asked,
       node-at-reads.Learnt,
       check-head-below t,
       check-head.Post,
-      learn-reads.Asked,
-      learn-reads.Learnt,
       bare-has-reads.Asked,
       bare-has-reads.Learnt,
       check-choices-below t,
@@ -2017,17 +1795,9 @@ pub +check-args+check-choices+check-head+check-term-spec : {M : Type 1} → stat
     (check-term-check-head-requires t)
     (check-term-same-length t)
     (check-term-returns-3 t)
-    (check-term-add-learn t)
-    (check-term-element-copy-out-learn t)
-    (check-term-learn-requires t)
-    (check-term-same-length-2 t)
-    (check-term-returns-4 t)
     (check-term-element-copy-out-own t)
     (check-term-bare-has-requires t)
-    (check-term-returns-5 t)
+    (check-term-returns-4 t)
     (check-term-check-choices-requires t)
-    (check-term-add-learn-2 t)
-    (check-term-element-copy-out-learn-2 t)
-    (check-term-learn-requires-2 t)
-    (check-term-same-length-3 t)
-    (check-term-returns-6 t)
+    (check-term-same-length-2 t)
+    (check-term-returns-5 t)
