@@ -29,11 +29,14 @@ pub fn hash_of(p: &[u8]) -> usize
     h / 256 % 256
 }
 
-// Whether one of the types that are chained in the index has the payload p: only types of its hash are compared with it.
-pub fn listed(file: &[u8], index: &[u16], p: &[u8]) -> bool
-    ensures { λ r. ⌜ Listed (now (file .entry)) (now (index .entry)) (now (p .entry)) r ⌝ }
+// Whether one of the types that are chained in the index has the payload p, whose hash is h: only types of that hash are
+// compared with it.
+pub fn listed(file: &[u8], index: &[u16], h: usize, p: &[u8]) -> bool
+    ensures { λ r. ⌜ (h ≡ hashOf (now (p .entry)) → Listed (now (file .entry)) (now (index .entry)) (now (p .entry)) r) ⌝ }
 {
-    let h = hash_of(p);
+    if 255 < h {
+        return false;
+    }
     let mut last = place_at(index, 3170 + h);
     while 0 < last {
         let i = last - 1;

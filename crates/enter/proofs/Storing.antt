@@ -1,17 +1,16 @@
 -- Tables after a store, and the entries of kinds by their numbers.
-use Prim.Native.Nat.{ℕ, zero, suc, _+_, _-_, _*_, _/_, _%_, _^_, _<_, _≤_}
+use Prim.Native.Nat.{ℕ, _+_, _-_, _<_, _≤_}
 use native.Mathlib.Omega.{arith}
-use mathlib.Core.Path.{_≡_, refl, sym, ap, ap₂, _∙_}
+use mathlib.Core.Path.{_≡_, refl, sym, ap, _∙_}
 use mathlib.Core.Bool.{Bool, true, false}
 use mathlib.Core.List.{List}
-use borrow.Author.Tests.{lt-ltb, le-ltb, le-leb, lt-leb, eq-eqb, ne-eqb}
-use lib.Dec.{ltb, leb, eqb}
+use borrow.Author.Tests.{lt-ltb, le-ltb, eq-eqb, ne-eqb}
+use lib.Dec.{ltb, eqb}
 use lib.ListN.{length, getD, set, length-set}
 use lib.Seq.{set-out, getD-set-same, getD-set-other}
 use Rattle.scheme.specs.Lists.{if_then_else_}
 use Rattle.records.specs.Fields.{word}
-use Rattle.casefile.specs.Kinds.{Kind, sort, constructor, nonterminal, rule, states, transition, type, binding, path, number, kindOf}
-use Rattle.entries.specs.Index.{base}
+use Rattle.casefile.specs.Kinds.{Kind, number, kindOf}
 use Rattle.entries.specs.Chains.{hashOf}
 use Rattle.enter.specs.Entering.{stored, lensAfter, chainsAfter}
 use mathlib.Core.Option.{some}
@@ -96,73 +95,3 @@ chains-length index kind n p = by (eqb kind 7)
     by : (b : Bool) → length (if b then stored (stored index (3426 + n) (getD index (3170 + hashOf p) 0)) (3170 + hashOf p) (n + 1) else index) ≡ length index
     by true = stored-length (stored index (3426 + n) (getD index (3170 + hashOf p) 0)) (3170 + hashOf p) (n + 1) ∙ stored-length index (3426 + n) (getD index (3170 + hashOf p) 0)
     by false = refl
-
--- where the entries of a kind begin, by its number: twelve bits a kind, five kinds a word
-abbrev low : ℕ → ℕ
-low n = (3169 + 64 * 2 ^ 24 + 96 * 2 ^ 36 + 352 * 2 ^ 48) / 2 ^ (n * 12) % 4096
-
-abbrev high : ℕ → ℕ
-high n = (3168 + 608 * 2 ^ 12 + 1120 * 2 ^ 24 + 2144 * 2 ^ 36 + 3169 * 2 ^ 48) / 2 ^ ((n - 5) * 12) % 4096
-
-unfoldable packed : ℕ → ℕ
-packed n = if ltb n 5 then low n else if leb n 9 then high n else 3169
-
-packed-within : (n : ℕ) → n ≤ 9 → packed n ≤ 3169
-unfolding packed
-packed-within zero h = omega arith
-packed-within (suc zero) h = omega arith
-packed-within (suc (suc zero)) h = omega arith
-packed-within (suc (suc (suc zero))) h = omega arith
-packed-within (suc (suc (suc (suc zero)))) h = omega arith
-packed-within (suc (suc (suc (suc (suc zero))))) h = omega arith
-packed-within (suc (suc (suc (suc (suc (suc zero)))))) h = omega arith
-packed-within (suc (suc (suc (suc (suc (suc (suc zero))))))) h = omega arith
-packed-within (suc (suc (suc (suc (suc (suc (suc (suc zero)))))))) h = omega arith
-packed-within (suc (suc (suc (suc (suc (suc (suc (suc (suc zero))))))))) h = omega arith
-packed-within (suc (suc (suc (suc (suc (suc (suc (suc (suc (suc n)))))))))) h = absurd (omega arith)
-
-packed-number : (k : Kind) → packed (number k) ≡ base k
-unfolding packed number
-packed-number sort = refl
-packed-number constructor = refl
-packed-number nonterminal = refl
-packed-number rule = refl
-packed-number states = refl
-packed-number transition = refl
-packed-number type = refl
-packed-number binding = refl
-packed-number path = refl
-
-module _ (kind : ℕ) where
-  abbrev pub Base : ℕ → Type 0
-  Base r = ((k : Kind) → kind ≡ number k → r ≡ base k) × (r ≤ 3169)
-
-  packed-is : (k : Kind) → kind ≡ number k → packed kind ≡ base k
-  packed-is k e = ap packed e ∙ packed-number k
-
-  packed-base : kind ≤ 9 → Base (packed kind)
-  packed-base h = (packed-is, packed-within kind h)
-
-  pub base-low : kind < 5 → Base (low kind)
-  unfolding packed
-  base-low h = rw (lt-ltb kind 5 h) at (packed-base (omega arith))
-
-  pub base-high : 5 ≤ kind → kind ≤ 9 → Base (high kind)
-  unfolding packed
-  base-high h l = rw (le-ltb kind 5 h, le-leb kind 9 l) at (packed-base l)
-
-  pub base-past : 9 < kind → Base 3169
-  unfolding packed
-  base-past h = (rw (le-ltb kind 5 (omega arith), lt-leb kind 9 h) at packed-is, omega arith)
-
--- What a record enters, by what the steps of the program did.
-pub entered-index : (index counts : List ℕ) (kind start n b x : ℕ) (p between after : List ℕ) → n ≡ getD counts kind 0 → b ≡ x → between ≡ stored index (b + n) start → after ≡ chainsAfter between kind n p
-    → after ≡ chainsAfter (stored index (x + getD counts kind 0) start) kind (getD counts kind 0) p
-entered-index index counts kind start n b x p between after en eb e f =
-    f ∙ ap₂ (λ y z. chainsAfter y kind z p) (e ∙ ap₂ (λ y z. stored index (y + z) start) eb en) en
-
-pub entered-lens : (lens counts : List ℕ) (kind n : ℕ) (p after : List ℕ) → n ≡ getD counts kind 0 → after ≡ lensAfter lens kind n p → after ≡ lensAfter lens kind (getD counts kind 0) p
-entered-lens lens counts kind n p after en e = e ∙ ap (λ z. lensAfter lens kind z p) en
-
-pub entered-counts : (counts : List ℕ) (kind n : ℕ) (after : List ℕ) → n ≡ getD counts kind 0 → after ≡ stored counts kind (n + 1) → after ≡ stored counts kind (getD counts kind 0 + 1)
-entered-counts counts kind n after en e = e ∙ ap (λ z. stored counts kind (z + 1)) en

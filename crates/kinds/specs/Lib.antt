@@ -1,2 +1,3 @@
 pub mod Known
 pub mod Codes
+pub mod Taking

@@ -9,7 +9,9 @@ ghost use lib.Dec.{leb};
 ghost use Rattle.scheme.specs.Lists.{any};
 ghost use Rattle.casefile.specs.Tables.{words};
 ghost use Rattle.casefile.specs.Refusals.{ascends};
+ghost use Rattle.entries.specs.Chains.{hashOf};
 ghost use Rattle.entries.specs.Tests.{TestsType};
+ghost use Rattle.type_records.specs.Alone.{CodesAlone};
 
 // Whether one of the payload's numbers, of two bytes each, is n or more.
 fn names_later(p: &[u8], n: usize) -> bool
@@ -46,12 +48,25 @@ fn members_ascend(p: &[u8]) -> bool
     true
 }
 
-// The code of the payload p of a type after n types, with so many states.
-pub fn test_type(file: &[u8], index: &[u16], n: usize, states: usize, p: &[u8]) -> usize
-    ensures { λ r. ⌜ TestsType (now (file .entry)) (now (index .entry)) n states (now (p .entry)) r ⌝ }
+// The code of a state, a payload p of one byte, after n types and with so many states; 0 also where it repeats a type.
+fn state_code(n: usize, states: usize, p: &[u8]) -> usize
+    ensures { λ r. ⌜ (length (now (p .entry)) ≡ 1 → CodesAlone n states (now (p .entry)) r) ⌝ }
+{
+    if 1024 <= n {
+        return 5;
+    }
+    if states <= byte_at(p, 0) {
+        return 6;
+    }
+    0
+}
+
+// The same for a payload p of any type.
+fn own_code(n: usize, states: usize, p: &[u8]) -> usize
+    ensures { λ r. ⌜ CodesAlone n states (now (p .entry)) r ⌝ }
 {
     if p.len() == 1 {
-        return test_state(file, index, n, states, p);
+        return state_code(n, states, p);
     }
     if p.len() < 2 {
         return 4;
@@ -71,23 +86,18 @@ pub fn test_type(file: &[u8], index: &[u16], n: usize, states: usize, p: &[u8]) 
     if !members_ascend(p) {
         return 7;
     }
-    if listed(file, index, p) {
-        return 7;
-    }
     0
 }
 
-// The same for a payload of one byte, a state.
-fn test_state(file: &[u8], index: &[u16], n: usize, states: usize, p: &[u8]) -> usize
-    ensures { λ r. ⌜ (length (now (p .entry)) ≡ 1 → TestsType (now (file .entry)) (now (index .entry)) n states (now (p .entry)) r) ⌝ }
+// The code of the payload p of a type, whose hash is h, after n types, with so many states.
+pub fn test_type(file: &[u8], index: &[u16], n: usize, states: usize, h: usize, p: &[u8]) -> usize
+    ensures { λ r. ⌜ (h ≡ hashOf (now (p .entry)) → TestsType (now (file .entry)) (now (index .entry)) n states (now (p .entry)) r) ⌝ }
 {
-    if 1024 <= n {
-        return 5;
+    let number = own_code(n, states, p);
+    if number != 0 {
+        return number;
     }
-    if states <= byte_at(p, 0) {
-        return 6;
-    }
-    if listed(file, index, p) {
+    if listed(file, index, h, p) {
         return 7;
     }
     0

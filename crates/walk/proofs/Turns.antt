@@ -42,6 +42,7 @@ use Rattle.walk.specs.declared.Walked.{Walked}
 use Rattle.walk.specs.declared.Walked.the-variants as walked
 use Rattle.kinds.specs.Known.{room, Known}
 use Rattle.kinds.specs.Codes.{codeAs}
+use Rattle.kinds.specs.Taking.{Taken}
 use Rattle.enter.specs.Entering.{stored, lensAfter, chainsAfter}
 use Rattle.walk.specs.declared.Turned.{Turned}
 use Rattle.walk.specs.Walking.{Emptied, Walking, WalkEnds, endOf, ended, GoesOn, endsOr, TurnsTo, PassesTo, WalksTo}
@@ -393,30 +394,30 @@ module _ {file index lens counts : List ℕ} {at last : ℕ} (w : Walking file i
 -- What a turn comes to, from what its functions promise.
 module _ {file index lens counts : List ℕ} {last : ℕ} where
   -- the walk is over
-  over-at : (g : Rattle.reading.specs.declared.Read.Read) (p : List ℕ) (t : Turned) (w : Walked) → t ≡ ended w
-      → ((at : ℕ) → g ≡ readAt file at → p ≡ payloadOf file g → length file ≤ 60000 → Walking file index lens counts at last → WalkEnds file index lens counts w) → TurnsTo file g p last index lens counts index lens counts t
-  over-at g p t w e h = subst (TurnsTo file g p last index lens counts index lens counts) (sym e) (record { comes-to = h })
+  over-at : (g : Rattle.reading.specs.declared.Read.Read) (p index′ lens′ counts′ : List ℕ) (t : Turned) (w : Walked) → t ≡ ended w
+      → ((at : ℕ) → g ≡ readAt file at → p ≡ payloadOf file g → length file ≤ 60000 → Walking file index lens counts at last → WalkEnds file index′ lens′ counts′ w) → TurnsTo file g p last index lens counts index′ lens′ counts′ t
+  over-at g p index′ lens′ counts′ t w e h = subst (TurnsTo file g p last index lens counts index′ lens′ counts′) (sym e) (record { comes-to = h })
 
   pub turn-stops : (g : Rattle.reading.specs.declared.Read.Read) (p : List ℕ) → OneOf (1 ∷ 2 ∷ []) (tagOf the-type g) → (t : Turned) → t ≡ ended (endOf g) → TurnsTo file g p last index lens counts index lens counts t
-  turn-stops g p h t e = over-at g p t (endOf g) e (λ at eg ep few w. ends w g h eg (endOf g) refl)
+  turn-stops g p h t e = over-at g p index lens counts t (endOf g) e (λ at eg ep few w. ends w g h eg (endOf g) refl)
 
   module _ (g : Rattle.reading.specs.declared.Read.Read) (p : List ℕ) (place start len kind : ℕ) (c : Cursor) (is : g ≡ read.Record place start len kind c) where
     pub turn-falls : kind < last → (t : Turned) → t ≡ ended (walked.Refused 3 place) → TurnsTo file g p last index lens counts index lens counts t
-    turn-falls h t e = over-at g p t (walked.Refused 3 place) e (λ at eg ep few w. falls w place start len kind c (sym is ∙ eg) h)
+    turn-falls h t e = over-at g p index lens counts t (walked.Refused 3 place) e (λ at eg ep few w. falls w place start len kind c (sym is ∙ eg) h)
 
-    module _ (n : ℕ) (up : last ≤ kind) (en : (rs : List Record) → Known file index lens counts rs → Passed rs → n ≡ codeAs rs p (kindOf kind)) where
-      pub turn-refuses : (n ≡ 0 → ⊥) → (t : Turned) → t ≡ ended (walked.Refused n place) → TurnsTo file g p last index lens counts index lens counts t
-      turn-refuses ne t e = over-at g p t (walked.Refused n place) e (λ at eg ep few w. turned w place start len kind c (sym is ∙ eg) p n (ep ∙ ap (payloadOf file) is) up (en (w .rs) (w .known) (w .passed)) ne)
+    module _ (n : ℕ) (index′ lens′ counts′ : List ℕ) (up : last ≤ kind) (taken : Taken file index lens counts kind start p index′ lens′ counts′ n) where
+      pub turn-refuses : (n ≡ 0 → ⊥) → (t : Turned) → t ≡ ended (walked.Refused n place) → TurnsTo file g p last index lens counts index′ lens′ counts′ t
+      unfolding WalkEnds
+      turn-refuses ne t e = over-at g p index′ lens′ counts′ t (walked.Refused n place) e (λ at eg ep few w. turned w place start len kind c (sym is ∙ eg) p n (ep ∙ ap (payloadOf file) is) up (taken .code (w .rs) (w .known) (w .passed)) ne)
 
-      pub turn-goes-on : (index′ lens′ counts′ : List ℕ) → n ≡ 0
-          → ((k : Kind) → kind ≡ number k → index′ ≡ chainsAfter (stored index (base k + getD counts kind 0) start) kind (getD counts kind 0) p) → lens′ ≡ lensAfter lens kind (getD counts kind 0) p → counts′ ≡ stored counts kind (getD counts kind 0 + 1)
-          → TurnsTo file g p last index lens counts index′ lens′ counts′ (record { over = false; walked = walked.Read; next = c .at; kind = kind })
-      turn-goes-on index′ lens′ counts′ ez ei el ec = record {
+      pub turn-goes-on : n ≡ 0 → TurnsTo file g p last index lens counts index′ lens′ counts′ (record { over = false; walked = walked.Read; next = c .at; kind = kind })
+      turn-goes-on ez = record {
         comes-to = λ at eg ep.
             let rr = read-record file at place start len kind c (sym (sym is ∙ eg)) in
+            let told = taken .entered ez in
             record {
               less = (let a = rr .inside in let b = rr .next-is in let d = rr .next-fits in omega arith);
-              walking = λ few w. goes-on w place start len kind c (sym is ∙ eg) p index′ lens′ counts′ (ep ∙ ap (payloadOf file) is) up (sym ez ∙ en (w .rs) (w .known) (w .passed)) few ei el ec;
+              walking = λ few w. goes-on w place start len kind c (sym is ∙ eg) p index′ lens′ counts′ (ep ∙ ap (payloadOf file) is) up (sym ez ∙ taken .code (w .rs) (w .known) (w .passed)) few (told .index-is) (told .lens-are) (told .counts-are);
             };
       }
 

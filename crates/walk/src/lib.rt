@@ -1,7 +1,6 @@
 // The walk over a file: one pass over its records, which fills the index or finds the first refusal by 2 to 7.
-use enter::enter;
 use enter::store;
-use kinds::test;
+use kinds::take;
 use reader::Reader;
 use reading::Read;
 ghost use mathlib.Core.Path.{_≡_};
@@ -101,11 +100,10 @@ fn turn<'a>(
     if kind < last {
         return over(Walked::Refused { number: 3, place });
     }
-    let number = test(file, index, lens, counts, kind, p);
+    let number = take(file, index, lens, counts, kind, start, p);
     if number != 0 {
         return over(Walked::Refused { number, place });
     }
-    enter(index, lens, counts, kind, start, p);
     Turned {
         over: false,
         walked: Walked::Read,

@@ -1,15 +1,12 @@
-use Prim.Native.Nat.{_-_}
+use mathlib.Core.Path.{refl}
 use native.Mathlib.Omega.{arith}
-use Rattle.enter.proofs.Storing.{lens-sort, lens-other}
+use Rattle.enter.proofs.Storing.{lens-sort}
 use borrow.Author.Needs.{needs}
 use Rattle.enter.proofs.enter_sort.Statement.{statement}
 use Rattle.enter.proofs.enter_sort.Tie as tie
 
 returns : tie.Need-returns
-returns c = λ h. lens-other _ _ _ _ (c .if1 .taken)
-
-returns-2 : tie.Need-returns-2
-returns-2 c = λ h. absurd (omega arith)
+returns c = λ h. absurd (omega arith)
 
 word-at-requires : tie.Need-word-at-requires
 word-at-requires c κs = search needs
@@ -29,19 +26,18 @@ store-requires c κs = search needs
 same-length : tie.Need-same-length
 same-length c = search needs
 
-returns-3 : tie.Need-returns-3
-returns-3 c = λ h. lens-sort _ _ _ _ _ _ _ (c .before .before .before .before .before .before .before .before .if1 .left) (c .before .before .before .before .before .before .word-at .ensures .value) (c .before .before .before .before .place-at .ensures .value) (c .before .before .store .ensures)
+returns-2 : tie.Need-returns-2
+returns-2 c = λ h. lens-sort _ 1 _ _ _ _ _ refl (c .before .before .before .before .before .before .word-at .ensures .value) (c .before .before .before .before .place-at .ensures .value) (c .before .before .store .ensures)
 
 pub enter-sort-spec : {M : Type 1} → statement M
 enter-sort-spec =
     tie.close
     (tie.spec
     returns
-    returns-2
     word-at-requires
     place-at-requires
     add-store
     add-store-2
     store-requires
     same-length
-    returns-3)
+    returns-2)

@@ -1,21 +1,19 @@
+use mathlib.Core.Path.{refl}
 use native.Mathlib.Omega.{arith}
 use Rattle.chains.proofs.Hashing.{hash-few}
-use Rattle.enter.proofs.Storing.{chains-type, chains-other}
+use Rattle.enter.proofs.Storing.{chains-type}
 use borrow.Author.Needs.{needs}
 use Rattle.enter.proofs.enter_type.Statement.{statement}
 use Rattle.enter.proofs.enter_type.Tie as tie
 
 returns : tie.Need-returns
-returns c = λ h. chains-other _ _ _ _ (c .if1 .taken)
+returns c = λ h. absurd (omega arith)
 
 returns-2 : tie.Need-returns-2
-returns-2 c = λ h. absurd (omega arith)
-
-hash-of-requires : tie.Need-hash-of-requires
-hash-of-requires c κs = search needs
+returns-2 c = λ _ p e. absurd (omega (arith, hash-few p, e))
 
 add-head : tie.Need-add-head
-add-head c = omega (arith, hash-few (c .before .before .before .before .before .args .p .now))
+add-head c = search needs
 
 place-at-requires : tie.Need-place-at-requires
 place-at-requires c κs = search needs
@@ -36,7 +34,7 @@ same-length : tie.Need-same-length
 same-length c = search needs
 
 returns-3 : tie.Need-returns-3
-returns-3 c = λ h. chains-type _ _ _ _ _ _ _ _ (c .before .before .before .before .before .before .before .before .before .before .before .before .if1 .left) (c .before .before .before .before .before .before .before .before .before .before .hash-of .ensures) (c .before .before .before .before .before .before .before .before .place-at .ensures .value) (c .before .before .before .before .before .before .store .ensures) (c .before .before .store2 .ensures)
+returns-3 c = λ h p e. chains-type _ 7 _ p _ _ _ _ refl e (c .before .before .before .before .before .before .before .before .place-at .ensures .value) (c .before .before .before .before .before .before .store .ensures) (c .before .before .store2 .ensures)
 
 pub enter-type-spec : {M : Type 1} → statement M
 enter-type-spec =
@@ -44,7 +42,6 @@ enter-type-spec =
     (tie.spec
     returns
     returns-2
-    hash-of-requires
     add-head
     place-at-requires
     add-store

@@ -23,8 +23,8 @@ over-requires-2 c κs = search needs
 returns-2 : tie.Need-returns-2
 returns-2 c = turn-falls _ _ (c .before .before .before .got .given .0 .0) (c .before .before .before .got .given .0 .1 .0) (c .before .before .before .got .given .0 .1 .1 .0) (c .before .before .before .got .given .0 .1 .1 .1 .0) (c .before .before .before .got .given .0 .1 .1 .1 .1 .0) (c .before .before .before .got .given .1) (c .before .if1 .taken) _ (c .over2 .ensures)
 
-test-requires : tie.Need-test-requires
-test-requires c κs = search needs
+take-requires : tie.Need-take-requires
+take-requires c κs = search needs
 
 over-requires-3 : tie.Need-over-requires-3
 over-requires-3 c κs = search needs
@@ -39,10 +39,7 @@ same-length-3 : tie.Need-same-length-3
 same-length-3 c = search needs
 
 returns-3 : tie.Need-returns-3
-returns-3 c = turn-refuses _ _ (c .before .before .before .before .before .before .before .before .got .given .0 .0) (c .before .before .before .before .before .before .before .before .got .given .0 .1 .0) (c .before .before .before .before .before .before .before .before .got .given .0 .1 .1 .0) (c .before .before .before .before .before .before .before .before .got .given .0 .1 .1 .1 .0) (c .before .before .before .before .before .before .before .before .got .given .0 .1 .1 .1 .1 .0) (c .before .before .before .before .before .before .before .before .got .given .1) _ (c .before .before .before .before .before .before .if1 .left) (c .before .before .test .ensures) (c .before .if2 .taken) _ (c .over3 .ensures)
-
-enter-requires : tie.Need-enter-requires
-enter-requires c κs = search needs
+returns-3 c = turn-refuses _ _ (c .before .before .before .before .before .before .before .before .before .before .before .before .before .before .got .given .0 .0) (c .before .before .before .before .before .before .before .before .before .before .before .before .before .before .got .given .0 .1 .0) (c .before .before .before .before .before .before .before .before .before .before .before .before .before .before .got .given .0 .1 .1 .0) (c .before .before .before .before .before .before .before .before .before .before .before .before .before .before .got .given .0 .1 .1 .1 .0) (c .before .before .before .before .before .before .before .before .before .before .before .before .before .before .got .given .0 .1 .1 .1 .1 .0) (c .before .before .before .before .before .before .before .before .before .before .before .before .before .before .got .given .1) _ _ _ _ (c .before .before .before .before .before .before .before .before .before .before .before .before .if1 .left) (c .before .before .before .before .before .before .before .before .take .ensures) (c .before .if2 .taken) _ (c .over3 .ensures)
 
 same-length-4 : tie.Need-same-length-4
 same-length-4 c = search needs
@@ -54,7 +51,7 @@ same-length-6 : tie.Need-same-length-6
 same-length-6 c = search needs
 
 returns-4 : tie.Need-returns-4
-returns-4 c = turn-goes-on _ _ (c .before .before .before .before .before .before .before .before .before .before .before .before .before .before .before .before .before .got .given .0 .0) (c .before .before .before .before .before .before .before .before .before .before .before .before .before .before .before .before .before .got .given .0 .1 .0) (c .before .before .before .before .before .before .before .before .before .before .before .before .before .before .before .before .before .got .given .0 .1 .1 .0) (c .before .before .before .before .before .before .before .before .before .before .before .before .before .before .before .before .before .got .given .0 .1 .1 .1 .0) (c .before .before .before .before .before .before .before .before .before .before .before .before .before .before .before .before .before .got .given .0 .1 .1 .1 .1 .0) (c .before .before .before .before .before .before .before .before .before .before .before .before .before .before .before .before .before .got .given .1) _ (c .before .before .before .before .before .before .before .before .before .before .before .before .before .before .before .if1 .left) (c .before .before .before .before .before .before .before .before .before .before .before .test .ensures) _ _ _ (c .before .before .before .before .before .before .before .before .before .before .if2 .left) (c .before .before .before .before .before .before .enter .ensures .0) (c .before .before .before .before .before .before .enter .ensures .1 .0) (c .before .before .before .before .before .before .enter .ensures .1 .1)
+returns-4 c = turn-goes-on _ _ (c .before .before .before .before .before .before .before .before .before .before .before .before .before .got .given .0 .0) (c .before .before .before .before .before .before .before .before .before .before .before .before .before .got .given .0 .1 .0) (c .before .before .before .before .before .before .before .before .before .before .before .before .before .got .given .0 .1 .1 .0) (c .before .before .before .before .before .before .before .before .before .before .before .before .before .got .given .0 .1 .1 .1 .0) (c .before .before .before .before .before .before .before .before .before .before .before .before .before .got .given .0 .1 .1 .1 .1 .0) (c .before .before .before .before .before .before .before .before .before .before .before .before .before .got .given .1) _ _ _ _ (c .before .before .before .before .before .before .before .before .before .before .before .if1 .left) (c .before .before .before .before .before .before .before .take .ensures) (c .if2 .left)
 
 pub turn-spec : {M : Type 1} → statement M
 turn-spec =
@@ -66,13 +63,12 @@ turn-spec =
     returns
     over-requires-2
     returns-2
-    test-requires
+    take-requires
     over-requires-3
     same-length
     same-length-2
     same-length-3
     returns-3
-    enter-requires
     same-length-4
     same-length-5
     same-length-6
