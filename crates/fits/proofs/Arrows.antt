@@ -1,23 +1,24 @@
--- The row of an arrow: its result's flags, and then those of each member in turn.
+-- The row of an arrow: the flags of its result together with those of its first member, and then what the members behind it say.
 use Prim.Native.Nat.{ℕ, _+_, _*_, _<_, _≤_}
 use native.Mathlib.Omega.{arith}
-use mathlib.Core.Path.{_≡_, refl, sym, ap, subst, _∙_}
+use mathlib.Core.Path.{_≡_, refl, sym, ap, ap₂, subst, _∙_}
 use mathlib.Core.Bool.{Bool, true, false, _&&_}
 use mathlib.Core.List.{List, [], _∷_, List·Memᴰ, List·Memᴰ·head, List·Memᴰ·tail}
 use lib.Bits.{bitAnd}
 use lib.ListN.{length, getD, set, drop}
 use lib.Seq.{getD-set-same, getD-set-other}
 use Rattle.scheme.specs.Lists.{all}
-use Rattle.scheme.specs.Flags.{bit}
+use Rattle.scheme.specs.Flags.{bit, isKept}
 use Rattle.records.specs.Fields.{word}
 use Rattle.records.specs.Records.{Record}
 use Rattle.casefile.specs.Kinds.{type, payloads}
 use Rattle.casefile.specs.Tables.{words}
 use Rattle.casefile.proofs.Steps.{words-step, words-done}
 use Rattle.fit_flags.specs.Fitted.{flag, fitsAt, Fitted}
-use Rattle.fits.specs.Filled.{Known, Wrote, both, met, FillsArrow}
+use Rattle.fits.specs.Filled.{Known, Wrote, both, PayloadThere, saysFits, met, MeetsMembers, FillsArrow}
 use Rattle.fits.proofs.Rows.{Arrow, arrow-there, arrow-numbers, arrow-fits, arrow-tree, payload-there, length-is}
 use Rattle.fits.proofs.Filling.{fitted-more}
+use Rattle.fits.proofs.Members.{all-same, says-early}
 
 and-bits : (a b : Bool) → bitAnd (bit a) (bit b) ≡ bit (a && b)
 unfolding bit
@@ -34,110 +35,30 @@ and-true : (a : Bool) → (a && true) ≡ a
 and-true true = refl
 and-true false = refl
 
-and-same : {x : ℕ} (a : Bool) → x ≡ bit a → bitAnd x x ≡ bit a
-and-same a e = ap (λ y. bitAnd y y) e ∙ and-bits a a ∙ ap bit (same a)
-  where
-    same : (b : Bool) → (b && b) ≡ b
-    same true = refl
-    same false = refl
+and-same : (a : Bool) → (a && a) ≡ a
+and-same true = refl
+and-same false = refl
 
--- a flag x that decides a whole answer together with the numbers that are left
-pub record Left (f : ℕ → Bool) (x : ℕ) (whole : Bool) (ms : List ℕ) : Type 0 where
-  pub so-far : Bool
-  pub is-flag : x ≡ bit so-far
-  pub decides : whole ≡ (so-far && all f ms)
-
-left-more : {f : ℕ → Bool} {x : ℕ} {whole : Bool} {m : ℕ} {ms : List ℕ} → Left f x whole (m ∷ ms) → (y z : ℕ) → y ≡ bit (f m) → z ≡ bitAnd x y → Left f z whole ms
-unfolding all
-left-more {f} {x} {whole} {m} {ms} l y z ey ez = record {
-  so-far = l .so-far && f m;
-  is-flag = ez ∙ ap (bitAnd x) ey ∙ ap (λ v. bitAnd v (bit (f m))) (l .is-flag) ∙ and-bits (l .so-far) (f m);
-  decides = l .decides ∙ and-assoc (l .so-far) (f m) (all f ms);
-}
-
-left-none : {f : ℕ → Bool} {x : ℕ} {whole : Bool} → Left f x whole [] → x ≡ bit whole
-unfolding all
-left-none l = l .is-flag ∙ ap bit (sym (l .decides ∙ and-true (l .so-far)))
-
--- a flag that is not set decides alone
-left-lost : {f : ℕ → Bool} {x : ℕ} {whole : Bool} {ms : List ℕ} → Left f x whole ms → x ≡ 0 → 0 ≡ bit whole
-unfolding bit
-left-lost {f} {x} {whole} {ms} l none = go (l .so-far) (sym (l .is-flag) ∙ none) (l .decides)
-  where
-    go : (b : Bool) → bit b ≡ 0 → whole ≡ (b && all f ms) → 0 ≡ bit whole
-    go true e d = absurd (omega arith)
-    go false e d = sym (ap bit d)
-
-module _ (rs : List Record) (froms : List ℕ) (sorts t : ℕ) where
-  -- flags x of type t that decide for each sort together with the members that are left
-  pub record Leads (x : ℕ → ℕ) (ms : List ℕ) : Type 0 where
-    pub early : (m : ℕ) → List·Memᴰ m ms → m < t
-    pub left : (k : ℕ) → 0 < k → k ≤ sorts → Left (λ m. fitsAt rs m (getD froms k 0)) (x k) (fitsAt rs t k) ms
-
-  leads-more : {x : ℕ → ℕ} {m : ℕ} {ms : List ℕ} → Leads x (m ∷ ms) → (y z : ℕ → ℕ)
-      → ((k : ℕ) → 0 < k → k ≤ sorts → (y k ≡ bit (fitsAt rs m (getD froms k 0))) × (z k ≡ bitAnd (x k) (y k))) → Leads z ms
-  leads-more l y z e = record {
-    early = λ n h. l .early n (List·Memᴰ·tail h);
-    left = λ k pos lk. left-more (l .left k pos lk) (y k) (z k) (e k pos lk .0) (e k pos lk .1);
-  }
+kept-bit : (a : Bool) → isKept (bit a) ≡ a
+unfolding isKept bit
+kept-bit true = refl
+kept-bit false = refl
 
 -- what the file says of the arrow
 module _ {file froms tos : List ℕ} {sorts t place len : ℕ} {old index : List ℕ} {types : ℕ} {rs : List Record} (kn : Known file froms tos sorts t place len old index types rs) where
-  abbrev Members : (ℕ → ℕ) → ℕ → Type 0
-  Members x i = Leads rs froms sorts t x (words (drop i (getD (payloads type rs) t [])))
+  abbrev payload : List ℕ
+  payload = getD (payloads type rs) t []
+
+  there : PayloadThere file place len payload
+  there =
+      let long = length-is (kn .listed) (kn .below) (kn .there .place-is) (kn .there .len-is) in
+      record { long = long; word-there = λ i h. sym (payload-there (kn .listed) (kn .below) (kn .there .place-is) 2 i (omega (arith, long))) }
 
   arrow : Arrow (kn .listed) (kn .below) (kn .there .place-is) (kn .there .len-is)
   arrow = arrow-there (kn .listed) (kn .below) (kn .there .place-is) (kn .there .len-is) (kn .no-state)
 
-  numbers : (word file place ≡ arrow .result) × (words (drop 2 (getD (payloads type rs) t [])) ≡ arrow .parts)
+  numbers : (word file place ≡ arrow .result) × (words (drop 2 payload) ≡ arrow .parts)
   numbers = arrow-numbers (kn .listed) (kn .below) (kn .there .place-is) (kn .there .len-is) arrow
-
-  sort-fits : (k : ℕ) → 0 < k → k ≤ sorts
-      → (fitsAt rs t k ≡ (fitsAt rs (arrow .result) (getD tos k 0) && all (λ m. fitsAt rs m (getD froms k 0)) (arrow .parts))) × (getD froms k 0 ≤ sorts) × (getD tos k 0 ≤ sorts)
-  sort-fits k pos l =
-      arrow-fits (kn .listed) (kn .below) (kn .there .place-is) (kn .there .len-is) arrow k (getD froms k 0) (getD tos k 0) pos l (kn .froms-there k pos l) (kn .tos-there k pos l)
-
-  module _ (result : ℕ) (e : result ≡ word file place) where
-    result-is : result ≡ arrow .result
-    result-is = e ∙ numbers .0
-
-    pub result-before : result < t
-    result-before = let l = arrow .result-before in omega (arith, result-is)
-
-    -- the result's flags decide together with all members
-    members-all : (fit : List ℕ) → Fitted fit t sorts rs → Members (λ k. flag fit result (getD tos k 0)) 2
-    members-all fit rows = record {
-      early = λ m h. arrow .parts-before m (subst (List·Memᴰ m) (numbers .1) h);
-      left = λ k pos l. record {
-        so-far = fitsAt rs (arrow .result) (getD tos k 0);
-        is-flag = ap (λ r. flag fit r (getD tos k 0)) result-is ∙ rows (arrow .result) (getD tos k 0) (arrow .result-before) (sort-fits k pos l .2);
-        decides = sort-fits k pos l .0 ∙ ap (λ ms. fitsAt rs (arrow .result) (getD tos k 0) && all (λ m. fitsAt rs m (getD froms k 0)) ms) (sym (numbers .1));
-      };
-    }
-
-  -- the next member
-  module _ (x : ℕ → ℕ) (i m : ℕ) (ms : Members x i) (h : i + 2 ≤ len) (e : m ≡ word file (place + i)) where
-    next : Leads rs froms sorts t x (m ∷ words (drop (i + 2) (getD (payloads type rs) t [])))
-    next =
-        let long : i + 2 ≤ length (getD (payloads type rs) t []) = omega (arith, length-is (kn .listed) (kn .below) (kn .there .place-is) (kn .there .len-is)) in
-        subst (Leads rs froms sorts t x)
-        (words-step (getD (payloads type rs) t []) i long
-        ∙ ap (λ n. n ∷ words (drop (i + 2) (getD (payloads type rs) t []))) (sym (e ∙ payload-there (kn .listed) (kn .below) (kn .there .place-is) 2 i long)))
-        ms
-
-    pub member-before : m < t
-    member-before = next .early m (List·Memᴰ·head refl)
-
-    -- its flags taken together with those so far
-    members-more : (fit : List ℕ) → Fitted fit t sorts rs → (z : ℕ → ℕ) → ((k : ℕ) → 0 < k → k ≤ sorts → z k ≡ bitAnd (x k) (flag fit m (getD froms k 0))) → Members z (i + 2)
-    members-more fit rows z f =
-        leads-more rs froms sorts t next (λ k. flag fit m (getD froms k 0)) z (λ k pos l. (rows m (getD froms k 0) member-before (sort-fits k pos l .1), f k pos l))
-
-  -- no member is left
-  members-none : (x : ℕ → ℕ) (i : ℕ) → Members x i → len < i + 2 → (k : ℕ) → 0 < k → k ≤ sorts → x k ≡ bit (fitsAt rs t k)
-  members-none x i ms h k pos l =
-      let short : length (getD (payloads type rs) t []) < i + 2 = omega (arith, length-is (kn .listed) (kn .below) (kn .there .place-is) (kn .there .len-is)) in
-      left-none (subst (Leads rs froms sorts t x) (words-done (getD (payloads type rs) t []) i short) ms .left k pos l)
 
   -- the rows before, and the flag for sort 0
   pub record Rows (fit : List ℕ) : Type 0 where
@@ -157,14 +78,77 @@ module _ {file froms tos : List ℕ} {sorts t place len : ℕ} {old index : List
       let few = kn .listed .few-sorts in
       record { rows = λ u k lu lk. w .before (u * 65 + k) (omega arith) ∙ r .rows u k lu lk; tree = w .before (t * 65) (omega arith) ∙ r .tree }
 
+  module _ (result : ℕ) (er : result ≡ word file place) where
+    result-is : result ≡ arrow .result
+    result-is = er ∙ numbers .0
+
+    result-before : result < t
+    result-before = let l = arrow .result-before in omega (arith, result-is)
+
+  module _ (first : ℕ) (h : 4 ≤ len) (ef : first ≡ word file (place + 2)) where
+    first-there : words (drop 2 payload) ≡ first ∷ words (drop 4 payload)
+    first-there = words-step payload 2 (omega (arith, there .long)) ∙ ap (_∷ words (drop 4 payload)) (there .word-there 2 h ∙ sym ef)
+
+    members-before : (m : ℕ) → List·Memᴰ m (first ∷ words (drop 4 payload)) → m < t
+    members-before m i = arrow .parts-before m (subst (List·Memᴰ m) (sym first-there ∙ numbers .1) i)
+
+  -- one sort
+  module _ (k : ℕ) (pos : 0 < k) (l : k ≤ sorts) where
+    abbrev resultFits : Bool
+    resultFits = fitsAt rs (arrow .result) (getD tos k 0)
+
+    abbrev memberFits : ℕ → Bool
+    memberFits m = fitsAt rs m (getD froms k 0)
+
+    -- the result and the members decide
+    decided : (fitsAt rs t k ≡ (resultFits && all memberFits (words (drop 2 payload)))) × (getD froms k 0 ≤ sorts) × (getD tos k 0 ≤ sorts)
+    decided =
+        let (e, hf, ht) = arrow-fits (kn .listed) (kn .below) (kn .there .place-is) (kn .there .len-is) arrow k (getD froms k 0) (getD tos k 0) pos l (kn .froms-there k pos l) (kn .tos-there k pos l) in
+        (e ∙ ap (λ ms. resultFits && all memberFits ms) (sym (numbers .1)), hf, ht)
+
+    member-flag : (fit : List ℕ) → Fitted fit t sorts rs → (m : ℕ) → m < t → flag fit m (getD froms k 0) ≡ bit (memberFits m)
+    member-flag fit rows m h = rows m (getD froms k 0) h (decided .1)
+
+    module _ (result : ℕ) (er : result ≡ word file place) (fit : List ℕ) (rows : Fitted fit t sorts rs) where
+      result-flag : flag fit result (getD tos k 0) ≡ bit resultFits
+      result-flag = ap (λ r. flag fit r (getD tos k 0)) (result-is result er) ∙ rows (arrow .result) (getD tos k 0) (arrow .result-before) (decided .2)
+
+      -- no member
+      none-fits : len < 4 → both fit tos result tos result k ≡ bit (fitsAt rs t k)
+      unfolding all
+      none-fits h =
+          ap (λ x. bitAnd x x) result-flag ∙ and-bits resultFits resultFits
+          ∙ ap bit (and-same resultFits ∙ sym (decided .0 ∙ ap (λ ms. resultFits && all memberFits ms) (words-done payload 2 (omega (arith, there .long))) ∙ and-true resultFits))
+
+      module _ (first : ℕ) (h : 4 ≤ len) (ef : first ≡ word file (place + 2)) where
+        abbrev bothFit : Bool
+        bothFit = resultFits && memberFits first
+
+        first-flag : both fit tos result froms first k ≡ bit bothFit
+        first-flag = ap₂ bitAnd result-flag (member-flag fit rows first (members-before first h ef first (List·Memᴰ·head refl))) ∙ and-bits resultFits (memberFits first)
+
+        rest-decides : fitsAt rs t k ≡ (bothFit && all memberFits (words (drop 4 payload)))
+        unfolding all
+        rest-decides = decided .0 ∙ ap (λ ms. resultFits && all memberFits ms) (first-there first h ef) ∙ and-assoc resultFits (memberFits first) (all memberFits (words (drop 4 payload)))
+
+        -- one member
+        one-fits : len < 6 → both fit tos result froms first k ≡ bit (fitsAt rs t k)
+        unfolding all
+        one-fits short =
+            first-flag ∙ ap bit (sym (rest-decides ∙ ap (λ ms. bothFit && all memberFits ms) (words-done payload 4 (omega (arith, there .long))) ∙ and-true bothFit))
+
+        -- more members
+        all-fit : (fit′ : List ℕ) → Fitted fit′ t sorts rs → flag fit′ t k ≡ both fit tos result froms first k → met fit′ t froms payload k ≡ bit (fitsAt rs t k)
+        all-fit fit′ rows′ e =
+            ap₂ (λ a b. bit (a && b)) (ap isKept (e ∙ first-flag) ∙ kept-bit bothFit)
+            (all-same (saysFits fit′ t (getD froms k 0)) memberFits (words (drop 4 payload)) (λ m i. let early = members-before first h ef m (List·Memᴰ·tail i) in
+            says-early fit′ t (getD froms k 0) m early ∙ ap isKept (member-flag fit′ rows′ m early) ∙ kept-bit (memberFits m)))
+            ∙ sym (ap bit rest-decides)
+
 -- the row as the program writes it, over a table whose flag for sort 0 is cleared
 module _ (file froms tos : List ℕ) (sorts t place len : ℕ) (old : List ℕ) where
   abbrev Filled : List ℕ → Type 0
   Filled = FillsArrow file froms tos sorts t place len old
-
-  -- the members from byte i on are left
-  abbrev pub ArrowTo : List ℕ → ℕ → Type 0
-  ArrowTo fit i = (index : List ℕ) (types : ℕ) (rs : List Record) (kn : Known file froms tos sorts t place len old index types rs) → Rows kn fit × Members kn (flag fit t) i
 
   module _ (result : ℕ) (er : result ≡ word file place) where
     pub result-late : (fit : List ℕ) → t ≤ result → Filled fit
@@ -179,38 +163,25 @@ module _ (file froms tos : List ℕ) (sorts t place len : ℕ) (old : List ℕ) 
       result-only fit h w index types rs kn =
           let before = rows-cleared kn long in
           let r = rows-kept kn (both cleared tos result tos result) cleared fit before w in
-          fitted-more fit t sorts rs (r .rows) (r .tree)
-          (λ k pos l. w .flags k pos l ∙ and-same (fitsAt rs t k) (members-none kn (λ j. flag cleared result (getD tos j 0)) 2 (members-all kn result er cleared (before .rows)) h k pos l))
+          fitted-more fit t sorts rs (r .rows) (r .tree) (λ k pos l. w .flags k pos l ∙ none-fits kn k pos l result er cleared (before .rows) h)
 
       module _ (first : ℕ) (h : 4 ≤ len) (ef : first ≡ word file (place + 2)) where
         pub first-late : (fit : List ℕ) → t ≤ first → Filled fit
-        first-late fit late index types rs kn =
-            absurd (let l = member-before kn _ 2 first (members-all kn result er cleared (rows-cleared kn long .rows)) h ef in omega arith)
+        first-late fit late index types rs kn = absurd (let l = members-before kn first h ef first (List·Memᴰ·head refl) in omega arith)
 
-        pub first-met : (fit : List ℕ) → Wrote sorts t (both cleared tos result froms first) cleared fit → ArrowTo fit 4
-        first-met fit w index types rs kn =
-            let before = rows-cleared kn long in (
-              rows-kept kn (both cleared tos result froms first) cleared fit before w,
-              members-more kn (λ k. flag cleared result (getD tos k 0)) 2 first (members-all kn result er cleared (before .rows)) h ef cleared (before .rows) (flag fit t) (w .flags),
-            )
+        module _ (fit : List ℕ) (w : Wrote sorts t (both cleared tos result froms first) cleared fit) where
+          -- there is no other
+          pub first-only : len < 6 → Filled fit
+          first-only short index types rs kn =
+              let before = rows-cleared kn long in
+              let r = rows-kept kn (both cleared tos result froms first) cleared fit before w in
+              fitted-more fit t sorts rs (r .rows) (r .tree) (λ k pos l. w .flags k pos l ∙ one-fits kn k pos l result er cleared (before .rows) first h ef short)
 
-  module _ (fit : List ℕ) (i : ℕ) (at : ArrowTo fit i) where
-    module _ (m : ℕ) (h : i + 2 ≤ len) (em : m ≡ word file (place + i)) where
-      pub member-late : t ≤ m → Filled fit
-      member-late late index types rs kn = absurd (let l = member-before kn (flag fit t) i m (at index types rs kn .1) h em in omega arith)
-
-      pub member-met : (fit′ : List ℕ) → Wrote sorts t (met fit t froms m) fit fit′ → ArrowTo fit′ (i + 2)
-      member-met fit′ w index types rs kn =
-          let (before, ms) = at index types rs kn in
-          (rows-kept kn (met fit t froms m) fit fit′ before w, members-more kn (flag fit t) i m ms h em fit (before .rows) (flag fit′ t) (w .flags))
-
-    -- where no flag is left, none comes back
-    pub none-met : ((k : ℕ) → 0 < k → k ≤ sorts → flag fit t k ≡ 0) → Filled fit
-    none-met none index types rs kn =
-        let (before, ms) = at index types rs kn in
-        fitted-more fit t sorts rs (before .rows) (before .tree) (λ k pos l. none k pos l ∙ left-lost (ms .left k pos l) (none k pos l))
-
-    pub all-met : len < i + 2 → Filled fit
-    all-met h index types rs kn =
-        let (before, ms) = at index types rs kn in
-        fitted-more fit t sorts rs (before .rows) (before .tree) (members-none kn (flag fit t) i ms h)
+          pub rest-met : (fit′ : List ℕ) → MeetsMembers file froms place len sorts t fit fit′ → Filled fit′
+          rest-met fit′ ms index types rs kn =
+              let before = rows-cleared kn long in
+              let r = rows-kept kn (both cleared tos result froms first) cleared fit before w in
+              let w′ = ms (payload kn) (there kn) in
+              let r′ = rows-kept kn (met fit t froms (payload kn)) fit fit′ r w′ in
+              fitted-more fit′ t sorts rs (r′ .rows) (r′ .tree)
+              (λ k pos l. w′ .flags k pos l ∙ all-fit kn k pos l result er cleared (before .rows) first h ef fit (r .rows) (w .flags k pos l))

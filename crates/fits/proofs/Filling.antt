@@ -37,27 +37,20 @@ module _ (sorts t : ℕ) (x : ℕ → ℕ) (old : List ℕ) where
             let same : k ≡ s = omega arith in
             ap (λ j. getD (set fit (t * 65 + s) v) (t * 65 + j) 0) same ∙ getD-set-same fit (t * 65 + s) v 0 (omega (arith, w .long)) ∙ e ∙ ap x (sym same)
 
+    -- a flag that is there already
+    pub wrote-skip : flag fit t s ≡ x s → WroteTo fit (s - 1)
+    wrote-skip e = record { long = w .long; flags = λ k h m. by k (decLt s k) h m; before = λ i h. w .before i (omega arith) }
+      where
+        by : (k : ℕ) → Dec (s < k) → s - 1 < k → k ≤ sorts → flag fit t k ≡ x k
+        by k (yes h) _ m = w .flags k h m
+        by k (no h) g m = let same : k ≡ s = omega arith in ap (flag fit t) same ∙ e ∙ ap x (sym same)
+
     pub wrote-all : s ≤ 0 → Wrote sorts t x old fit
     wrote-all h = record { flags = λ k pos l. w .flags k (omega arith) l; before = λ i l. w .before i (omega arith) }
 
     -- the flag of a type before
     pub flag-before : (a k j : ℕ) → a < t → k ≤ 64 → j ≡ k → flag fit a j ≡ flag old a k
     flag-before a k j h l e = ap (flag fit a) e ∙ w .before (a * 65 + k) (omega arith)
-
--- no flag of type t behind a sort is set
-pub record Unset (sorts t : ℕ) (fit : List ℕ) (s : ℕ) : Type 0 where
-  pub none : (k : ℕ) → s < k → k ≤ sorts → flag fit t k ≡ 0
-
-module _ (sorts t : ℕ) (fit : List ℕ) where
-  pub unset-none : Unset sorts t fit sorts
-  unset-none = record { none = λ k h l. absurd (omega arith) }
-
-  pub unset-more : (s : ℕ) → Unset sorts t fit s → flag fit t s ≡ 0 → Unset sorts t fit (s - 1)
-  unset-more s u e = record { none = λ k h l. by k h l (decLt s k) }
-    where
-      by : (k : ℕ) → s - 1 < k → k ≤ sorts → Dec (s < k) → flag fit t k ≡ 0
-      by k h l (yes m) = u .none k m l
-      by k h l (no m) = let same : k ≡ s = omega arith in ap (flag fit t) same ∙ e
 
 -- the table with a row more
 module _ (fit : List ℕ) (t sorts : ℕ) (rs : List Record) where

@@ -1,4 +1,5 @@
 pub mod Numbers
 pub mod Rows
 pub mod Filling
+pub mod Members
 pub mod Arrows

@@ -1,14 +1,18 @@
 -- The table of fits, row by row.
 use Prim.Native.Nat.{ℕ, _+_, _-_, _*_, _<_, _≤_}
 use mathlib.Core.Path.{_≡_}
-use mathlib.Core.Bool.{Bool, false}
+use mathlib.Core.Bool.{Bool, _&&_}
 use mathlib.Core.List.{List, []}
-use lib.ListN.{getD}
+use lib.Dec.{ltb}
+use lib.ListN.{length, getD, drop}
 use lib.Bits.{bitAnd}
+use Rattle.scheme.specs.Lists.{all}
+use Rattle.scheme.specs.Flags.{bit, isKept}
 use Rattle.records.specs.Fields.{word}
 use Rattle.records.specs.Records.{Record}
 use Rattle.records.proofs.Fields.{Bytes}
 use Rattle.casefile.specs.Kinds.{sort, type, payloads}
+use Rattle.casefile.specs.Tables.{words}
 use Rattle.casefile.proofs.Passed.{Passed}
 use Rattle.entries.specs.Index.{Indexed}
 use Rattle.fit_flags.specs.Fitted.{flag, Fitted}
@@ -42,21 +46,34 @@ pub record Wrote (sorts t : ℕ) (x : ℕ → ℕ) (old fit : List ℕ) : Type 0
   pub flags : (s : ℕ) → 0 < s → s ≤ sorts → flag fit t s ≡ x s
   pub before : (i : ℕ) → i ≤ t * 65 → getD fit i 0 ≡ getD old i 0
 
--- the flag x together with that of type b and the sort at s of a table
-abbrev pub andFlag : List ℕ → ℕ → List ℕ → ℕ → ℕ → ℕ
-andFlag fit x others b s = bitAnd x (flag fit b (getD others s 0))
-
 -- the flags of two types, by a table each, taken together
 abbrev pub both : List ℕ → List ℕ → ℕ → List ℕ → ℕ → ℕ → ℕ
-both fit ones a others b s = andFlag fit (flag fit a (getD ones s 0)) others b s
+both fit ones a others b s = bitAnd (flag fit a (getD ones s 0)) (flag fit b (getD others s 0))
 
--- the flag of type t together with that of another type
-abbrev pub met : List ℕ → ℕ → List ℕ → ℕ → ℕ → ℕ
-met fit t others b s = andFlag fit (flag fit t s) others b s
+-- p is a payload, the len bytes at place
+pub record PayloadThere (file : List ℕ) (place len : ℕ) (p : List ℕ) : Type 0 where
+  pub long : length p ≡ len
+  pub word-there : (i : ℕ) → i + 2 ≤ len → word p i ≡ word file (place + i)
 
--- r says whether some flag of type t is set: where it says no, none is
-abbrev pub FindsFlag : ℕ → ℕ → List ℕ → Bool → Type 0
-FindsFlag sorts t fit r = r ≡ false → (s : ℕ) → 0 < s → s ≤ sorts → flag fit t s ≡ 0
+-- type m is before type t and fits sort s, as a table says
+abbrev pub saysFits : List ℕ → ℕ → ℕ → ℕ → Bool
+saysFits fit t s m = ltb m t && isKept (flag fit m s)
+
+-- so does each member behind the first of type t, whose payload is p
+abbrev pub restFits : List ℕ → ℕ → ℕ → List ℕ → Bool
+restFits fit t s p = all (saysFits fit t s) (words (drop 4 p))
+
+-- the flag of type t together with what its members behind the first make of the sort at s of a table
+abbrev pub met : List ℕ → ℕ → List ℕ → List ℕ → ℕ → ℕ
+met fit t others p s = bit (isKept (flag fit t s) && restFits fit t (getD others s 0) p)
+
+-- r says whether the members behind the first fit sort s
+abbrev pub MembersFit : List ℕ → ℕ → ℕ → ℕ → ℕ → List ℕ → ℕ → Type 0
+MembersFit file place len s t fit r = (p : List ℕ) → PayloadThere file place len p → r ≡ bit (restFits fit t s p)
+
+-- the flags of type t are met with what its members behind the first make of them
+abbrev pub MeetsMembers : List ℕ → List ℕ → ℕ → ℕ → ℕ → ℕ → List ℕ → List ℕ → Type 0
+MeetsMembers file froms place len sorts t old fit = (p : List ℕ) → PayloadThere file place len p → Wrote sorts t (met old t froms p) old fit
 
 module _ (file index : List ℕ) where
   -- the table with the row of type t, where it had the rows before

@@ -4,7 +4,7 @@ use records::word_at;
 ghost use mathlib.Core.Path.{_≡_};
 ghost use Prim.Native.Nat.{_<_, _≤_};
 ghost use lib.ListN.{length};
-ghost use Rattle.fits.specs.Filled.{Small, SortWords, Wrote, both, met, FindsFlag, FillsState, FillsArrow, ReadsRow, Fills};
+ghost use Rattle.fits.specs.Filled.{Small, SortWords, Wrote, both, MembersFit, MeetsMembers, FillsState, FillsArrow, ReadsRow, Fills};
 
 // A number of one byte, as wide as an index.
 fn wide(number: u8) -> usize
@@ -73,37 +73,50 @@ fn write_row(
     }
 }
 
-// Clears the flag of type t for each sort s where type b does not fit the sort at s of a table.
-fn meet_row(others: &[u8; 65], b: usize, sorts: usize, t: usize, fit: &mut [u8])
-    requires { ⌜ (t < 1024) × (sorts ≤ 64) × (length (now fit) ≡ 66560) × (b < t) × Small sorts (now others) ⌝ }
-    ensures { λ _. ⌜ Wrote sorts t (met (now (fit .entry)) t (now (others .entry)) b) (now (fit .entry)) (now (fit .exit)) ⌝ }
+// Whether each member of type t behind the first fits sort s, by the flags of the types before it: 1 or 0. The payload of t is the
+// len bytes at place.
+fn members_fit(file: &[u8], place: usize, len: usize, s: usize, t: usize, fit: &[u8]) -> u8
+    requires { ⌜ (t < 1024) × (s ≤ 64) × (length (now fit) ≡ 66560) × (place < 65536) × (len < 65536) ⌝ }
+    ensures { λ r. ⌜ MembersFit (now (file .entry)) place len s t (now (fit .entry)) r ⌝ }
 {
-    let mut s: usize = sorts;
-    while 0 < s {
-        let one = fit[t * 65 + s];
-        let other = fit[b * 65 + wide(others[s])];
-        fit[t * 65 + s] = one & other;
-        s = s - 1;
+    let mut i: usize = 4;
+    while i + 2 <= len {
+        let member = word_at(file, place + i);
+        if t <= member {
+            return 0;
+        }
+        if fit[member * 65 + s] == 0 {
+            return 0;
+        }
+        i = i + 2;
     }
+    1
 }
 
-// Whether some flag of type t is set, for so many sorts.
-fn any_flag(sorts: usize, t: usize, fit: &[u8]) -> bool
-    requires { ⌜ (t < 1024) × (sorts ≤ 64) × (length (now fit) ≡ 66560) ⌝ }
-    ensures { λ r. ⌜ FindsFlag sorts t (now (fit .entry)) r ⌝ }
+// Clears the flags of type t for the sorts that some member behind the first does not fit; only sorts whose flag is set are
+// looked at.
+fn meet_members(
+    file: &[u8],
+    froms: &[u8; 65],
+    place: usize,
+    len: usize,
+    sorts: usize,
+    t: usize,
+    fit: &mut [u8],
+)
+    requires { ⌜ (t < 1024) × (sorts ≤ 64) × (length (now fit) ≡ 66560) × (place < 65536) × (len < 65536) × Small sorts (now froms) ⌝ }
+    ensures { λ _. ⌜ MeetsMembers (now (file .entry)) (now (froms .entry)) place len sorts t (now (fit .entry)) (now (fit .exit)) ⌝ }
 {
     let mut s: usize = sorts;
     while 0 < s {
         if fit[t * 65 + s] != 0 {
-            return true;
+            fit[t * 65 + s] = members_fit(file, place, len, wide(froms[s]), t, fit);
         }
         s = s - 1;
     }
-    false
 }
 
-// Writes the row of type t, an arrow whose payload is the len bytes at place: where its result and each member fit. Where no flag
-// is left, no further member is looked at.
+// Writes the row of type t, an arrow whose payload is the len bytes at place: where its result and each member fit.
 fn fill_arrow(
     file: &[u8],
     froms: &[u8; 65],
@@ -134,18 +147,7 @@ fn fill_arrow(
     if len < 6 {
         return;
     }
-    if !any_flag(sorts, t, fit) {
-        return;
-    }
-    let mut i: usize = 4;
-    while i + 2 <= len {
-        let member = word_at(file, place + i);
-        if t <= member {
-            return;
-        }
-        meet_row(froms, member, sorts, t, fit);
-        i = i + 2;
-    }
+    meet_members(file, froms, place, len, sorts, t, fit);
 }
 
 // Writes the row of type t: its flags for sort 0 and so many listed sorts.
