@@ -11,10 +11,11 @@ use lib.ListN.{length, getD, take, drop, drop-of-length-le}
 use lib.Seq.{length-take-le, drop-cons, getD-take}
 use Rattle.scheme.specs.Types.{Ty, state, arrow, Tys, []ʸ, _∷ʸ_, members, same, takes}
 use Rattle.scheme.proofs.Lists.{and-no}
+use Rattle.records.specs.Fields.{byte}
 use Rattle.records.specs.Records.{Record}
 use Rattle.goals.specs.Goals.{Goal, of-state, of-arrow, Typed, IsResult, CountsMembers, IsMember}
 use Rattle.goals.proofs.Goals.{goals-same}
-use Rattle.arrows.specs.Arrows.{Small, off, GoalIf, TakesOff, Matches}
+use Rattle.arrows.specs.Arrows.{Small, off, GoalIf, TakesOff, RowAt, Matches}
 
 -- while arrows are taken off: i are off, and the others are still on
 pub record Off (index : List ℕ) (n goal k g i : ℕ) : Type 0 where
@@ -74,6 +75,10 @@ pub record Matching (file index : List ℕ) (n : ℕ) (row : List ℕ) (k arity 
 
 pub match-start : (file index : List ℕ) (n : ℕ) (row : List ℕ) (k arity q goal : ℕ) → Matching file index n row k arity q goal goal k
 match-start file index n row k arity q goal = record { upTo = omega arith; here = λ rs w τ x l y a b. (τ, x, refl) }
+
+-- a target, read at its place
+pub target-is : (file row : List ℕ) (place : ℕ) {i r : ℕ} → RowAt file place row → i ≤ 3 → r ≡ byte file (place + 2 + i) → r ≡ getD row i 0
+target-is file row place {i = i} a h e = e ∙ sym (a i (omega arith))
 
 -- one target
 pub takes-step : (row : List ℕ) (i arity q : ℕ) → i < arity → arity ≤ 4 → length row ≡ 4 → takes (drop i (take arity row)) q ≡ arrow (state (getD row i 0) ∷ʸ []ʸ) (takes (drop (suc i) (take arity row)) q)

@@ -1,11 +1,12 @@
 -- Arrows taken off a type. Section "Types and shrinking" of the scope: "one arrow off for each argument".
-use Prim.Native.Nat.{ℕ, zero, suc, _<_, _≤_}
+use Prim.Native.Nat.{ℕ, zero, suc, _+_, _<_, _≤_}
 use mathlib.Core.Path.{_≡_}
 use mathlib.Core.Bool.{Bool}
 use mathlib.Core.List.{List}
 use mathlib.Core.Option.{Option, none, some}
 use lib.ListN.{length, getD, take, drop}
 use Rattle.scheme.specs.Types.{Ty, state, arrow, same, takes}
+use Rattle.records.specs.Fields.{byte}
 use Rattle.records.specs.Records.{Record}
 use Rattle.goals.specs.Goals.{Goal, Typed}
 
@@ -27,6 +28,10 @@ pub record TakesOff (index : List ℕ) (n g k r : ℕ) : Type 0 where
 -- the first n numbers of a row are bytes
 abbrev pub Small : ℕ → List ℕ → Type 0
 Small n row = (i : ℕ) → i < n → getD row i 0 < 256
+
+-- the four targets of the transition at a place
+abbrev pub RowAt : List ℕ → ℕ → List ℕ → Type 0
+RowAt file place row = (i : ℕ) → i < 4 → getD row i 0 ≡ byte file (place + 2 + i)
 
 -- r says whether a goal is the type that takes the targets of a row, from number k on up to the arity, to a state
 pub record Matches (file index : List ℕ) (n : ℕ) (row : List ℕ) (k arity q g : ℕ) (r : Bool) : Type 0 where

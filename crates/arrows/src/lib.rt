@@ -2,7 +2,10 @@
 use goal_tables::member_of;
 use goal_tables::members_of;
 use goal_tables::result_of;
-ghost use Rattle.arrows.specs.Arrows.{TakesOff, Matches};
+use records::byte_at;
+ghost use mathlib.Core.List.{List};
+ghost use Prim.Native.Nat.{ℕ, _<_};
+ghost use Rattle.arrows.specs.Arrows.{TakesOff, RowAt, Matches};
 
 // The goal with k arrows off; 65,535 where it has fewer.
 pub fn off(index: &[u16], types: usize, goal: usize, k: usize) -> usize
@@ -20,20 +23,23 @@ pub fn off(index: &[u16], types: usize, goal: usize, k: usize) -> usize
     g
 }
 
-// Whether a goal is the type of a constructor that takes the targets of a row from number k on, and no more than its
-// arity, to a state.
+// Whether a goal is the type of a constructor that takes the targets of the transition at a place from number k on, and no
+// more than its arity, to a state.
 pub fn row_matches(
     file: &[u8],
     index: &[u16],
     types: usize,
-    row: [u8; 4],
+    place: usize,
     k: usize,
     arity: usize,
     state: usize,
     goal: usize,
 ) -> bool
-    ensures { λ r. ⌜ Matches (now (file .entry)) (now (index .entry)) types row k arity state goal r ⌝ }
+    ensures { λ r. ⌜ (place < 65536 → (row : List ℕ) → RowAt (now (file .entry)) place row → Matches (now (file .entry)) (now (index .entry)) types row k arity state goal r) ⌝ }
 {
+    if 65535 < place {
+        return false;
+    }
     let mut g = goal;
     let mut i = k;
     while i < arity {
@@ -50,7 +56,7 @@ pub fn row_matches(
         if member < types {
             return false;
         }
-        if member - types != row[i] as usize {
+        if member - types != byte_at(file, place + 2 + i) {
             return false;
         }
         g = result_of(index, types, g);

@@ -2,36 +2,20 @@
 // lies in the file, 32 for each state; 0 where there is none.
 use enter::store;
 use entries::place_at;
-use moves::target_at;
 use records::byte_at;
-ghost use Rattle.row_places.specs.RowPlaces.{IsRowIn, Emptied, FillsRows};
+ghost use Rattle.row_places.specs.RowPlaces.{IsPlaceIn, Emptied, FillsRows};
 
-// The four targets for a state and a constructor; 255 where there is no transition. Where the last one is there they are read
-// without a further test.
-pub fn row_in(file: &[u8], index: &[u16], q: usize, c: usize) -> [u8; 4]
-    ensures { λ r. ⌜ IsRowIn (now (file .entry)) (now (index .entry)) q c r ⌝ }
+// Where the transition for a state and a constructor lies in the file; 0 where there is none.
+pub fn place_in(index: &[u16], q: usize, c: usize) -> usize
+    ensures { λ r. ⌜ IsPlaceIn (now (index .entry)) q c r ⌝ }
 {
     if 16 <= q {
-        return [255; 4];
+        return 0;
     }
     if 32 <= c {
-        return [255; 4];
+        return 0;
     }
-    let at = place_at(index, 7522 + (q * 32 + c));
-    if at == 0 {
-        return [255; 4];
-    }
-    if file.len() <= at + 5 {
-        let early = target_at(file, at + 2);
-        let later = target_at(file, at + 3);
-        let last = target_at(file, at + 4);
-        return [early, later, last, 0];
-    }
-    let first = target_at(file, at + 2);
-    let second = target_at(file, at + 3);
-    let third = target_at(file, at + 4);
-    let fourth = target_at(file, at + 5);
-    [first, second, third, fourth]
+    place_at(index, 7522 + (q * 32 + c))
 }
 
 // Sets the place for each state and constructor to 0.

@@ -1,6 +1,6 @@
 -- A type leads to a goal when its arguments have what it asks for and the rest of it is the goal; of the types of a
 -- constructor one at most does, that of the goal's final state.
-use Prim.Native.Nat.{ℕ, zero, suc, _+_, _-_, _<_, _≤_}
+use Prim.Native.Nat.{ℕ, zero, suc, _-_, _<_, _≤_}
 use native.Mathlib.Omega.{arith}
 use native.Mathlib.Nat.{le-of-suc-le-suc, not-suc-le-zero}
 use native.Mathlib.Decide.{ℕ-discrete, decLe}
@@ -8,19 +8,18 @@ use mathlib.Core.Path.{_≡_, refl, sym, ap, ap₂, _∙_}
 use mathlib.Core.Bool.{Bool, true, false, _&&_, _||_}
 use mathlib.Core.List.{List, [], _∷_, _++_}
 use mathlib.Core.Option.{Option, none, some}
-use lib.Dec.{T}
 use lib.ListN.{length, drop, length-drop}
 use Rattle.scheme.specs.Lists.{found, any, all}
 use Rattle.scheme.specs.Terms.{Head, Terms, []ᵗ, _∷ᵗ_, countᵗ}
 use Rattle.scheme.specs.Types.{Ty, state, arrow, members, same, takes}
 use Rattle.scheme.specs.Typing.{has, leads, typesAt, conTypes}
-use Rattle.scheme.proofs.Lists.{true→T, and-no}
-use Rattle.scheme.proofs.Exact.{same→≡}
+use Rattle.scheme.proofs.Lists.{T→true, true→T, and-no}
+use Rattle.scheme.proofs.Exact.{same→≡, same-refl}
 use Rattle.arrows.specs.Arrows.{off}
 use Rattle.serving.specs.Leading.{argsHave}
 
 -- tests joined
-pub and-yes : (b : Bool) → (b && true) ≡ b
+and-yes : (b : Bool) → (b && true) ≡ b
 and-yes true = refl
 and-yes false = refl
 
@@ -44,6 +43,23 @@ leads-rest heads (t ∷ᵗ ts) (arrow a r) goal =
     let args = all (λ m. has same heads t m) (members a) in
     ap (λ b. args && b) (leads-rest heads ts r goal) ∙ and-assoc args (argsHave (has same heads) ts r) (restIs ts r goal)
 
+module _ (ts : Terms) (τ goal : Ty) where
+  pub rest-is : off (countᵗ ts) τ ≡ some goal → restIs ts τ goal ≡ true
+  unfolding found
+  rest-is e = ap (λ o. found o (λ ρ. same ρ goal)) e ∙ T→true (same goal goal) (same-refl goal)
+
+  pub rest-not : (off (countᵗ ts) τ ≡ some goal → ⊥) → restIs ts τ goal ≡ false
+  unfolding found
+  rest-not ne = go (off (countᵗ ts) τ) refl
+    where
+      go : (o : Option Ty) → off (countᵗ ts) τ ≡ o → found o (λ ρ. same ρ goal) ≡ false
+      go none e = refl
+      go (some ρ) e = by (same ρ goal) refl
+        where
+          by : (b : Bool) → same ρ goal ≡ b → b ≡ false
+          by true f = absurd (ne (e ∙ ap some (same→≡ ρ goal (true→T f))))
+          by false f = refl
+
 -- a type that is the goal, or is not
 module _ (heads : Head → List Ty) (ts : Terms) (τ goal : Ty) where
   pub leads-is : restIs ts τ goal ≡ true → leads same heads ts τ goal ≡ argsHave (has same heads) ts τ
@@ -59,7 +75,7 @@ takes-off zero qs q h = refl
 takes-off (suc k) [] q h = absurd (not-suc-le-zero h)
 takes-off (suc k) (p ∷ ps) q h = takes-off k ps q (le-of-suc-le-suc h)
 
-pub takes-past : (k : ℕ) (qs : List ℕ) (q : ℕ) → length qs < k → off k (takes qs q) ≡ none
+takes-past : (k : ℕ) (qs : List ℕ) (q : ℕ) → length qs < k → off k (takes qs q) ≡ none
 unfolding takes off
 takes-past zero qs q h = absurd (omega arith)
 takes-past (suc k) [] q h = refl
@@ -70,6 +86,23 @@ takes-all : (qs : List ℕ) (q : ℕ) → off (length qs) (takes qs q) ≡ some 
 unfolding takes off
 takes-all [] q = refl
 takes-all (p ∷ ps) q = takes-all ps q
+
+-- a type of a constructor that is the goal with arrows off ends as the goal does
+pub off-rest : (k : ℕ) (qs : List ℕ) (q : ℕ) (σ : Ty) → off k (takes qs q) ≡ some σ → (k ≤ length qs) × (off (length qs - k) σ ≡ some (state q))
+off-rest k qs q σ e = go (decLe k (length qs))
+  where
+    go : Dec (k ≤ length qs) → (k ≤ length qs) × (off (length qs - k) σ ≡ some (state q))
+    go (no h) = let f = takes-past k qs q (omega arith) in let z : _≡_ {A = ℕ} 0 1 = cc in absurd (omega arith)
+    go (yes h) =
+        let f = takes-off k qs q h in
+        let is : takes (drop k qs) q ≡ σ = cc in
+        (h, ap₂ off (sym (length-drop k qs)) (sym is) ∙ takes-all (drop k qs) q)
+
+-- so that two of as many arguments are types at the same state
+pub same-end : (k : ℕ) (ps qs : List ℕ) (p q : ℕ) (σ : Ty) → length ps ≡ length qs → off k (takes ps p) ≡ some σ → off k (takes qs q) ≡ some σ → p ≡ q
+same-end k ps qs p q σ size e f =
+    let g = sym (off-rest k ps p σ e .1) ∙ ap (λ m. off (m - k) σ) size ∙ off-rest k qs q σ f .1 in
+    cc
 
 -- The types of a constructor, by a test that only the one at state r may pass.
 module _ (targets : ℕ → ℕ → Option (List ℕ)) (c : ℕ) (p : Ty → Bool) where
@@ -108,36 +141,3 @@ module _ (targets : ℕ → ℕ → Option (List ℕ)) (c : ℕ) (p : Ty → Boo
       go : Dec (n ≡ r) → (r < n → ((q : ℕ) → q < n → (q ≡ r → ⊥) → here q ≡ false) → any p (conTypes targets n c) ≡ here r) → any p (conTypes targets (suc n) c) ≡ here r
       go (yes e) ih = step n ∙ ap (λ b. b || here n) (con-none n (λ q k. h q (omega arith) (λ z. omega arith))) ∙ ap here e
       go (no ne) ih = step n ∙ ap (λ b. any p (conTypes targets n c) || b) (h n (omega arith) ne) ∙ or-no (any p (conTypes targets n c)) ∙ ih (omega arith) (λ q k. h q (omega arith))
-
--- A constructor of `arity` arguments, with some of them: the goal's final state decides.
-module _ (heads : Head → List Ty) (ts : Terms) (goal : Ty) (arity : ℕ) where
-  abbrev k : ℕ
-  k = countᵗ ts
-
-  -- too many arguments
-  many : (qs : List ℕ) (q : ℕ) → length qs ≡ arity → arity < k → restIs ts (takes qs q) goal ≡ false
-  unfolding found
-  many qs q e h = ap (λ o. found o (λ ρ. same ρ goal)) (takes-past k qs q (omega arith))
-
-  -- the final state of the goal is that of the constructor's type
-  final-is : (qs : List ℕ) (q : ℕ) → length qs ≡ arity → k ≤ arity → restIs ts (takes qs q) goal ≡ true → off (arity - k) goal ≡ some (state q)
-  unfolding found
-  final-is qs q e h r =
-      let here : same (takes (drop k qs) q) goal ≡ true = sym (ap (λ o. found o (λ ρ. same ρ goal)) (takes-off k qs q (omega arith))) ∙ r in
-      let is : takes (drop k qs) q ≡ goal = same→≡ (takes (drop k qs) q) goal (true→T here) in
-      let size : arity - k ≡ length (drop k qs) = ap (λ n. n - k) (sym e) ∙ sym (length-drop k qs) in
-      ap₂ off size (sym is) ∙ takes-all (drop k qs) q
-
-  -- a state that is not the final one of the goal
-  pub other-state : (qs : List ℕ) (q : ℕ) → length qs ≡ arity → (k ≤ arity → off (arity - k) goal ≡ some (state q) → ⊥) → leads same heads ts (takes qs q) goal ≡ false
-  other-state qs q e ne = leads-not heads ts (takes qs q) goal (go (restIs ts (takes qs q) goal) refl (decLe k arity))
-    where
-      go : (b : Bool) → restIs ts (takes qs q) goal ≡ b → Dec (k ≤ arity) → b ≡ false
-      go false f d = refl
-      go true f (yes h) = absurd (ne h (final-is qs q e h f))
-      go true f (no h) = sym f ∙ many qs q e (omega arith)
-
-  -- the final state of the goal: the targets must give the goal, and the arguments what they ask for
-  pub this-state : (qs : List ℕ) (q : ℕ) → length qs ≡ arity → k ≤ arity → leads same heads ts (takes qs q) goal ≡ (argsHave (has same heads) ts (takes qs q) && same (takes (drop k qs) q) goal)
-  unfolding found
-  this-state qs q e h = leads-rest heads ts (takes qs q) goal ∙ ap (λ o. argsHave (has same heads) ts (takes qs q) && found o (λ ρ. same ρ goal)) (takes-off k qs q (omega arith))

@@ -2,19 +2,18 @@
 -- q1..qn, its constructor has exactly the type taking {q1}, .., {qn} to q; without one, none at q".
 use Prim.Native.Nat.{ℕ, _-_, _<_, _≤_}
 use mathlib.Core.Path.{_≡_}
-use mathlib.Core.Bool.{Bool}
 use mathlib.Core.List.{List}
-use mathlib.Core.Option.{Option, some}
-use lib.ListN.{length, getD, drop}
-use Rattle.scheme.specs.Lists.{found}
-use Rattle.scheme.specs.Types.{Ty, state, same, takes}
+use mathlib.Core.Option.{some}
+use lib.ListN.{length, getD, take}
+use Rattle.scheme.specs.Types.{Ty, state, takes}
 use Rattle.records.specs.Records.{Record}
-use Rattle.casefile.specs.Kinds.{Kind}
-use Rattle.casefile.specs.Tables.{aritiesOf}
+use Rattle.casefile.specs.Kinds.{Kind, payloads}
+use Rattle.casefile.specs.Tables.{aritiesOf, transitionsOf, targetsAt}
 use Rattle.entries.specs.Index.{Indexed}
 use Rattle.goals.specs.Goals.{Goal, Typed}
 use Rattle.arrows.specs.Arrows.{off}
-use Rattle.moves.specs.Moves.{targetsIn}
+use Rattle.moves.specs.Moves.{fourAt}
+use Rattle.row_places.specs.RowPlaces.{RowsFor}
 
 abbrev pub arityIn : List Record → ℕ → ℕ
 arityIn rs c = getD (aritiesOf rs) c 0
@@ -31,7 +30,13 @@ pub record EndsIn (file index : List ℕ) (n constructors c count goal r : ℕ) 
   pub ends : (rs : List Record) → Given file index n constructors rs → (σ : Ty) → Goal rs n goal σ → r < 16 → (count ≤ arityIn rs c) × (off (arityIn rs c - count) σ ≡ some (state r))
   pub only : (rs : List Record) → Given file index n constructors rs → (σ : Ty) → Goal rs n goal σ → (q : ℕ) → q < 16 → count ≤ arityIn rs c → off (arityIn rs c - count) σ ≡ some (state q) → r ≡ q
 
--- r says whether a row has targets that give the goal, with so many arrows off
-pub record Serves (file index : List ℕ) (n constructors : ℕ) (row : List ℕ) (c count q goal : ℕ) (r : Bool) : Type 0 where
-  pub serves : (rs : List Record) → Given file index n constructors rs → (σ : Ty) → Goal rs n goal σ → length row ≡ 4 → count ≤ arityIn rs c → (o : Option (List ℕ)) → targetsIn (arityIn rs c) row ≡ o
-      → ((qs : List ℕ) → o ≡ some qs → (i : ℕ) → getD qs i 0 < 16) → r ≡ found o (λ qs. same (takes (drop count qs) q) σ)
+-- the type of constructor c that is σ with so many arrows off: there is none where the place is 0, else it is that of the
+-- transition whose payload lies at the place
+pub record Leads (file : List ℕ) (rs : List Record) (c count : ℕ) (σ : Ty) (place : ℕ) : Type 0 where
+  pub absent : place ≡ 0 → (q : ℕ) (qs : List ℕ) → targetsAt (transitionsOf rs) q c ≡ some qs → off count (takes qs q) ≡ some σ → ⊥
+  pub there : (place ≡ 0 → ⊥) → (q : ℕ) × (targetsAt (transitionsOf rs) q c ≡ some (take (arityIn rs c) (fourAt file place))) × (off count (takes (take (arityIn rs c) (fourAt file place)) q) ≡ some σ)
+
+-- r is the place of the transition whose targets give the goal for constructor c with so many arguments, 0 where there is none
+pub record LeadsFrom (file index : List ℕ) (n constructors c count goal r : ℕ) : Type 0 where
+  pub leads : (rs : List Record) → Given file index n constructors rs → RowsFor file index rs → length (payloads Kind.states rs) ≤ 1 → (σ : Ty) → Goal rs n goal σ → Leads file rs c count σ r
+  pub bound : r < 65536

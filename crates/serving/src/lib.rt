@@ -1,12 +1,14 @@
 // The types of a constructor against a goal.
 use arrows::off;
 use arrows::row_matches;
+use row_places::place_in;
+use rows::arity_of;
 ghost use Prim.Native.Nat.{ℕ};
 ghost use Rattle.rows.specs.Rows.{IsArity};
-ghost use Rattle.serving.specs.Serving.{EndsIn, Serves};
+ghost use Rattle.serving.specs.Serving.{EndsIn, LeadsFrom};
 
 // The final state of a goal, as the type of a constructor of an arity with `count` arguments; 65,535 where it has none.
-pub fn state_at(
+fn state_at(
     file: &[u8],
     index: &[u16],
     types: usize,
@@ -29,21 +31,29 @@ pub fn state_at(
     end - types
 }
 
-// Whether a row of the transition table, for a constructor of an arity, has targets that give the goal, with `count` arrows off.
-pub fn row_serves(
+// Where the transition lies whose targets give the goal, for a constructor with `count` arguments: the one at the state in which
+// the goal ends. 0 where there is none.
+pub fn place_for(
     file: &[u8],
     index: &[u16],
     types: usize,
-    arity: usize,
-    row: [u8; 4],
+    constructors: usize,
+    c: usize,
     count: usize,
-    state: usize,
     goal: usize,
-) -> bool
-    ensures { λ r. ⌜ ((constructors c : ℕ) → IsArity (now (file .entry)) (now (index .entry)) constructors c arity → Serves (now (file .entry)) (now (index .entry)) types constructors row c count state goal r) ⌝ }
+) -> usize
+    ensures { λ r. ⌜ LeadsFrom (now (file .entry)) (now (index .entry)) types constructors c count goal r ⌝ }
 {
-    if row[0] == 255 {
-        return false;
+    let arity = arity_of(file, index, constructors, c);
+    let q = state_at(file, index, types, arity, count, goal);
+    let place = place_in(index, q, c);
+    if place == 0 {
+        return 0;
     }
-    row_matches(file, index, types, row, count, arity, state, goal)
+    if count < arity {
+        if !row_matches(file, index, types, place, count, arity, q, goal) {
+            return 0;
+        }
+    }
+    place
 }

@@ -1,35 +1,15 @@
 -- The loop over the arguments of a constructor: each has its target.
-use Prim.Native.Nat.{ℕ, suc, _+_, _*_, _<_, _≤_}
+use Prim.Native.Nat.{ℕ, suc, _<_, _≤_}
 use native.Mathlib.Omega.{arith}
 use mathlib.Core.Path.{_≡_, refl}
 use mathlib.Core.Bool.{Bool, true, false}
 use mathlib.Core.List.{List}
 use lib.ListN.{getD}
-use Rattle.records.specs.Fields.{byte, word}
-use Rattle.row_places.specs.RowPlaces.{IsRowIn}
-use Rattle.serving.specs.Serving.{EndsIn, Serves}
 use Rattle.wants.specs.Wants.{Wants, IsTarget}
 use Rattle.wants.proofs.Wanting.{want-target, want-second, follow-row}
 use Rattle.term_check.specs.Checking.{Body, ChecksTerm, ChecksArgs}
 use Rattle.term_check.proofs.Arguments.{Args, args-past, args-stuck, args-next, args-lacks, args-has}
-use Rattle.term_check.proofs.Heads.{no-state-there, no-constructor-there, row-not-served, row-checked}
 
-module _ (x : Body) (memo₀ : List ℕ) (i goal q c count : ℕ) (is-c : c ≡ word (x .body) (i * 4 + 1)) (is-count : count ≡ byte (x .body) (i * 4 + 3)) (ends : EndsIn (x .file) (x .index) (x .test .types) (x .test .constructors) c count goal q) (tag : ℕ) (is-tag : tag ≡ byte (x .body) (i * 4)) (e : tag ≡ 0) where
-  pub targets-no-state : 16 ≤ q → ChecksTerm x memo₀ i goal memo₀ false
-  targets-no-state h = no-state-there x memo₀ i goal tag c count is-tag is-c is-count e q ends h
-
-  pub targets-no-constructor : 32 ≤ c → ChecksTerm x memo₀ i goal memo₀ false
-  targets-no-constructor h = no-constructor-there x memo₀ i goal tag c count is-tag is-c is-count e q ends h
-
-  -- the row at the state
-  module _ (few : q < 16) (known : c < 32) (row : List ℕ) (is-row : IsRowIn (x .file) (x .index) q c row) (served : Bool) (serves : Serves (x .file) (x .index) (x .test .types) (x .test .constructors) row c count q goal served) where
-    pub targets-not-served : served ≡ false → ChecksTerm x memo₀ i goal memo₀ false
-    targets-not-served z = row-not-served x memo₀ i goal tag c count is-tag is-c is-count e q ends few known row is-row served serves z
-
-    pub targets-told : served ≡ true → (first : ℕ) → first ≡ suc i → (after : List ℕ) (b : Bool) → ChecksArgs x memo₀ first count true 0 row after b → ChecksTerm x memo₀ i goal after b
-    targets-told z first ef after b told = row-checked x memo₀ i goal tag c count is-tag is-c is-count e q ends few known row is-row served serves z first ef after b told
-
--- One argument.
 module _ (x : Body) {memo₀ : List ℕ} {first count : ℕ} {row memo : List ℕ} {at k : ℕ} (w : Args x memo₀ first count true 0 row memo at k 0 0) (h : k < count) where
   module _ (target : ℕ) (is : IsTarget (x .test .types) row k target) where
     -- no file has so many types

@@ -8,10 +8,7 @@ use goal_tables::result_of;
 use known_runs::known_until;
 use memo::known;
 use memo::learn;
-use row_places::row_in;
-use rows::arity_of;
-use serving::row_serves;
-use serving::state_at;
+use serving::place_for;
 use wants::target_of;
 use wants::wanted;
 ghost use mathlib.Core.Bool.{false};
@@ -147,8 +144,6 @@ fn check_head(
     if 1024 < types {
         return false;
     }
-    let constructors = test[1];
-    let c = front.number;
     let count = front.count;
     if 255 < count {
         return false;
@@ -157,21 +152,13 @@ fn check_head(
     if next <= at {
         return false;
     }
-    let arity = arity_of(file, index, constructors, c);
-    let q = state_at(file, index, types, arity, count, goal);
-    if 16 <= q {
-        return false;
-    }
-    if 32 <= c {
-        return false;
-    }
-    let row = row_in(file, index, q, c);
-    if !row_serves(file, index, types, arity, row, count, q, goal) {
+    let place = place_for(file, index, types, test[1], front.number, count, goal);
+    if place == 0 {
         return false;
     }
     let mut i: usize = 0;
     while i < count {
-        let target = target_of(types, row, i);
+        let target = target_of(file, types, place, i);
         if target == 65535 {
             return false;
         }

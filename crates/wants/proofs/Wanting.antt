@@ -8,11 +8,13 @@ use mathlib.Core.Bool.{true, false}
 use mathlib.Core.List.{List}
 use lib.ListN.{length, getD, take, drop}
 use Rattle.scheme.specs.Types.{Ty, state, arrow, Tys, []ʸ, _∷ʸ_, members, takes}
+use Rattle.records.specs.Fields.{byte, IsField}
 use Rattle.records.specs.Records.{Record}
 use Rattle.goals.specs.Goals.{Goal, of-state, IsResult, CountsMembers, IsMember}
 use Rattle.goals.proofs.Goals as types
 use Rattle.goals.proofs.Goals.{arrow-record}
-use Rattle.arrows.proofs.Arrows.{takes-step, takes-none}
+use Rattle.arrows.specs.Arrows.{RowAt}
+use Rattle.arrows.proofs.Arrows.{target-is, takes-step, takes-none}
 use Rattle.wants.specs.Wants.{HeadType, listed, of-row, Wants, Follows, IsTarget}
 
 -- an arrow that a row makes
@@ -101,9 +103,9 @@ pub follow-result : {index : List ℕ} {n head : ℕ} (r : ℕ) → IsResult ind
 follow-result r is = record { next = λ rs w row i a τ x. listed refl (is .result rs w a τ (by-number a τ x)) }
 
 -- a target as a goal
-module _ {n : ℕ} {row : List ℕ} {i : ℕ} where
-  pub target-many : 1024 < n → IsTarget n row i 65535
-  target-many h = record { target = λ ne. absurd (ne refl); past = λ e. h }
-
-  pub target-there : n ≤ 1024 → getD row (i % 4) 0 < 256 → IsTarget n row i (n + getD row (i % 4) 0)
-  target-there few small = record { target = λ ne l. ap (λ k. n + getD row k 0) (let e : i % 4 ≡ i = omega arith in e); past = λ e. absurd (omega arith) }
+pub target-there : (file : List ℕ) (n place : ℕ) (row : List ℕ) (i r : ℕ) → n ≤ 1024 → RowAt file place row → IsField 1 file (place + 2 + i % 4) r → IsTarget n row i (n + r)
+target-there file n place row i r few at is =
+    record {
+      target = λ ne l. let e : i % 4 ≡ i = omega arith in ap (λ t. n + t) (target-is file row place at (omega arith) (is .value ∙ ap (λ k. byte file (place + 2 + k)) e));
+      past = λ e. absurd (omega (arith, is .bound));
+    }

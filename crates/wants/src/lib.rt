@@ -1,8 +1,10 @@
 // What the arguments of a head must have.
 use goal_tables::member_of;
+use records::byte_at;
 ghost use mathlib.Core.Bool.{false};
 ghost use mathlib.Core.List.{List};
-ghost use Prim.Native.Nat.{ℕ};
+ghost use Prim.Native.Nat.{ℕ, _<_};
+ghost use Rattle.arrows.specs.Arrows.{RowAt};
 ghost use Rattle.goals.specs.Goals.{CountsMembers};
 ghost use Rattle.wants.specs.Wants.{Wants, IsTarget};
 
@@ -20,12 +22,16 @@ pub fn wanted(file: &[u8], index: &[u16], types: usize, head: usize, many: usize
     member_of(file, index, types, head, j)
 }
 
-// Target i of a row, as a goal; 65,535 for more types than a file has. A constructor has four arguments at most.
-pub fn target_of(types: usize, row: [u8; 4], i: usize) -> usize
-    ensures { λ r. ⌜ IsTarget types row i r ⌝ }
+// Target i of the transition at a place, as a goal; 65,535 for more types than a file has. A constructor has four arguments at
+// most.
+pub fn target_of(file: &[u8], types: usize, place: usize, i: usize) -> usize
+    ensures { λ r. ⌜ (place < 65536 → (row : List ℕ) → RowAt (now (file .entry)) place row → IsTarget types row i r) ⌝ }
 {
     if 1024 < types {
         return 65535;
     }
-    types + row[i % 4] as usize
+    if 65535 < place {
+        return types;
+    }
+    types + byte_at(file, place + 2 + i % 4)
 }

@@ -9,10 +9,12 @@ use borrow.Author.Tests.{not-true, not-false}
 use Rattle.goals.specs.Goals.{CountsMembers}
 use Rattle.term_check.specs.Nodes.{testBy, bodyBy, endsBy}
 use Rattle.term_check.proofs.Arguments.{Args, member-few, args-start, args-many, args-end, args-stuck, args-next, args-lacks, args-has}
-use Rattle.term_check.proofs.Heads.{types-many, term-past, known-yes, known-no, learnt-length, term-learnt, placed-head}
+use Rattle.term_check.proofs.Heads.{types-many, term-past, known-yes, known-no, learnt-length, term-learnt, placed-head, no-row-there, row-checked}
 use Rattle.term_check.proofs.Runs.{args-run}
-use Rattle.term_check.proofs.Targets.{targets-no-state, targets-no-constructor, targets-not-served, targets-told, target-past, target-stuck, target-lacks, target-has}
+use Rattle.term_check.proofs.Targets.{target-past, target-stuck, target-lacks, target-has}
 use Rattle.term_check.proofs.Choices.{bare-checked, Tried, tried-start, tried-end, tried-miss, tried-fails, tried-leads}
+use Rattle.moves.specs.Moves.{fourAt}
+use Rattle.serving.proofs.Serving.{four-at}
 use Rattle.wants.proofs.Wanting.{follow-result}
 use Prim.Native.Nat.{ℕ, _<_}
 use borrow.Fn.Kinds.{In}
@@ -37,10 +39,7 @@ use Rattle.goal_tables.proofs.result_of.Reads as result-of-reads
 use Rattle.known_runs.proofs.known_until.Reads as known-until-reads
 use Rattle.memo.proofs.known.Reads as known-reads
 use Rattle.memo.proofs.learn.Reads as learn-reads
-use Rattle.row_places.proofs.row_in.Reads as row-in-reads
-use Rattle.rows.proofs.arity_of.Reads as arity-of-reads
-use Rattle.serving.proofs.row_serves.Reads as row-serves-reads
-use Rattle.serving.proofs.state_at.Reads as state-at-reads
+use Rattle.serving.proofs.place_for.Reads as place-for-reads
 use Rattle.term_check.proofs.end_of.Reads as end-of-reads
 use Rattle.term_check.proofs.node_at.Reads as node-at-reads
 use Rattle.wants.proofs.target_of.Reads as target-of-reads
@@ -950,20 +949,14 @@ check-choices-returns-3 : (t : ℕ) → check-choices-lts.Need-returns-3 (
 check-choices-returns-3 t c = λ other p. tried-end _ _ _ _ _ _ _ _ (c .before .before .before .span-of .ensures) (c .before .before .loop .inv) (p .count-is) (p .inside, p .first-is) (placed-head _ _ _ other p) (c .if2 .left)
 
 abbrev check-head-Inv-loop : check-head-lts.InvT-loop
-check-head-Inv-loop file index groups kept ends test memo₀ at goal types constructors c count next₀ arity q row i₀ memo next i = Args (record { file = file; index = index; groups = groups; kept = kept; ends = endsBy ends test; body = bodyBy file test; test = testBy test }) memo₀ next₀ count true 0 row memo next i 0 0
+check-head-Inv-loop file index groups kept ends test memo₀ at goal types count next₀ place i₀ memo next i = Args (record { file = file; index = index; groups = groups; kept = kept; ends = endsBy ends test; body = bodyBy file test; test = testBy test }) memo₀ next₀ count true 0 (fourAt file place) memo next i 0 0
 
 abbrev check-head-μ-loop : check-head-lts.MeasureT-loop
-check-head-μ-loop file index groups kept ends test memo₀ at goal types constructors c count next₀ arity q row i₀ memo next i = count - i
+check-head-μ-loop file index groups kept ends test memo₀ at goal types count next₀ place i₀ memo next i = count - i
 
 check-head-element-copy-out-types : (t : ℕ) → check-head-lts.Need-element-copy-out-types (
-  arity-of-reads.Asked,
-  arity-of-reads.Learnt,
-  state-at-reads.Asked,
-  state-at-reads.Learnt,
-  row-in-reads.Asked,
-  row-in-reads.Learnt,
-  row-serves-reads.Asked,
-  row-serves-reads.Learnt,
+  place-for-reads.Asked,
+  place-for-reads.Learnt,
   target-of-reads.Asked,
   target-of-reads.Learnt,
   end-of-reads.Asked,
@@ -974,14 +967,8 @@ check-head-element-copy-out-types : (t : ℕ) → check-head-lts.Need-element-co
 check-head-element-copy-out-types t c = search needs
 
 check-head-returns : (t : ℕ) → check-head-lts.Need-returns (
-  arity-of-reads.Asked,
-  arity-of-reads.Learnt,
-  state-at-reads.Asked,
-  state-at-reads.Learnt,
-  row-in-reads.Asked,
-  row-in-reads.Learnt,
-  row-serves-reads.Asked,
-  row-serves-reads.Learnt,
+  place-for-reads.Asked,
+  place-for-reads.Learnt,
   target-of-reads.Asked,
   target-of-reads.Learnt,
   end-of-reads.Asked,
@@ -991,34 +978,9 @@ check-head-returns : (t : ℕ) → check-head-lts.Need-returns (
 ) (check-head-at t) check-head.Post check-head-Inv-loop check-head-μ-loop
 check-head-returns t c = λ z p. types-many _ _ _ _ (c .if1 .taken)
 
-check-head-element-copy-out-constructors :
-    (t : ℕ) → check-head-lts.Need-element-copy-out-constructors (
-      arity-of-reads.Asked,
-      arity-of-reads.Learnt,
-      state-at-reads.Asked,
-      state-at-reads.Learnt,
-      row-in-reads.Asked,
-      row-in-reads.Learnt,
-      row-serves-reads.Asked,
-      row-serves-reads.Learnt,
-      target-of-reads.Asked,
-      target-of-reads.Learnt,
-      end-of-reads.Asked,
-      end-of-reads.Learnt,
-      check-term-below t,
-      check-term.Post,
-    ) (check-head-at t) check-head.Post check-head-Inv-loop check-head-μ-loop
-check-head-element-copy-out-constructors t c = search needs
-
 check-head-returns-2 : (t : ℕ) → check-head-lts.Need-returns-2 (
-  arity-of-reads.Asked,
-  arity-of-reads.Learnt,
-  state-at-reads.Asked,
-  state-at-reads.Learnt,
-  row-in-reads.Asked,
-  row-in-reads.Learnt,
-  row-serves-reads.Asked,
-  row-serves-reads.Learnt,
+  place-for-reads.Asked,
+  place-for-reads.Learnt,
   target-of-reads.Asked,
   target-of-reads.Learnt,
   end-of-reads.Asked,
@@ -1029,14 +991,8 @@ check-head-returns-2 : (t : ℕ) → check-head-lts.Need-returns-2 (
 check-head-returns-2 t c = λ z p. absurd (let f = p .few in let h = c .if2 .taken in omega arith)
 
 check-head-returns-3 : (t : ℕ) → check-head-lts.Need-returns-3 (
-  arity-of-reads.Asked,
-  arity-of-reads.Learnt,
-  state-at-reads.Asked,
-  state-at-reads.Learnt,
-  row-in-reads.Asked,
-  row-in-reads.Learnt,
-  row-serves-reads.Asked,
-  row-serves-reads.Learnt,
+  place-for-reads.Asked,
+  place-for-reads.Learnt,
   target-of-reads.Asked,
   target-of-reads.Learnt,
   end-of-reads.Asked,
@@ -1046,15 +1002,9 @@ check-head-returns-3 : (t : ℕ) → check-head-lts.Need-returns-3 (
 ) (check-head-at t) check-head.Post check-head-Inv-loop check-head-μ-loop
 check-head-returns-3 t c = λ z p. absurd (let e = p .first-is in let h = c .if3 .taken in omega arith)
 
-check-head-arity-of-requires : (t : ℕ) → check-head-lts.Need-arity-of-requires (
-  arity-of-reads.Asked,
-  arity-of-reads.Learnt,
-  state-at-reads.Asked,
-  state-at-reads.Learnt,
-  row-in-reads.Asked,
-  row-in-reads.Learnt,
-  row-serves-reads.Asked,
-  row-serves-reads.Learnt,
+check-head-element-copy-out-place-for : (t : ℕ) → check-head-lts.Need-element-copy-out-place-for (
+  place-for-reads.Asked,
+  place-for-reads.Learnt,
   target-of-reads.Asked,
   target-of-reads.Learnt,
   end-of-reads.Asked,
@@ -1062,17 +1012,11 @@ check-head-arity-of-requires : (t : ℕ) → check-head-lts.Need-arity-of-requir
   check-term-below t,
   check-term.Post,
 ) (check-head-at t) check-head.Post check-head-Inv-loop check-head-μ-loop
-check-head-arity-of-requires t c κs = search needs
+check-head-element-copy-out-place-for t c = search needs
 
-check-head-state-at-requires : (t : ℕ) → check-head-lts.Need-state-at-requires (
-  arity-of-reads.Asked,
-  arity-of-reads.Learnt,
-  state-at-reads.Asked,
-  state-at-reads.Learnt,
-  row-in-reads.Asked,
-  row-in-reads.Learnt,
-  row-serves-reads.Asked,
-  row-serves-reads.Learnt,
+check-head-place-for-requires : (t : ℕ) → check-head-lts.Need-place-for-requires (
+  place-for-reads.Asked,
+  place-for-reads.Learnt,
   target-of-reads.Asked,
   target-of-reads.Learnt,
   end-of-reads.Asked,
@@ -1080,17 +1024,11 @@ check-head-state-at-requires : (t : ℕ) → check-head-lts.Need-state-at-requir
   check-term-below t,
   check-term.Post,
 ) (check-head-at t) check-head.Post check-head-Inv-loop check-head-μ-loop
-check-head-state-at-requires t c κs = search needs
+check-head-place-for-requires t c κs = search needs
 
 check-head-returns-4 : (t : ℕ) → check-head-lts.Need-returns-4 (
-  arity-of-reads.Asked,
-  arity-of-reads.Learnt,
-  state-at-reads.Asked,
-  state-at-reads.Learnt,
-  row-in-reads.Asked,
-  row-in-reads.Learnt,
-  row-serves-reads.Asked,
-  row-serves-reads.Learnt,
+  place-for-reads.Asked,
+  place-for-reads.Learnt,
   target-of-reads.Asked,
   target-of-reads.Learnt,
   end-of-reads.Asked,
@@ -1098,89 +1036,11 @@ check-head-returns-4 : (t : ℕ) → check-head-lts.Need-returns-4 (
   check-term-below t,
   check-term.Post,
 ) (check-head-at t) check-head.Post check-head-Inv-loop check-head-μ-loop
-check-head-returns-4 t c = λ z p. targets-no-state _ _ _ _ _ _ _ (p .number-is) (p .count-is) (c .before .state-at .ensures _ _ (c .before .before .before .arity-of .ensures)) _ (p .tag-is) z (c .if4 .taken)
-
-check-head-returns-5 : (t : ℕ) → check-head-lts.Need-returns-5 (
-  arity-of-reads.Asked,
-  arity-of-reads.Learnt,
-  state-at-reads.Asked,
-  state-at-reads.Learnt,
-  row-in-reads.Asked,
-  row-in-reads.Learnt,
-  row-serves-reads.Asked,
-  row-serves-reads.Learnt,
-  target-of-reads.Asked,
-  target-of-reads.Learnt,
-  end-of-reads.Asked,
-  end-of-reads.Learnt,
-  check-term-below t,
-  check-term.Post,
-) (check-head-at t) check-head.Post check-head-Inv-loop check-head-μ-loop
-check-head-returns-5 t c = λ z p. targets-no-constructor _ _ _ _ _ _ _ (p .number-is) (p .count-is) (c .before .before .state-at .ensures _ _ (c .before .before .before .before .arity-of .ensures)) _ (p .tag-is) z (c .if5 .taken)
-
-check-head-row-in-requires : (t : ℕ) → check-head-lts.Need-row-in-requires (
-  arity-of-reads.Asked,
-  arity-of-reads.Learnt,
-  state-at-reads.Asked,
-  state-at-reads.Learnt,
-  row-in-reads.Asked,
-  row-in-reads.Learnt,
-  row-serves-reads.Asked,
-  row-serves-reads.Learnt,
-  target-of-reads.Asked,
-  target-of-reads.Learnt,
-  end-of-reads.Asked,
-  end-of-reads.Learnt,
-  check-term-below t,
-  check-term.Post,
-) (check-head-at t) check-head.Post check-head-Inv-loop check-head-μ-loop
-check-head-row-in-requires t c κs = search needs
-
-check-head-row-serves-requires : (t : ℕ) → check-head-lts.Need-row-serves-requires (
-  arity-of-reads.Asked,
-  arity-of-reads.Learnt,
-  state-at-reads.Asked,
-  state-at-reads.Learnt,
-  row-in-reads.Asked,
-  row-in-reads.Learnt,
-  row-serves-reads.Asked,
-  row-serves-reads.Learnt,
-  target-of-reads.Asked,
-  target-of-reads.Learnt,
-  end-of-reads.Asked,
-  end-of-reads.Learnt,
-  check-term-below t,
-  check-term.Post,
-) (check-head-at t) check-head.Post check-head-Inv-loop check-head-μ-loop
-check-head-row-serves-requires t c κs = search needs
-
-check-head-returns-6 : (t : ℕ) → check-head-lts.Need-returns-6 (
-  arity-of-reads.Asked,
-  arity-of-reads.Learnt,
-  state-at-reads.Asked,
-  state-at-reads.Learnt,
-  row-in-reads.Asked,
-  row-in-reads.Learnt,
-  row-serves-reads.Asked,
-  row-serves-reads.Learnt,
-  target-of-reads.Asked,
-  target-of-reads.Learnt,
-  end-of-reads.Asked,
-  end-of-reads.Learnt,
-  check-term-below t,
-  check-term.Post,
-) (check-head-at t) check-head.Post check-head-Inv-loop check-head-μ-loop
-check-head-returns-6 t c = λ z p. targets-not-served _ _ _ _ _ _ _ (p .number-is) (p .count-is) (c .before .before .before .before .before .before .before .state-at .ensures _ _ (c .before .before .before .before .before .before .before .before .before .arity-of .ensures)) _ (p .tag-is) z (let h = c .before .before .before .before .before .before .if4 .left in omega arith) (let h = c .before .before .before .before .before .if5 .left in omega arith) _ (c .before .before .before .row-in .ensures) _ (c .before .row-serves .ensures _ _ (c .before .before .before .before .before .before .before .before .before .arity-of .ensures)) (not-true _ (c .if6 .taken))
+check-head-returns-4 t c = λ z p. no-row-there _ _ _ _ _ _ _ (p .tag-is) (p .number-is) (p .count-is) z _ (c .before .place-for .ensures) (c .if4 .taken)
 
 check-head-loop-holds : (t : ℕ) → check-head-lts.Need-loop-holds (
-  arity-of-reads.Asked,
-  arity-of-reads.Learnt,
-  state-at-reads.Asked,
-  state-at-reads.Learnt,
-  row-in-reads.Asked,
-  row-in-reads.Learnt,
-  row-serves-reads.Asked,
-  row-serves-reads.Learnt,
+  place-for-reads.Asked,
+  place-for-reads.Learnt,
   target-of-reads.Asked,
   target-of-reads.Learnt,
   end-of-reads.Asked,
@@ -1191,14 +1051,8 @@ check-head-loop-holds : (t : ℕ) → check-head-lts.Need-loop-holds (
 check-head-loop-holds t c = args-start _ _ _ _ _ _ _
 
 check-head-target-of-requires : (t : ℕ) → check-head-lts.Need-target-of-requires (
-  arity-of-reads.Asked,
-  arity-of-reads.Learnt,
-  state-at-reads.Asked,
-  state-at-reads.Learnt,
-  row-in-reads.Asked,
-  row-in-reads.Learnt,
-  row-serves-reads.Asked,
-  row-serves-reads.Learnt,
+  place-for-reads.Asked,
+  place-for-reads.Learnt,
   target-of-reads.Asked,
   target-of-reads.Learnt,
   end-of-reads.Asked,
@@ -1209,14 +1063,8 @@ check-head-target-of-requires : (t : ℕ) → check-head-lts.Need-target-of-requ
 check-head-target-of-requires t c κs = search needs
 
 check-head-same-length : (t : ℕ) → check-head-lts.Need-same-length (
-  arity-of-reads.Asked,
-  arity-of-reads.Learnt,
-  state-at-reads.Asked,
-  state-at-reads.Learnt,
-  row-in-reads.Asked,
-  row-in-reads.Learnt,
-  row-serves-reads.Asked,
-  row-serves-reads.Learnt,
+  place-for-reads.Asked,
+  place-for-reads.Learnt,
   target-of-reads.Asked,
   target-of-reads.Learnt,
   end-of-reads.Asked,
@@ -1226,15 +1074,9 @@ check-head-same-length : (t : ℕ) → check-head-lts.Need-same-length (
 ) (check-head-at t) check-head.Post check-head-Inv-loop check-head-μ-loop
 check-head-same-length t c = c .before .before .before .loop .inv .keeps .long
 
-check-head-returns-7 : (t : ℕ) → check-head-lts.Need-returns-7 (
-  arity-of-reads.Asked,
-  arity-of-reads.Learnt,
-  state-at-reads.Asked,
-  state-at-reads.Learnt,
-  row-in-reads.Asked,
-  row-in-reads.Learnt,
-  row-serves-reads.Asked,
-  row-serves-reads.Learnt,
+check-head-returns-5 : (t : ℕ) → check-head-lts.Need-returns-5 (
+  place-for-reads.Asked,
+  place-for-reads.Learnt,
   target-of-reads.Asked,
   target-of-reads.Learnt,
   end-of-reads.Asked,
@@ -1242,17 +1084,11 @@ check-head-returns-7 : (t : ℕ) → check-head-lts.Need-returns-7 (
   check-term-below t,
   check-term.Post,
 ) (check-head-at t) check-head.Post check-head-Inv-loop check-head-μ-loop
-check-head-returns-7 t c = λ z p. targets-told _ _ _ _ _ _ _ (p .number-is) (p .count-is) (c .before .before .before .before .before .before .before .before .before .before .before .state-at .ensures _ _ (c .before .before .before .before .before .before .before .before .before .before .before .before .before .arity-of .ensures)) _ (p .tag-is) z (let h = c .before .before .before .before .before .before .before .before .before .before .if4 .left in omega arith) (let h = c .before .before .before .before .before .before .before .before .before .if5 .left in omega arith) _ (c .before .before .before .before .before .before .before .row-in .ensures) _ (c .before .before .before .before .before .row-serves .ensures _ _ (c .before .before .before .before .before .before .before .before .before .before .before .before .before .arity-of .ensures)) (not-false _ (c .before .before .before .before .if6 .left)) _ (p .first-is) _ _ (target-past _ (c .before .before .before .loop .inv) (c .before .before .loop-test .taken) _ (c .before .target-of .ensures) (c .if7 .taken))
+check-head-returns-5 t c = λ z p. row-checked _ _ _ _ _ _ _ (p .tag-is) (p .number-is) (p .count-is) z _ (c .before .before .before .before .before .place-for .ensures) (c .before .before .before .before .if4 .left) _ (p .first-is) _ _ (target-past _ (c .before .before .before .loop .inv) (c .before .before .loop-test .taken) _ (c .before .target-of .ensures (c .before .before .before .before .before .place-for .ensures .bound) _ (four-at _ _)) (c .if5 .taken))
 
 check-head-element-copy-out-end-of : (t : ℕ) → check-head-lts.Need-element-copy-out-end-of (
-  arity-of-reads.Asked,
-  arity-of-reads.Learnt,
-  state-at-reads.Asked,
-  state-at-reads.Learnt,
-  row-in-reads.Asked,
-  row-in-reads.Learnt,
-  row-serves-reads.Asked,
-  row-serves-reads.Learnt,
+  place-for-reads.Asked,
+  place-for-reads.Learnt,
   target-of-reads.Asked,
   target-of-reads.Learnt,
   end-of-reads.Asked,
@@ -1263,14 +1099,8 @@ check-head-element-copy-out-end-of : (t : ℕ) → check-head-lts.Need-element-c
 check-head-element-copy-out-end-of t c = search needs
 
 check-head-end-of-requires : (t : ℕ) → check-head-lts.Need-end-of-requires (
-  arity-of-reads.Asked,
-  arity-of-reads.Learnt,
-  state-at-reads.Asked,
-  state-at-reads.Learnt,
-  row-in-reads.Asked,
-  row-in-reads.Learnt,
-  row-serves-reads.Asked,
-  row-serves-reads.Learnt,
+  place-for-reads.Asked,
+  place-for-reads.Learnt,
   target-of-reads.Asked,
   target-of-reads.Learnt,
   end-of-reads.Asked,
@@ -1281,14 +1111,8 @@ check-head-end-of-requires : (t : ℕ) → check-head-lts.Need-end-of-requires (
 check-head-end-of-requires t c κs = search needs
 
 check-head-same-length-2 : (t : ℕ) → check-head-lts.Need-same-length-2 (
-  arity-of-reads.Asked,
-  arity-of-reads.Learnt,
-  state-at-reads.Asked,
-  state-at-reads.Learnt,
-  row-in-reads.Asked,
-  row-in-reads.Learnt,
-  row-serves-reads.Asked,
-  row-serves-reads.Learnt,
+  place-for-reads.Asked,
+  place-for-reads.Learnt,
   target-of-reads.Asked,
   target-of-reads.Learnt,
   end-of-reads.Asked,
@@ -1298,15 +1122,9 @@ check-head-same-length-2 : (t : ℕ) → check-head-lts.Need-same-length-2 (
 ) (check-head-at t) check-head.Post check-head-Inv-loop check-head-μ-loop
 check-head-same-length-2 t c = c .before .before .before .before .before .before .before .loop .inv .keeps .long
 
-check-head-returns-8 : (t : ℕ) → check-head-lts.Need-returns-8 (
-  arity-of-reads.Asked,
-  arity-of-reads.Learnt,
-  state-at-reads.Asked,
-  state-at-reads.Learnt,
-  row-in-reads.Asked,
-  row-in-reads.Learnt,
-  row-serves-reads.Asked,
-  row-serves-reads.Learnt,
+check-head-returns-6 : (t : ℕ) → check-head-lts.Need-returns-6 (
+  place-for-reads.Asked,
+  place-for-reads.Learnt,
   target-of-reads.Asked,
   target-of-reads.Learnt,
   end-of-reads.Asked,
@@ -1314,17 +1132,11 @@ check-head-returns-8 : (t : ℕ) → check-head-lts.Need-returns-8 (
   check-term-below t,
   check-term.Post,
 ) (check-head-at t) check-head.Post check-head-Inv-loop check-head-μ-loop
-check-head-returns-8 t c = λ z p. targets-told _ _ _ _ _ _ _ (p .number-is) (p .count-is) (c .before .before .before .before .before .before .before .before .before .before .before .before .before .before .before .state-at .ensures _ _ (c .before .before .before .before .before .before .before .before .before .before .before .before .before .before .before .before .before .arity-of .ensures)) _ (p .tag-is) z (let h = c .before .before .before .before .before .before .before .before .before .before .before .before .before .before .if4 .left in omega arith) (let h = c .before .before .before .before .before .before .before .before .before .before .before .before .before .if5 .left in omega arith) _ (c .before .before .before .before .before .before .before .before .before .before .before .row-in .ensures) _ (c .before .before .before .before .before .before .before .before .before .row-serves .ensures _ _ (c .before .before .before .before .before .before .before .before .before .before .before .before .before .before .before .before .before .arity-of .ensures)) (not-false _ (c .before .before .before .before .before .before .before .before .if6 .left)) _ (p .first-is) _ _ (target-stuck _ (c .before .before .before .before .before .before .before .loop .inv) (c .before .before .before .before .before .before .loop-test .taken) _ (c .before .before .before .before .before .target-of .ensures) (c .before .before .before .before .if7 .left) _ (c .before .end-of .ensures) (c .if8 .taken))
+check-head-returns-6 t c = λ z p. row-checked _ _ _ _ _ _ _ (p .tag-is) (p .number-is) (p .count-is) z _ (c .before .before .before .before .before .before .before .before .before .place-for .ensures) (c .before .before .before .before .before .before .before .before .if4 .left) _ (p .first-is) _ _ (target-stuck _ (c .before .before .before .before .before .before .before .loop .inv) (c .before .before .before .before .before .before .loop-test .taken) _ (c .before .before .before .before .before .target-of .ensures (c .before .before .before .before .before .before .before .before .before .place-for .ensures .bound) _ (four-at _ _)) (c .before .before .before .before .if5 .left) _ (c .before .end-of .ensures) (c .if6 .taken))
 
 check-head-add-i : (t : ℕ) → check-head-lts.Need-add-i (
-  arity-of-reads.Asked,
-  arity-of-reads.Learnt,
-  state-at-reads.Asked,
-  state-at-reads.Learnt,
-  row-in-reads.Asked,
-  row-in-reads.Learnt,
-  row-serves-reads.Asked,
-  row-serves-reads.Learnt,
+  place-for-reads.Asked,
+  place-for-reads.Learnt,
   target-of-reads.Asked,
   target-of-reads.Learnt,
   end-of-reads.Asked,
@@ -1335,14 +1147,8 @@ check-head-add-i : (t : ℕ) → check-head-lts.Need-add-i (
 check-head-add-i t c = let h = c .before .before .before .before .before .before .loop-test .taken in omega arith
 
 check-head-check-term-requires : (t : ℕ) → check-head-lts.Need-check-term-requires (
-  arity-of-reads.Asked,
-  arity-of-reads.Learnt,
-  state-at-reads.Asked,
-  state-at-reads.Learnt,
-  row-in-reads.Asked,
-  row-in-reads.Learnt,
-  row-serves-reads.Asked,
-  row-serves-reads.Learnt,
+  place-for-reads.Asked,
+  place-for-reads.Learnt,
   target-of-reads.Asked,
   target-of-reads.Learnt,
   end-of-reads.Asked,
@@ -1350,17 +1156,11 @@ check-head-check-term-requires : (t : ℕ) → check-head-lts.Need-check-term-re
   check-term-below t,
   check-term.Post,
 ) (check-head-at t) check-head.Post check-head-Inv-loop check-head-μ-loop
-check-head-check-term-requires t c κs = let p = c .before .before .before .before .before .before .before .before .before .before .before .before .before .before .before .before .before .before .before .before .before .before .before .before .before .before .before .pre .0 in let f = c .before .before .before .before .before .before .before .before .loop .inv .forward in let h = c .before .before .before .before .before .before .before .before .before .before .before .before .before .before .before .before .before .before .before .before .if3 .left in let g = c .before .before .before .before .before .before .before .before .before .before .before .before .before .before .before .before .before .before .before .before .before .before .before .before .before .before .before .fits .at in (omega arith, Prim.tt)
+check-head-check-term-requires t c κs = let p = c .before .before .before .before .before .before .before .before .before .before .before .before .before .before .before .before .before .before .before .pre .0 in let f = c .before .before .before .before .before .before .before .before .loop .inv .forward in let h = c .before .before .before .before .before .before .before .before .before .before .before .before .before .if3 .left in let g = c .before .before .before .before .before .before .before .before .before .before .before .before .before .before .before .before .before .before .before .fits .at in (omega arith, Prim.tt)
 
 check-head-same-length-3 : (t : ℕ) → check-head-lts.Need-same-length-3 (
-  arity-of-reads.Asked,
-  arity-of-reads.Learnt,
-  state-at-reads.Asked,
-  state-at-reads.Learnt,
-  row-in-reads.Asked,
-  row-in-reads.Learnt,
-  row-serves-reads.Asked,
-  row-serves-reads.Learnt,
+  place-for-reads.Asked,
+  place-for-reads.Learnt,
   target-of-reads.Asked,
   target-of-reads.Learnt,
   end-of-reads.Asked,
@@ -1370,15 +1170,9 @@ check-head-same-length-3 : (t : ℕ) → check-head-lts.Need-same-length-3 (
 ) (check-head-at t) check-head.Post check-head-Inv-loop check-head-μ-loop
 check-head-same-length-3 t c = c .before .before .before .check-term .ensures .keeps .long ∙ c .before .before .before .before .before .before .before .before .before .before .before .before .loop .inv .keeps .long
 
-check-head-returns-9 : (t : ℕ) → check-head-lts.Need-returns-9 (
-  arity-of-reads.Asked,
-  arity-of-reads.Learnt,
-  state-at-reads.Asked,
-  state-at-reads.Learnt,
-  row-in-reads.Asked,
-  row-in-reads.Learnt,
-  row-serves-reads.Asked,
-  row-serves-reads.Learnt,
+check-head-returns-7 : (t : ℕ) → check-head-lts.Need-returns-7 (
+  place-for-reads.Asked,
+  place-for-reads.Learnt,
   target-of-reads.Asked,
   target-of-reads.Learnt,
   end-of-reads.Asked,
@@ -1386,17 +1180,11 @@ check-head-returns-9 : (t : ℕ) → check-head-lts.Need-returns-9 (
   check-term-below t,
   check-term.Post,
 ) (check-head-at t) check-head.Post check-head-Inv-loop check-head-μ-loop
-check-head-returns-9 t c = λ z p. targets-told _ _ _ _ _ _ _ (p .number-is) (p .count-is) (c .before .before .before .before .before .before .before .before .before .before .before .before .before .before .before .before .before .before .before .before .state-at .ensures _ _ (c .before .before .before .before .before .before .before .before .before .before .before .before .before .before .before .before .before .before .before .before .before .before .arity-of .ensures)) _ (p .tag-is) z (let h = c .before .before .before .before .before .before .before .before .before .before .before .before .before .before .before .before .before .before .before .if4 .left in omega arith) (let h = c .before .before .before .before .before .before .before .before .before .before .before .before .before .before .before .before .before .before .if5 .left in omega arith) _ (c .before .before .before .before .before .before .before .before .before .before .before .before .before .before .before .before .row-in .ensures) _ (c .before .before .before .before .before .before .before .before .before .before .before .before .before .before .row-serves .ensures _ _ (c .before .before .before .before .before .before .before .before .before .before .before .before .before .before .before .before .before .before .before .before .before .before .arity-of .ensures)) (not-false _ (c .before .before .before .before .before .before .before .before .before .before .before .before .before .if6 .left)) _ (p .first-is) _ _ (target-lacks _ (c .before .before .before .before .before .before .before .before .before .before .before .before .loop .inv) (c .before .before .before .before .before .before .before .before .before .before .before .loop-test .taken) _ (c .before .before .before .before .before .before .before .before .before .before .target-of .ensures) (c .before .before .before .before .before .before .before .before .before .if7 .left) _ _ (c .before .before .before .check-term .ensures) (not-true _ (c .if9 .taken)))
+check-head-returns-7 t c = λ z p. row-checked _ _ _ _ _ _ _ (p .tag-is) (p .number-is) (p .count-is) z _ (c .before .before .before .before .before .before .before .before .before .before .before .before .before .before .place-for .ensures) (c .before .before .before .before .before .before .before .before .before .before .before .before .before .if4 .left) _ (p .first-is) _ _ (target-lacks _ (c .before .before .before .before .before .before .before .before .before .before .before .before .loop .inv) (c .before .before .before .before .before .before .before .before .before .before .before .loop-test .taken) _ (c .before .before .before .before .before .before .before .before .before .before .target-of .ensures (c .before .before .before .before .before .before .before .before .before .before .before .before .before .before .place-for .ensures .bound) _ (four-at _ _)) (c .before .before .before .before .before .before .before .before .before .if5 .left) _ _ (c .before .before .before .check-term .ensures) (not-true _ (c .if7 .taken)))
 
 check-head-loop-less : (t : ℕ) → check-head-lts.Need-loop-less (
-  arity-of-reads.Asked,
-  arity-of-reads.Learnt,
-  state-at-reads.Asked,
-  state-at-reads.Learnt,
-  row-in-reads.Asked,
-  row-in-reads.Learnt,
-  row-serves-reads.Asked,
-  row-serves-reads.Learnt,
+  place-for-reads.Asked,
+  place-for-reads.Learnt,
   target-of-reads.Asked,
   target-of-reads.Learnt,
   end-of-reads.Asked,
@@ -1407,14 +1195,8 @@ check-head-loop-less : (t : ℕ) → check-head-lts.Need-loop-less (
 check-head-loop-less t c = let h = c .before .before .before .before .before .before .before .before .before .before .before .loop-test .taken in omega arith
 
 check-head-loop-again : (t : ℕ) → check-head-lts.Need-loop-again (
-  arity-of-reads.Asked,
-  arity-of-reads.Learnt,
-  state-at-reads.Asked,
-  state-at-reads.Learnt,
-  row-in-reads.Asked,
-  row-in-reads.Learnt,
-  row-serves-reads.Asked,
-  row-serves-reads.Learnt,
+  place-for-reads.Asked,
+  place-for-reads.Learnt,
   target-of-reads.Asked,
   target-of-reads.Learnt,
   end-of-reads.Asked,
@@ -1422,17 +1204,11 @@ check-head-loop-again : (t : ℕ) → check-head-lts.Need-loop-again (
   check-term-below t,
   check-term.Post,
 ) (check-head-at t) check-head.Post check-head-Inv-loop check-head-μ-loop
-check-head-loop-again t c = target-has _ (c .before .before .before .before .before .before .before .before .before .before .before .before .loop .inv) (c .before .before .before .before .before .before .before .before .before .before .before .loop-test .taken) _ (c .before .before .before .before .before .before .before .before .before .before .target-of .ensures) (c .before .before .before .before .before .before .before .before .before .if7 .left) _ _ (c .before .before .before .check-term .ensures) (not-false _ (c .if9 .left)) _ _ (c .before .before .before .before .before .before .end-of .ensures) (let h = c .before .before .before .before .before .if8 .left in omega arith) (omega arith)
+check-head-loop-again t c = target-has _ (c .before .before .before .before .before .before .before .before .before .before .before .before .loop .inv) (c .before .before .before .before .before .before .before .before .before .before .before .loop-test .taken) _ (c .before .before .before .before .before .before .before .before .before .before .target-of .ensures (c .before .before .before .before .before .before .before .before .before .before .before .before .before .before .place-for .ensures .bound) _ (four-at _ _)) (c .before .before .before .before .before .before .before .before .before .if5 .left) _ _ (c .before .before .before .check-term .ensures) (not-false _ (c .if7 .left)) _ _ (c .before .before .before .before .before .before .end-of .ensures) (let h = c .before .before .before .before .before .if6 .left in omega arith) (omega arith)
 
 check-head-same-length-4 : (t : ℕ) → check-head-lts.Need-same-length-4 (
-  arity-of-reads.Asked,
-  arity-of-reads.Learnt,
-  state-at-reads.Asked,
-  state-at-reads.Learnt,
-  row-in-reads.Asked,
-  row-in-reads.Learnt,
-  row-serves-reads.Asked,
-  row-serves-reads.Learnt,
+  place-for-reads.Asked,
+  place-for-reads.Learnt,
   target-of-reads.Asked,
   target-of-reads.Learnt,
   end-of-reads.Asked,
@@ -1442,15 +1218,9 @@ check-head-same-length-4 : (t : ℕ) → check-head-lts.Need-same-length-4 (
 ) (check-head-at t) check-head.Post check-head-Inv-loop check-head-μ-loop
 check-head-same-length-4 t c = c .before .loop .inv .keeps .long
 
-check-head-returns-10 : (t : ℕ) → check-head-lts.Need-returns-10 (
-  arity-of-reads.Asked,
-  arity-of-reads.Learnt,
-  state-at-reads.Asked,
-  state-at-reads.Learnt,
-  row-in-reads.Asked,
-  row-in-reads.Learnt,
-  row-serves-reads.Asked,
-  row-serves-reads.Learnt,
+check-head-returns-8 : (t : ℕ) → check-head-lts.Need-returns-8 (
+  place-for-reads.Asked,
+  place-for-reads.Learnt,
   target-of-reads.Asked,
   target-of-reads.Learnt,
   end-of-reads.Asked,
@@ -1458,7 +1228,7 @@ check-head-returns-10 : (t : ℕ) → check-head-lts.Need-returns-10 (
   check-term-below t,
   check-term.Post,
 ) (check-head-at t) check-head.Post check-head-Inv-loop check-head-μ-loop
-check-head-returns-10 t c = λ z p. targets-told _ _ _ _ _ _ _ (p .number-is) (p .count-is) (c .before .before .before .before .before .before .before .before .before .state-at .ensures _ _ (c .before .before .before .before .before .before .before .before .before .before .before .arity-of .ensures)) _ (p .tag-is) z (let h = c .before .before .before .before .before .before .before .before .if4 .left in omega arith) (let h = c .before .before .before .before .before .before .before .if5 .left in omega arith) _ (c .before .before .before .before .before .row-in .ensures) _ (c .before .before .before .row-serves .ensures _ _ (c .before .before .before .before .before .before .before .before .before .before .before .arity-of .ensures)) (not-false _ (c .before .before .if6 .left)) _ (p .first-is) _ _ (args-end _ (c .before .loop .inv) (c .loop-test .left))
+check-head-returns-8 t c = λ z p. row-checked _ _ _ _ _ _ _ (p .tag-is) (p .number-is) (p .count-is) z _ (c .before .before .before .place-for .ensures) (c .before .before .if4 .left) _ (p .first-is) _ _ (args-end _ (c .before .loop .inv) (c .loop-test .left))
 
 check-term-element-copy-out-types : (t : ℕ) → check-term-lts.Need-element-copy-out-types (
   node-at-reads.Asked,
@@ -1727,14 +1497,8 @@ pub +check-args+check-choices+check-head+check-term-spec : {M : Type 1} → stat
     (check-choices-same-length-2 t)
     (check-choices-returns-3 t))
     (λ t. check-head-lts.spec (
-      arity-of-reads.Asked,
-      arity-of-reads.Learnt,
-      state-at-reads.Asked,
-      state-at-reads.Learnt,
-      row-in-reads.Asked,
-      row-in-reads.Learnt,
-      row-serves-reads.Asked,
-      row-serves-reads.Learnt,
+      place-for-reads.Asked,
+      place-for-reads.Learnt,
       target-of-reads.Asked,
       target-of-reads.Learnt,
       end-of-reads.Asked,
@@ -1748,32 +1512,27 @@ pub +check-args+check-choices+check-head+check-term-spec : {M : Type 1} → stat
     check-head-μ-loop
     (check-head-element-copy-out-types t)
     (check-head-returns t)
-    (check-head-element-copy-out-constructors t)
     (check-head-returns-2 t)
     (check-head-returns-3 t)
-    (check-head-arity-of-requires t)
-    (check-head-state-at-requires t)
+    (check-head-element-copy-out-place-for t)
+    (check-head-place-for-requires t)
     (check-head-returns-4 t)
-    (check-head-returns-5 t)
-    (check-head-row-in-requires t)
-    (check-head-row-serves-requires t)
-    (check-head-returns-6 t)
     (check-head-loop-holds t)
     (check-head-target-of-requires t)
     (check-head-same-length t)
-    (check-head-returns-7 t)
+    (check-head-returns-5 t)
     (check-head-element-copy-out-end-of t)
     (check-head-end-of-requires t)
     (check-head-same-length-2 t)
-    (check-head-returns-8 t)
+    (check-head-returns-6 t)
     (check-head-add-i t)
     (check-head-check-term-requires t)
     (check-head-same-length-3 t)
-    (check-head-returns-9 t)
+    (check-head-returns-7 t)
     (check-head-loop-less t)
     (check-head-loop-again t)
     (check-head-same-length-4 t)
-    (check-head-returns-10 t))
+    (check-head-returns-8 t))
     λ t. check-term-lts.spec (
       node-at-reads.Asked,
       node-at-reads.Learnt,

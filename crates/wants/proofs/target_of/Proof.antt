@@ -1,28 +1,31 @@
 -- `target_of` meets its contract.
-use Prim.Native.Nat.{_%_}
-use native.Mathlib.Omega.{arith}
-use mir.Syntax.{w8}
-use mir.Val.{Fits}
-use lib.ListN.{getD}
-use Rattle.wants.proofs.Wanting.{target-there}
 use borrow.Author.Needs.{needs}
+use Rattle.wants.proofs.Wanting.{target-there}
 use Rattle.wants.proofs.target_of.Statement.{statement}
 use Rattle.wants.proofs.target_of.Tie as tie
 
 returns : tie.Need-returns
 returns c = search needs
 
-array-read-result : tie.Need-array-read-result
-array-read-result c = search needs
+returns-2 : tie.Need-returns-2
+returns-2 c = search needs
 
-cast-result : tie.Need-cast-result
-cast-result c = search needs
+add-byte-at : tie.Need-add-byte-at
+add-byte-at c = search needs
+
+add-byte-at-2 : tie.Need-add-byte-at-2
+add-byte-at-2 c = search needs
+
+byte-at-requires : tie.Need-byte-at-requires
+byte-at-requires c κs = search needs
 
 add-result : tie.Need-add-result
-add-result c = let h : Fits w8 (getD (c .before .args .t2) (c .before .args .i % 4) 0) = search needs in omega arith
+add-result c = search needs
 
-returns-2 : tie.Need-returns-2
-returns-2 c = target-there (let k = c .if1 .left in omega arith) (let h : Fits w8 (getD (c .before .args .t2) (c .before .args .i % 4) 0) = search needs in omega arith)
+returns-3 : tie.Need-returns-3
+returns-3 c = λ l row a. target-there _ _ _ row _ _ (c .before .before .if1 .left) a (c .byte-at .ensures)
 
 pub target-of-spec : {M : Type 1} → statement M
-target-of-spec = tie.close (tie.spec returns array-read-result cast-result add-result returns-2)
+target-of-spec =
+    tie.close
+    (tie.spec returns returns-2 add-byte-at add-byte-at-2 byte-at-requires add-result returns-3)
