@@ -6,7 +6,7 @@ ghost use Rattle.records.specs.Fields.{byte};
 ghost use Rattle.moves.specs.Moves.{Holds};
 
 // The target at a place of the file.
-pub fn target_at(file: &[u8], at: usize) -> u8
+fn target_at(file: &[u8], at: usize) -> u8
     ensures { λ r. ⌜ r ≡ byte (now (file .entry)) at ⌝ }
 {
     byte_at(file, at) as u8

@@ -167,12 +167,60 @@ fn check_head(
             return false;
         }
         i = i + 1;
-        if !check_term(file, index, groups, kept, ends, test, memo, next, target) {
+        let size = end - next;
+        if !check_part(
+            file,
+            index,
+            groups,
+            kept,
+            ends,
+            test,
+            memo,
+            next,
+            target,
+            size,
+        ) {
             return false;
         }
         next = end;
     }
     true
+}
+
+// Whether the argument of a constructor at a node, of so many nodes, has a type. A constructor has one type for a goal, so that
+// its arguments are asked no more than once for each of its goals. What is found of a small one is not remembered: to ask
+// again costs no more than to remember.
+fn check_part(
+    file: &[u8],
+    index: &[u16; 8034],
+    groups: &[u16; 257],
+    kept: &[u8; 66560],
+    ends: &[u16; 15000],
+    test: &[usize; 7],
+    memo: &mut [u8],
+    at: usize,
+    goal: usize,
+    size: usize,
+) -> bool
+    ensures { λ r. ⌜ ChecksTerm (record { file = now (file .entry); index = now (index .entry); groups = now (groups .entry); kept = now (kept .entry); ends = endsBy (now (ends .entry)) (now (test .entry)); body = bodyBy (now (file .entry)) (now (test .entry)); test = testBy (now (test .entry)) }) (now (memo .entry)) at goal (now (memo .exit)) r ⌝ }
+{
+    if size < 8 {
+        return check_term(file, index, groups, kept, ends, test, memo, at, goal);
+    }
+    let types = test[0];
+    if 1024 < types {
+        return false;
+    }
+    let old = known(memo, types + 16, test[3], at, goal);
+    if old == 1 {
+        return false;
+    }
+    if old == 2 {
+        return true;
+    }
+    let yes = check_term(file, index, groups, kept, ends, test, memo, at, goal);
+    learn(memo, types + 16, test[3], at, goal, yes);
+    yes
 }
 
 // The same with a nonterminal or a parameter in front: one of its types leads to the goal, and the arguments have what it
@@ -226,8 +274,7 @@ fn check_choices(
 }
 
 // Whether the `count` arguments from node `first` on have what the type of their head asks for. What is found of an argument
-// is remembered, for another type of the head may ask for the same. The arguments of a constructor need no memo: a constructor
-// has one type for a goal, so that they are asked once for each goal of the argument that they stand in.
+// is remembered, for another type of the head may ask for the same.
 fn check_args(
     file: &[u8],
     index: &[u16; 8034],
