@@ -2,6 +2,7 @@
 use Prim.Native.Nat.{ℕ, zero, suc, _+_, _*_, _/_, _<_, _≤_}
 use native.Mathlib.Omega.{arith}
 use mathlib.Core.Path.{_≡_, refl, sym, ap, subst, _∙_}
+use mathlib.Core.Logic.{inl, inr}
 use mathlib.Core.Bool.{Bool, true, false, _&&_}
 use mathlib.Core.List.{List, [], _∷_}
 use mathlib.Core.Option.{Option, none, some}
@@ -32,7 +33,7 @@ use Rattle.wants.specs.Wants.{HeadType, of-row}
 use Rattle.candidates.specs.Candidates.{headIs}
 use Rattle.term_check.specs.Nodes.{Placed}
 use Rattle.term_check.specs.declared.Front.{Front}
-use Rattle.term_check.specs.Checking.{At, AllAt, Body, ns, width, Setting, hasIn, Right, Remembers, ChecksTerm, ChecksArgs}
+use Rattle.term_check.specs.Checking.{At, AllAt, Body, ns, width, Setting, hasIn, Right, Remembers, LearntOrNot, ChecksTerm, ChecksArgs}
 use Rattle.term_check.proofs.Places.{at-inside, at-head}
 use Rattle.term_check.proofs.Arguments.{keeps-all}
 
@@ -44,6 +45,10 @@ learnt-length memo width stamp i goal b last e = ap length e ∙ go (covered wid
     go : (c : Bool) → length (if c then set memo (key width i goal) (code stamp b) else memo) ≡ length memo
     go true = length-set memo (key width i goal) (code stamp b)
     go false = refl
+
+pub noted-length : (memo : List ℕ) (width stamp i goal : ℕ) (b : Bool) (last : List ℕ) → LearntOrNot memo width stamp i goal b last → length last ≡ length memo
+noted-length memo width stamp i goal b last (inl e) = ap length e
+noted-length memo width stamp i goal b last (inr e) = learnt-length memo width stamp i goal b last e
 
 -- What is remembered.
 module _ (x : Body) (memo : List ℕ) (i goal : ℕ) where
@@ -72,6 +77,11 @@ module _ (x : Body) (memo : List ℕ) (i goal : ℕ) where
         };
         answer = told .answer;
       }
+
+  -- the same where it may be
+  pub term-noted : (after : List ℕ) (b : Bool) → ChecksTerm x memo i goal after b → (last : List ℕ) → LearntOrNot after (width x) (x .test .stamp) i goal b last → ChecksTerm x memo i goal last b
+  term-noted after b told last (inl e) = subst (λ m. ChecksTerm x memo i goal m b) (sym e) told
+  term-noted after b told last (inr e) = term-learnt after b told last e
 
 -- the head of the term at a node, and its arguments
 module _ (x : Body) (i count : ℕ) (is-count : count ≡ field 1 (x .body) (i * 4 + 3)) (h : Head) (is-head : headOf (cellAt (x .body) i) ≡ h) where

@@ -2,6 +2,7 @@
 -- shrinking" of the scope: "Checking a term calls for its arguments, and each argument is again a term".
 use Prim.Native.Nat.{ℕ, _+_, _*_, _/_, _<_, _≤_}
 use mathlib.Core.Path.{_≡_}
+use mathlib.Core.Logic.{_⊎_}
 use mathlib.Core.Bool.{Bool}
 use mathlib.Core.List.{List, _++_}
 use mathlib.Core.Option.{some}
@@ -23,7 +24,7 @@ use Rattle.goals.specs.Goals.{Goal}
 use Rattle.arrows.specs.Arrows.{off}
 use Rattle.serving.specs.Serving.{Given}
 use Rattle.serving.specs.Leading.{argsHave}
-use Rattle.memo.specs.Memo.{Under, Faithful}
+use Rattle.memo.specs.Memo.{learnt, Under, Faithful}
 use Rattle.wants.specs.Wants.{HeadType}
 use Rattle.term_check.specs.Nodes.{Test, Placed}
 use Rattle.term_check.specs.declared.Front.{Front}
@@ -79,6 +80,10 @@ Right x rs τ i goal b = (t : Term) → At (ns x) i t → (σ : Ty) → Goal rs 
 -- all that is remembered in this test is right
 abbrev pub Remembers : Body → List Record → Ty → List ℕ → Type 0
 Remembers x rs τ memo = Faithful (Right x rs τ) memo (width x) (x .test .stamp)
+
+-- an answer is entered in a memo, or the memo stays as it is
+abbrev pub LearntOrNot : List ℕ → ℕ → ℕ → ℕ → ℕ → Bool → List ℕ → Type 0
+LearntOrNot memo wide stamp i goal b after = (after ≡ memo) ⊎ (after ≡ learnt memo wide stamp i goal b)
 
 -- a check keeps what is remembered right, and enters nothing larger than an answer of this test
 pub record Keeps (x : Body) (memo after : List ℕ) : Type 0 where

@@ -15,9 +15,11 @@ ghost use mathlib.Core.Bool.{false};
 ghost use mathlib.Core.List.{[]};
 ghost use mathlib.Core.Path.{_≡_};
 ghost use lib.ListN.{drop, getD};
+ghost use Prim.Native.Nat.{_+_};
+ghost use Rattle.memo.specs.Memo.{recalled};
 ghost use Rattle.reading.specs.Reading.{partOf};
 ghost use Rattle.term_check.specs.Nodes.{IsNode, testBy, bodyBy, endsBy};
-ghost use Rattle.term_check.specs.Checking.{ChecksTerm, ChecksHead, ChecksChoices, ChecksArgs};
+ghost use Rattle.term_check.specs.Checking.{LearntOrNot, ChecksTerm, ChecksHead, ChecksChoices, ChecksArgs};
 
 // What stands in front of a term, if there is one: the tag and the number of its head, how many arguments it has, and the
 // node of the first of them.
@@ -77,6 +79,42 @@ fn end_of(ends: &[u16], first: usize, at: usize) -> usize
         return 0;
     }
     place_at(&ends[first..], at)
+}
+
+// What is remembered of an argument of a constructor that has so many nodes, as `known` gives it; nothing of a small one. A
+// constructor has one type for a goal, so that its arguments are asked no more than once for each of its goals, and to ask a
+// small one again costs no more than to remember.
+fn known_part(memo: &[u8], types: usize, stamp: usize, at: usize, goal: usize, size: usize) -> usize
+    ensures { λ r. ⌜ ((r ≡ 0 → ⊥) → r ≡ recalled (now (memo .entry)) (types + 16) stamp at goal) ⌝ }
+{
+    if size < 8 {
+        return 0;
+    }
+    if 1024 < types {
+        return 0;
+    }
+    known(memo, types + 16, stamp, at, goal)
+}
+
+// Remembers what was found of such an argument.
+fn learn_part(
+    memo: &mut [u8],
+    types: usize,
+    stamp: usize,
+    at: usize,
+    goal: usize,
+    size: usize,
+    yes: bool,
+)
+    ensures { λ _. ⌜ LearntOrNot (now (memo .entry)) (types + 16) stamp at goal yes (now (memo .exit)) ⌝ }
+{
+    if size < 8 {
+        return;
+    }
+    if 1024 < types {
+        return;
+    }
+    learn(memo, types + 16, stamp, at, goal, yes);
 }
 
 // Whether the term at a node has a type, a goal by its number. The numbers of the test are how many types and constructors
@@ -168,59 +206,20 @@ fn check_head(
         }
         i = i + 1;
         let size = end - next;
-        if !check_part(
-            file,
-            index,
-            groups,
-            kept,
-            ends,
-            test,
-            memo,
-            next,
-            target,
-            size,
-        ) {
+        let old = known_part(memo, types, test[3], next, target, size);
+        if old == 1 {
             return false;
+        }
+        if old != 2 {
+            let yes = check_term(file, index, groups, kept, ends, test, memo, next, target);
+            learn_part(memo, types, test[3], next, target, size, yes);
+            if !yes {
+                return false;
+            }
         }
         next = end;
     }
     true
-}
-
-// Whether the argument of a constructor at a node, of so many nodes, has a type. A constructor has one type for a goal, so that
-// its arguments are asked no more than once for each of its goals. What is found of a small one is not remembered: to ask
-// again costs no more than to remember.
-fn check_part(
-    file: &[u8],
-    index: &[u16; 8034],
-    groups: &[u16; 257],
-    kept: &[u8; 66560],
-    ends: &[u16; 15000],
-    test: &[usize; 7],
-    memo: &mut [u8],
-    at: usize,
-    goal: usize,
-    size: usize,
-) -> bool
-    ensures { λ r. ⌜ ChecksTerm (record { file = now (file .entry); index = now (index .entry); groups = now (groups .entry); kept = now (kept .entry); ends = endsBy (now (ends .entry)) (now (test .entry)); body = bodyBy (now (file .entry)) (now (test .entry)); test = testBy (now (test .entry)) }) (now (memo .entry)) at goal (now (memo .exit)) r ⌝ }
-{
-    if size < 8 {
-        return check_term(file, index, groups, kept, ends, test, memo, at, goal);
-    }
-    let types = test[0];
-    if 1024 < types {
-        return false;
-    }
-    let old = known(memo, types + 16, test[3], at, goal);
-    if old == 1 {
-        return false;
-    }
-    if old == 2 {
-        return true;
-    }
-    let yes = check_term(file, index, groups, kept, ends, test, memo, at, goal);
-    learn(memo, types + 16, test[3], at, goal, yes);
-    yes
 }
 
 // The same with a nonterminal or a parameter in front: one of its types leads to the goal, and the arguments have what it

@@ -1,4 +1,4 @@
--- `check_term`, `check_head`, `check_part`, `check_choices` and `check_args` meet their contracts.
+-- `check_term`, `check_head`, `check_choices` and `check_args` meet their contracts.
 use Prim.Native.Nat.{_+_, _-_, _*_}
 use mathlib.Core.Path.{refl, _∙_}
 use mathlib.Core.Bool.{true, false}
@@ -9,7 +9,7 @@ use borrow.Author.Tests.{not-true, not-false}
 use Rattle.goals.specs.Goals.{CountsMembers}
 use Rattle.term_check.specs.Nodes.{testBy, bodyBy, endsBy}
 use Rattle.term_check.proofs.Arguments.{Args, member-few, args-start, args-many, args-end, args-stuck, args-next, args-lacks, args-has}
-use Rattle.term_check.proofs.Heads.{types-many, term-past, known-yes, known-no, learnt-length, term-learnt, placed-head, no-row-there, row-checked}
+use Rattle.term_check.proofs.Heads.{types-many, term-past, known-yes, known-no, learnt-length, noted-length, term-learnt, term-noted, placed-head, no-row-there, row-checked}
 use Rattle.term_check.proofs.Runs.{args-run}
 use Rattle.term_check.proofs.Targets.{target-past, target-stuck, target-lacks, target-has}
 use Rattle.term_check.proofs.Choices.{bare-checked, Tried, tried-start, tried-end, tried-miss, tried-fails, tried-leads}
@@ -21,19 +21,16 @@ use borrow.Fn.Kinds.{In}
 use borrow.Fn.PlainCycle.{Measures, is, falls, and}
 use Rattle.term_check.proofs.check_args.Reads as check-args
 use Rattle.term_check.proofs.check_args.Kinds as check-args-kinds
-use Rattle.term_check.proofs.+check_args+check_choices+check_head+check_part+check_term.Lts-check_args as check-args-lts
+use Rattle.term_check.proofs.+check_args+check_choices+check_head+check_term.Lts-check_args as check-args-lts
 use Rattle.term_check.proofs.check_choices.Reads as check-choices
 use Rattle.term_check.proofs.check_choices.Kinds as check-choices-kinds
-use Rattle.term_check.proofs.+check_args+check_choices+check_head+check_part+check_term.Lts-check_choices as check-choices-lts
+use Rattle.term_check.proofs.+check_args+check_choices+check_head+check_term.Lts-check_choices as check-choices-lts
 use Rattle.term_check.proofs.check_head.Reads as check-head
 use Rattle.term_check.proofs.check_head.Kinds as check-head-kinds
-use Rattle.term_check.proofs.+check_args+check_choices+check_head+check_part+check_term.Lts-check_head as check-head-lts
-use Rattle.term_check.proofs.check_part.Reads as check-part
-use Rattle.term_check.proofs.check_part.Kinds as check-part-kinds
-use Rattle.term_check.proofs.+check_args+check_choices+check_head+check_part+check_term.Lts-check_part as check-part-lts
+use Rattle.term_check.proofs.+check_args+check_choices+check_head+check_term.Lts-check_head as check-head-lts
 use Rattle.term_check.proofs.check_term.Reads as check-term
 use Rattle.term_check.proofs.check_term.Kinds as check-term-kinds
-use Rattle.term_check.proofs.+check_args+check_choices+check_head+check_part+check_term.Lts-check_term as check-term-lts
+use Rattle.term_check.proofs.+check_args+check_choices+check_head+check_term.Lts-check_term as check-term-lts
 use Rattle.bare_heads.proofs.bare_has.Reads as bare-has-reads
 use Rattle.candidates.proofs.candidate.Reads as candidate-reads
 use Rattle.candidates.proofs.span_of.Reads as span-of-reads
@@ -44,15 +41,13 @@ use Rattle.memo.proofs.known.Reads as known-reads
 use Rattle.memo.proofs.learn.Reads as learn-reads
 use Rattle.serving.proofs.place_for.Reads as place-for-reads
 use Rattle.term_check.proofs.end_of.Reads as end-of-reads
+use Rattle.term_check.proofs.known_part.Reads as known-part-reads
+use Rattle.term_check.proofs.learn_part.Reads as learn-part-reads
 use Rattle.term_check.proofs.node_at.Reads as node-at-reads
 use Rattle.wants.proofs.target_of.Reads as target-of-reads
 use Rattle.wants.proofs.wanted.Reads as wanted-reads
-use Rattle.term_check.proofs.+check_args+check_choices+check_head+check_part+check_term.{
-  statement,
-}
-use Rattle.term_check.proofs.+check_args+check_choices+check_head+check_part+check_term.Tie.{
-  close,
-}
+use Rattle.term_check.proofs.+check_args+check_choices+check_head+check_term.{statement}
+use Rattle.term_check.proofs.+check_args+check_choices+check_head+check_term.Tie.{close}
 
 abbrev μ-check-args : Measures 7 check-args-kinds.ps ℕ
 μ-check-args κs a = (18446744073709551616 - a .1 .1 .1 .1 .1 .1 .1 .0) * 4 + 4
@@ -62,9 +57,6 @@ abbrev μ-check-choices : Measures 7 check-choices-kinds.ps ℕ
 
 abbrev μ-check-head : Measures 7 check-head-kinds.ps ℕ
 μ-check-head κs a = (18446744073709551616 - a .1 .1 .1 .1 .1 .1 .1 .0) * 4 + 2
-
-abbrev μ-check-part : Measures 7 check-part-kinds.ps ℕ
-μ-check-part κs a = (18446744073709551616 - a .1 .1 .1 .1 .1 .1 .1 .0) * 4 + 4
 
 abbrev μ-check-term : Measures 7 check-term-kinds.ps ℕ
 μ-check-term κs a = (18446744073709551616 - a .1 .1 .1 .1 .1 .1 .1 .0) * 4 + 3
@@ -96,14 +88,6 @@ check-head-at t =
 abbrev check-head-below : ℕ → In 7 check-head-kinds.ps
 check-head-below t =
     and 7 check-head-kinds.ps (falls 7 check-head-kinds.ps _<_ μ-check-head t) check-head.Pre
-
-abbrev check-part-at : ℕ → In 7 check-part-kinds.ps
-check-part-at t =
-    and 7 check-part-kinds.ps (is 7 check-part-kinds.ps μ-check-part t) check-part.Pre
-
-abbrev check-part-below : ℕ → In 7 check-part-kinds.ps
-check-part-below t =
-    and 7 check-part-kinds.ps (falls 7 check-part-kinds.ps _<_ μ-check-part t) check-part.Pre
 
 abbrev check-term-at : ℕ → In 7 check-term-kinds.ps
 check-term-at t =
@@ -979,8 +963,12 @@ check-head-element-copy-out-types : (t : ℕ) → check-head-lts.Need-element-co
   target-of-reads.Learnt,
   end-of-reads.Asked,
   end-of-reads.Learnt,
-  check-part-below t,
-  check-part.Post,
+  known-part-reads.Asked,
+  known-part-reads.Learnt,
+  check-term-below t,
+  check-term.Post,
+  learn-part-reads.Asked,
+  learn-part-reads.Learnt,
 ) (check-head-at t) check-head.Post check-head-Inv-loop check-head-μ-loop
 check-head-element-copy-out-types t c = search needs
 
@@ -991,8 +979,12 @@ check-head-returns : (t : ℕ) → check-head-lts.Need-returns (
   target-of-reads.Learnt,
   end-of-reads.Asked,
   end-of-reads.Learnt,
-  check-part-below t,
-  check-part.Post,
+  known-part-reads.Asked,
+  known-part-reads.Learnt,
+  check-term-below t,
+  check-term.Post,
+  learn-part-reads.Asked,
+  learn-part-reads.Learnt,
 ) (check-head-at t) check-head.Post check-head-Inv-loop check-head-μ-loop
 check-head-returns t c = λ z p. types-many _ _ _ _ (c .if1 .taken)
 
@@ -1003,8 +995,12 @@ check-head-returns-2 : (t : ℕ) → check-head-lts.Need-returns-2 (
   target-of-reads.Learnt,
   end-of-reads.Asked,
   end-of-reads.Learnt,
-  check-part-below t,
-  check-part.Post,
+  known-part-reads.Asked,
+  known-part-reads.Learnt,
+  check-term-below t,
+  check-term.Post,
+  learn-part-reads.Asked,
+  learn-part-reads.Learnt,
 ) (check-head-at t) check-head.Post check-head-Inv-loop check-head-μ-loop
 check-head-returns-2 t c = λ z p. absurd (let f = p .few in let h = c .if2 .taken in omega arith)
 
@@ -1015,8 +1011,12 @@ check-head-returns-3 : (t : ℕ) → check-head-lts.Need-returns-3 (
   target-of-reads.Learnt,
   end-of-reads.Asked,
   end-of-reads.Learnt,
-  check-part-below t,
-  check-part.Post,
+  known-part-reads.Asked,
+  known-part-reads.Learnt,
+  check-term-below t,
+  check-term.Post,
+  learn-part-reads.Asked,
+  learn-part-reads.Learnt,
 ) (check-head-at t) check-head.Post check-head-Inv-loop check-head-μ-loop
 check-head-returns-3 t c = λ z p. absurd (let e = p .first-is in let h = c .if3 .taken in omega arith)
 
@@ -1027,8 +1027,12 @@ check-head-element-copy-out-place-for : (t : ℕ) → check-head-lts.Need-elemen
   target-of-reads.Learnt,
   end-of-reads.Asked,
   end-of-reads.Learnt,
-  check-part-below t,
-  check-part.Post,
+  known-part-reads.Asked,
+  known-part-reads.Learnt,
+  check-term-below t,
+  check-term.Post,
+  learn-part-reads.Asked,
+  learn-part-reads.Learnt,
 ) (check-head-at t) check-head.Post check-head-Inv-loop check-head-μ-loop
 check-head-element-copy-out-place-for t c = search needs
 
@@ -1039,8 +1043,12 @@ check-head-place-for-requires : (t : ℕ) → check-head-lts.Need-place-for-requ
   target-of-reads.Learnt,
   end-of-reads.Asked,
   end-of-reads.Learnt,
-  check-part-below t,
-  check-part.Post,
+  known-part-reads.Asked,
+  known-part-reads.Learnt,
+  check-term-below t,
+  check-term.Post,
+  learn-part-reads.Asked,
+  learn-part-reads.Learnt,
 ) (check-head-at t) check-head.Post check-head-Inv-loop check-head-μ-loop
 check-head-place-for-requires t c κs = search needs
 
@@ -1051,8 +1059,12 @@ check-head-returns-4 : (t : ℕ) → check-head-lts.Need-returns-4 (
   target-of-reads.Learnt,
   end-of-reads.Asked,
   end-of-reads.Learnt,
-  check-part-below t,
-  check-part.Post,
+  known-part-reads.Asked,
+  known-part-reads.Learnt,
+  check-term-below t,
+  check-term.Post,
+  learn-part-reads.Asked,
+  learn-part-reads.Learnt,
 ) (check-head-at t) check-head.Post check-head-Inv-loop check-head-μ-loop
 check-head-returns-4 t c = λ z p. no-row-there _ _ _ _ _ _ _ (p .tag-is) (p .number-is) (p .count-is) z _ (c .before .place-for .ensures) (c .if4 .taken)
 
@@ -1063,8 +1075,12 @@ check-head-loop-holds : (t : ℕ) → check-head-lts.Need-loop-holds (
   target-of-reads.Learnt,
   end-of-reads.Asked,
   end-of-reads.Learnt,
-  check-part-below t,
-  check-part.Post,
+  known-part-reads.Asked,
+  known-part-reads.Learnt,
+  check-term-below t,
+  check-term.Post,
+  learn-part-reads.Asked,
+  learn-part-reads.Learnt,
 ) (check-head-at t) check-head.Post check-head-Inv-loop check-head-μ-loop
 check-head-loop-holds t c = args-start _ _ _ _ _ _ _
 
@@ -1075,8 +1091,12 @@ check-head-target-of-requires : (t : ℕ) → check-head-lts.Need-target-of-requ
   target-of-reads.Learnt,
   end-of-reads.Asked,
   end-of-reads.Learnt,
-  check-part-below t,
-  check-part.Post,
+  known-part-reads.Asked,
+  known-part-reads.Learnt,
+  check-term-below t,
+  check-term.Post,
+  learn-part-reads.Asked,
+  learn-part-reads.Learnt,
 ) (check-head-at t) check-head.Post check-head-Inv-loop check-head-μ-loop
 check-head-target-of-requires t c κs = search needs
 
@@ -1087,8 +1107,12 @@ check-head-same-length : (t : ℕ) → check-head-lts.Need-same-length (
   target-of-reads.Learnt,
   end-of-reads.Asked,
   end-of-reads.Learnt,
-  check-part-below t,
-  check-part.Post,
+  known-part-reads.Asked,
+  known-part-reads.Learnt,
+  check-term-below t,
+  check-term.Post,
+  learn-part-reads.Asked,
+  learn-part-reads.Learnt,
 ) (check-head-at t) check-head.Post check-head-Inv-loop check-head-μ-loop
 check-head-same-length t c = c .before .before .before .loop .inv .keeps .long
 
@@ -1099,8 +1123,12 @@ check-head-returns-5 : (t : ℕ) → check-head-lts.Need-returns-5 (
   target-of-reads.Learnt,
   end-of-reads.Asked,
   end-of-reads.Learnt,
-  check-part-below t,
-  check-part.Post,
+  known-part-reads.Asked,
+  known-part-reads.Learnt,
+  check-term-below t,
+  check-term.Post,
+  learn-part-reads.Asked,
+  learn-part-reads.Learnt,
 ) (check-head-at t) check-head.Post check-head-Inv-loop check-head-μ-loop
 check-head-returns-5 t c = λ z p. row-checked _ _ _ _ _ _ _ (p .tag-is) (p .number-is) (p .count-is) z _ (c .before .before .before .before .before .place-for .ensures) (c .before .before .before .before .if4 .left) _ (p .first-is) _ _ (target-past _ (c .before .before .before .loop .inv) (c .before .before .loop-test .taken) _ (c .before .target-of .ensures (c .before .before .before .before .before .place-for .ensures .bound) _ (four-at _ _)) (c .if5 .taken))
 
@@ -1111,8 +1139,12 @@ check-head-element-copy-out-end-of : (t : ℕ) → check-head-lts.Need-element-c
   target-of-reads.Learnt,
   end-of-reads.Asked,
   end-of-reads.Learnt,
-  check-part-below t,
-  check-part.Post,
+  known-part-reads.Asked,
+  known-part-reads.Learnt,
+  check-term-below t,
+  check-term.Post,
+  learn-part-reads.Asked,
+  learn-part-reads.Learnt,
 ) (check-head-at t) check-head.Post check-head-Inv-loop check-head-μ-loop
 check-head-element-copy-out-end-of t c = search needs
 
@@ -1123,8 +1155,12 @@ check-head-end-of-requires : (t : ℕ) → check-head-lts.Need-end-of-requires (
   target-of-reads.Learnt,
   end-of-reads.Asked,
   end-of-reads.Learnt,
-  check-part-below t,
-  check-part.Post,
+  known-part-reads.Asked,
+  known-part-reads.Learnt,
+  check-term-below t,
+  check-term.Post,
+  learn-part-reads.Asked,
+  learn-part-reads.Learnt,
 ) (check-head-at t) check-head.Post check-head-Inv-loop check-head-μ-loop
 check-head-end-of-requires t c κs = search needs
 
@@ -1135,8 +1171,12 @@ check-head-same-length-2 : (t : ℕ) → check-head-lts.Need-same-length-2 (
   target-of-reads.Learnt,
   end-of-reads.Asked,
   end-of-reads.Learnt,
-  check-part-below t,
-  check-part.Post,
+  known-part-reads.Asked,
+  known-part-reads.Learnt,
+  check-term-below t,
+  check-term.Post,
+  learn-part-reads.Asked,
+  learn-part-reads.Learnt,
 ) (check-head-at t) check-head.Post check-head-Inv-loop check-head-μ-loop
 check-head-same-length-2 t c = c .before .before .before .before .before .before .before .loop .inv .keeps .long
 
@@ -1147,8 +1187,12 @@ check-head-returns-6 : (t : ℕ) → check-head-lts.Need-returns-6 (
   target-of-reads.Learnt,
   end-of-reads.Asked,
   end-of-reads.Learnt,
-  check-part-below t,
-  check-part.Post,
+  known-part-reads.Asked,
+  known-part-reads.Learnt,
+  check-term-below t,
+  check-term.Post,
+  learn-part-reads.Asked,
+  learn-part-reads.Learnt,
 ) (check-head-at t) check-head.Post check-head-Inv-loop check-head-μ-loop
 check-head-returns-6 t c = λ z p. row-checked _ _ _ _ _ _ _ (p .tag-is) (p .number-is) (p .count-is) z _ (c .before .before .before .before .before .before .before .before .before .place-for .ensures) (c .before .before .before .before .before .before .before .before .if4 .left) _ (p .first-is) _ _ (target-stuck _ (c .before .before .before .before .before .before .before .loop .inv) (c .before .before .before .before .before .before .loop-test .taken) _ (c .before .before .before .before .before .target-of .ensures (c .before .before .before .before .before .before .before .before .before .place-for .ensures .bound) _ (four-at _ _)) (c .before .before .before .before .if5 .left) _ (c .before .end-of .ensures) (c .if6 .taken))
 
@@ -1159,8 +1203,12 @@ check-head-add-i : (t : ℕ) → check-head-lts.Need-add-i (
   target-of-reads.Learnt,
   end-of-reads.Asked,
   end-of-reads.Learnt,
-  check-part-below t,
-  check-part.Post,
+  known-part-reads.Asked,
+  known-part-reads.Learnt,
+  check-term-below t,
+  check-term.Post,
+  learn-part-reads.Asked,
+  learn-part-reads.Learnt,
 ) (check-head-at t) check-head.Post check-head-Inv-loop check-head-μ-loop
 check-head-add-i t c = let h = c .before .before .before .before .before .before .loop-test .taken in omega arith
 
@@ -1171,22 +1219,46 @@ check-head-sub-size : (t : ℕ) → check-head-lts.Need-sub-size (
   target-of-reads.Learnt,
   end-of-reads.Asked,
   end-of-reads.Learnt,
-  check-part-below t,
-  check-part.Post,
+  known-part-reads.Asked,
+  known-part-reads.Learnt,
+  check-term-below t,
+  check-term.Post,
+  learn-part-reads.Asked,
+  learn-part-reads.Learnt,
 ) (check-head-at t) check-head.Post check-head-Inv-loop check-head-μ-loop
 check-head-sub-size t c = search needs
 
-check-head-check-part-requires : (t : ℕ) → check-head-lts.Need-check-part-requires (
+check-head-element-copy-out-known-part : (t : ℕ) → check-head-lts.Need-element-copy-out-known-part (
   place-for-reads.Asked,
   place-for-reads.Learnt,
   target-of-reads.Asked,
   target-of-reads.Learnt,
   end-of-reads.Asked,
   end-of-reads.Learnt,
-  check-part-below t,
-  check-part.Post,
+  known-part-reads.Asked,
+  known-part-reads.Learnt,
+  check-term-below t,
+  check-term.Post,
+  learn-part-reads.Asked,
+  learn-part-reads.Learnt,
 ) (check-head-at t) check-head.Post check-head-Inv-loop check-head-μ-loop
-check-head-check-part-requires t c κs = let p = c .before .before .before .before .before .before .before .before .before .before .before .before .before .before .before .before .before .before .before .pre .0 in let f = c .before .before .before .before .before .before .before .before .loop .inv .forward in let h = c .before .before .before .before .before .before .before .before .before .before .before .before .before .if3 .left in let g = c .before .before .before .before .before .before .before .before .before .before .before .before .before .before .before .before .before .before .before .fits .at in (omega arith, Prim.tt)
+check-head-element-copy-out-known-part t c = search needs
+
+check-head-known-part-requires : (t : ℕ) → check-head-lts.Need-known-part-requires (
+  place-for-reads.Asked,
+  place-for-reads.Learnt,
+  target-of-reads.Asked,
+  target-of-reads.Learnt,
+  end-of-reads.Asked,
+  end-of-reads.Learnt,
+  known-part-reads.Asked,
+  known-part-reads.Learnt,
+  check-term-below t,
+  check-term.Post,
+  learn-part-reads.Asked,
+  learn-part-reads.Learnt,
+) (check-head-at t) check-head.Post check-head-Inv-loop check-head-μ-loop
+check-head-known-part-requires t c κs = search needs
 
 check-head-same-length-3 : (t : ℕ) → check-head-lts.Need-same-length-3 (
   place-for-reads.Asked,
@@ -1195,10 +1267,14 @@ check-head-same-length-3 : (t : ℕ) → check-head-lts.Need-same-length-3 (
   target-of-reads.Learnt,
   end-of-reads.Asked,
   end-of-reads.Learnt,
-  check-part-below t,
-  check-part.Post,
+  known-part-reads.Asked,
+  known-part-reads.Learnt,
+  check-term-below t,
+  check-term.Post,
+  learn-part-reads.Asked,
+  learn-part-reads.Learnt,
 ) (check-head-at t) check-head.Post check-head-Inv-loop check-head-μ-loop
-check-head-same-length-3 t c = c .before .before .before .check-part .ensures .keeps .long ∙ c .before .before .before .before .before .before .before .before .before .before .before .before .loop .inv .keeps .long
+check-head-same-length-3 t c = c .before .before .before .before .before .before .before .before .before .before .before .loop .inv .keeps .long
 
 check-head-returns-7 : (t : ℕ) → check-head-lts.Need-returns-7 (
   place-for-reads.Asked,
@@ -1207,34 +1283,62 @@ check-head-returns-7 : (t : ℕ) → check-head-lts.Need-returns-7 (
   target-of-reads.Learnt,
   end-of-reads.Asked,
   end-of-reads.Learnt,
-  check-part-below t,
-  check-part.Post,
+  known-part-reads.Asked,
+  known-part-reads.Learnt,
+  check-term-below t,
+  check-term.Post,
+  learn-part-reads.Asked,
+  learn-part-reads.Learnt,
 ) (check-head-at t) check-head.Post check-head-Inv-loop check-head-μ-loop
-check-head-returns-7 t c = λ z p. row-checked _ _ _ _ _ _ _ (p .tag-is) (p .number-is) (p .count-is) z _ (c .before .before .before .before .before .before .before .before .before .before .before .before .before .before .place-for .ensures) (c .before .before .before .before .before .before .before .before .before .before .before .before .before .if4 .left) _ (p .first-is) _ _ (target-lacks _ (c .before .before .before .before .before .before .before .before .before .before .before .before .loop .inv) (c .before .before .before .before .before .before .before .before .before .before .before .loop-test .taken) _ (c .before .before .before .before .before .before .before .before .before .before .target-of .ensures (c .before .before .before .before .before .before .before .before .before .before .before .before .before .before .place-for .ensures .bound) _ (four-at _ _)) (c .before .before .before .before .before .before .before .before .before .if5 .left) _ _ (c .before .before .before .check-part .ensures) (not-true _ (c .if7 .taken)))
+check-head-returns-7 t c = λ z p. row-checked _ _ _ _ _ _ _ (p .tag-is) (p .number-is) (p .count-is) z _ (c .before .before .before .before .before .before .before .before .before .before .before .before .before .place-for .ensures) (c .before .before .before .before .before .before .before .before .before .before .before .before .if4 .left) _ (p .first-is) _ _ (target-lacks _ (c .before .before .before .before .before .before .before .before .before .before .before .loop .inv) (c .before .before .before .before .before .before .before .before .before .before .loop-test .taken) _ (c .before .before .before .before .before .before .before .before .before .target-of .ensures (c .before .before .before .before .before .before .before .before .before .before .before .before .before .place-for .ensures .bound) _ (four-at _ _)) (c .before .before .before .before .before .before .before .before .if5 .left) _ _ (known-no _ _ _ _ _ (c .before .known-part .ensures (λ z. omega arith)) (c .if7 .taken)) refl)
 
-check-head-loop-less : (t : ℕ) → check-head-lts.Need-loop-less (
+check-head-check-term-requires : (t : ℕ) → check-head-lts.Need-check-term-requires (
   place-for-reads.Asked,
   place-for-reads.Learnt,
   target-of-reads.Asked,
   target-of-reads.Learnt,
   end-of-reads.Asked,
   end-of-reads.Learnt,
-  check-part-below t,
-  check-part.Post,
+  known-part-reads.Asked,
+  known-part-reads.Learnt,
+  check-term-below t,
+  check-term.Post,
+  learn-part-reads.Asked,
+  learn-part-reads.Learnt,
 ) (check-head-at t) check-head.Post check-head-Inv-loop check-head-μ-loop
-check-head-loop-less t c = let h = c .before .before .before .before .before .before .before .before .before .before .before .loop-test .taken in omega arith
+check-head-check-term-requires t c κs = let p = c .before .before .before .before .before .before .before .before .before .before .before .before .before .before .before .before .before .before .before .before .before .before .before .before .pre .0 in let f = c .before .before .before .before .before .before .before .before .before .before .before .before .before .loop .inv .forward in let h = c .before .before .before .before .before .before .before .before .before .before .before .before .before .before .before .before .before .before .if3 .left in let g = c .before .before .before .before .before .before .before .before .before .before .before .before .before .before .before .before .before .before .before .before .before .before .before .before .fits .at in (omega arith, Prim.tt)
 
-check-head-loop-again : (t : ℕ) → check-head-lts.Need-loop-again (
+check-head-element-copy-out-learn-part : (t : ℕ) → check-head-lts.Need-element-copy-out-learn-part (
   place-for-reads.Asked,
   place-for-reads.Learnt,
   target-of-reads.Asked,
   target-of-reads.Learnt,
   end-of-reads.Asked,
   end-of-reads.Learnt,
-  check-part-below t,
-  check-part.Post,
+  known-part-reads.Asked,
+  known-part-reads.Learnt,
+  check-term-below t,
+  check-term.Post,
+  learn-part-reads.Asked,
+  learn-part-reads.Learnt,
 ) (check-head-at t) check-head.Post check-head-Inv-loop check-head-μ-loop
-check-head-loop-again t c = target-has _ (c .before .before .before .before .before .before .before .before .before .before .before .before .loop .inv) (c .before .before .before .before .before .before .before .before .before .before .before .loop-test .taken) _ (c .before .before .before .before .before .before .before .before .before .before .target-of .ensures (c .before .before .before .before .before .before .before .before .before .before .before .before .before .before .place-for .ensures .bound) _ (four-at _ _)) (c .before .before .before .before .before .before .before .before .before .if5 .left) _ _ (c .before .before .before .check-part .ensures) (not-false _ (c .if7 .left)) _ _ (c .before .before .before .before .before .before .end-of .ensures) (let h = c .before .before .before .before .before .if6 .left in omega arith) (omega arith)
+check-head-element-copy-out-learn-part t c = search needs
+
+check-head-learn-part-requires : (t : ℕ) → check-head-lts.Need-learn-part-requires (
+  place-for-reads.Asked,
+  place-for-reads.Learnt,
+  target-of-reads.Asked,
+  target-of-reads.Learnt,
+  end-of-reads.Asked,
+  end-of-reads.Learnt,
+  known-part-reads.Asked,
+  known-part-reads.Learnt,
+  check-term-below t,
+  check-term.Post,
+  learn-part-reads.Asked,
+  learn-part-reads.Learnt,
+) (check-head-at t) check-head.Post check-head-Inv-loop check-head-μ-loop
+check-head-learn-part-requires t c κs = search needs
 
 check-head-same-length-4 : (t : ℕ) → check-head-lts.Need-same-length-4 (
   place-for-reads.Asked,
@@ -1243,10 +1347,14 @@ check-head-same-length-4 : (t : ℕ) → check-head-lts.Need-same-length-4 (
   target-of-reads.Learnt,
   end-of-reads.Asked,
   end-of-reads.Learnt,
-  check-part-below t,
-  check-part.Post,
+  known-part-reads.Asked,
+  known-part-reads.Learnt,
+  check-term-below t,
+  check-term.Post,
+  learn-part-reads.Asked,
+  learn-part-reads.Learnt,
 ) (check-head-at t) check-head.Post check-head-Inv-loop check-head-μ-loop
-check-head-same-length-4 t c = c .before .loop .inv .keeps .long
+check-head-same-length-4 t c = noted-length _ _ _ _ _ _ _ (c .before .before .before .learn-part .ensures) ∙ c .before .before .before .before .before .before .before .before .check-term .ensures .keeps .long ∙ c .before .before .before .before .before .before .before .before .before .before .before .before .before .before .before .before .before .before .before .before .before .before .loop .inv .keeps .long
 
 check-head-returns-8 : (t : ℕ) → check-head-lts.Need-returns-8 (
   place-for-reads.Asked,
@@ -1255,190 +1363,110 @@ check-head-returns-8 : (t : ℕ) → check-head-lts.Need-returns-8 (
   target-of-reads.Learnt,
   end-of-reads.Asked,
   end-of-reads.Learnt,
-  check-part-below t,
-  check-part.Post,
+  known-part-reads.Asked,
+  known-part-reads.Learnt,
+  check-term-below t,
+  check-term.Post,
+  learn-part-reads.Asked,
+  learn-part-reads.Learnt,
 ) (check-head-at t) check-head.Post check-head-Inv-loop check-head-μ-loop
-check-head-returns-8 t c = λ z p. row-checked _ _ _ _ _ _ _ (p .tag-is) (p .number-is) (p .count-is) z _ (c .before .before .before .place-for .ensures) (c .before .before .if4 .left) _ (p .first-is) _ _ (args-end _ (c .before .loop .inv) (c .loop-test .left))
+check-head-returns-8 t c = λ z p. row-checked _ _ _ _ _ _ _ (p .tag-is) (p .number-is) (p .count-is) z _ (c .before .before .before .before .before .before .before .before .before .before .before .before .before .before .before .before .before .before .before .before .before .before .before .before .place-for .ensures) (c .before .before .before .before .before .before .before .before .before .before .before .before .before .before .before .before .before .before .before .before .before .before .before .if4 .left) _ (p .first-is) _ _ (target-lacks _ (c .before .before .before .before .before .before .before .before .before .before .before .before .before .before .before .before .before .before .before .before .before .before .loop .inv) (c .before .before .before .before .before .before .before .before .before .before .before .before .before .before .before .before .before .before .before .before .before .loop-test .taken) _ (c .before .before .before .before .before .before .before .before .before .before .before .before .before .before .before .before .before .before .before .before .target-of .ensures (c .before .before .before .before .before .before .before .before .before .before .before .before .before .before .before .before .before .before .before .before .before .before .before .before .place-for .ensures .bound) _ (four-at _ _)) (c .before .before .before .before .before .before .before .before .before .before .before .before .before .before .before .before .before .before .before .if5 .left) _ _ (term-noted _ _ _ _ _ _ (c .before .before .before .before .before .before .before .before .check-term .ensures) _ (c .before .before .before .learn-part .ensures)) (not-true _ (c .if9 .taken)))
 
-check-part-check-term-requires : (t : ℕ) → check-part-lts.Need-check-term-requires (
+check-head-loop-less : (t : ℕ) → check-head-lts.Need-loop-less (
+  place-for-reads.Asked,
+  place-for-reads.Learnt,
+  target-of-reads.Asked,
+  target-of-reads.Learnt,
+  end-of-reads.Asked,
+  end-of-reads.Learnt,
+  known-part-reads.Asked,
+  known-part-reads.Learnt,
   check-term-below t,
   check-term.Post,
-  known-reads.Asked,
-  known-reads.Learnt,
-  learn-reads.Asked,
-  learn-reads.Learnt,
-) (check-part-at t) check-part.Post
-check-part-check-term-requires t c κs = let p = c .before .before .before .before .pre .0 in (omega arith, Prim.tt)
+  learn-part-reads.Asked,
+  learn-part-reads.Learnt,
+) (check-head-at t) check-head.Post check-head-Inv-loop check-head-μ-loop
+check-head-loop-less t c = let h = c .before .before .before .before .before .before .before .before .before .before .before .before .before .before .before .before .before .before .before .before .before .loop-test .taken in omega arith
 
-check-part-same-length : (t : ℕ) → check-part-lts.Need-same-length (
+check-head-loop-again : (t : ℕ) → check-head-lts.Need-loop-again (
+  place-for-reads.Asked,
+  place-for-reads.Learnt,
+  target-of-reads.Asked,
+  target-of-reads.Learnt,
+  end-of-reads.Asked,
+  end-of-reads.Learnt,
+  known-part-reads.Asked,
+  known-part-reads.Learnt,
   check-term-below t,
   check-term.Post,
-  known-reads.Asked,
-  known-reads.Learnt,
-  learn-reads.Asked,
-  learn-reads.Learnt,
-) (check-part-at t) check-part.Post
-check-part-same-length t c = c .before .before .check-term .ensures .keeps .long
+  learn-part-reads.Asked,
+  learn-part-reads.Learnt,
+) (check-head-at t) check-head.Post check-head-Inv-loop check-head-μ-loop
+check-head-loop-again t c = target-has _ (c .before .before .before .before .before .before .before .before .before .before .before .before .before .before .before .before .before .before .before .before .before .before .loop .inv) (c .before .before .before .before .before .before .before .before .before .before .before .before .before .before .before .before .before .before .before .before .before .loop-test .taken) _ (c .before .before .before .before .before .before .before .before .before .before .before .before .before .before .before .before .before .before .before .before .target-of .ensures (c .before .before .before .before .before .before .before .before .before .before .before .before .before .before .before .before .before .before .before .before .before .before .before .before .place-for .ensures .bound) _ (four-at _ _)) (c .before .before .before .before .before .before .before .before .before .before .before .before .before .before .before .before .before .before .before .if5 .left) _ _ (term-noted _ _ _ _ _ _ (c .before .before .before .before .before .before .before .before .check-term .ensures) _ (c .before .before .before .learn-part .ensures)) (not-false _ (c .if9 .left)) _ _ (c .before .before .before .before .before .before .before .before .before .before .before .before .before .before .before .before .end-of .ensures) (let h = c .before .before .before .before .before .before .before .before .before .before .before .before .before .before .before .if6 .left in omega arith) (omega arith)
 
-check-part-returns : (t : ℕ) → check-part-lts.Need-returns (
+check-head-loop-less-2 : (t : ℕ) → check-head-lts.Need-loop-less-2 (
+  place-for-reads.Asked,
+  place-for-reads.Learnt,
+  target-of-reads.Asked,
+  target-of-reads.Learnt,
+  end-of-reads.Asked,
+  end-of-reads.Learnt,
+  known-part-reads.Asked,
+  known-part-reads.Learnt,
   check-term-below t,
   check-term.Post,
-  known-reads.Asked,
-  known-reads.Learnt,
-  learn-reads.Asked,
-  learn-reads.Learnt,
-) (check-part-at t) check-part.Post
-check-part-returns t c = c .before .before .check-term .ensures
+  learn-part-reads.Asked,
+  learn-part-reads.Learnt,
+) (check-head-at t) check-head.Post check-head-Inv-loop check-head-μ-loop
+check-head-loop-less-2 t c = let h = c .before .before .before .before .before .before .before .before .before .before .before .loop-test .taken in omega arith
 
-check-part-element-copy-out-types : (t : ℕ) → check-part-lts.Need-element-copy-out-types (
+check-head-loop-again-2 : (t : ℕ) → check-head-lts.Need-loop-again-2 (
+  place-for-reads.Asked,
+  place-for-reads.Learnt,
+  target-of-reads.Asked,
+  target-of-reads.Learnt,
+  end-of-reads.Asked,
+  end-of-reads.Learnt,
+  known-part-reads.Asked,
+  known-part-reads.Learnt,
   check-term-below t,
   check-term.Post,
-  known-reads.Asked,
-  known-reads.Learnt,
-  learn-reads.Asked,
-  learn-reads.Learnt,
-) (check-part-at t) check-part.Post
-check-part-element-copy-out-types t c = search needs
+  learn-part-reads.Asked,
+  learn-part-reads.Learnt,
+) (check-head-at t) check-head.Post check-head-Inv-loop check-head-μ-loop
+check-head-loop-again-2 t c = target-has _ (c .before .before .before .before .before .before .before .before .before .before .before .before .loop .inv) (c .before .before .before .before .before .before .before .before .before .before .before .loop-test .taken) _ (c .before .before .before .before .before .before .before .before .before .before .target-of .ensures (c .before .before .before .before .before .before .before .before .before .before .before .before .before .before .place-for .ensures .bound) _ (four-at _ _)) (c .before .before .before .before .before .before .before .before .before .if5 .left) _ _ (known-yes _ _ _ _ _ (c .before .before .known-part .ensures (λ z. omega arith)) (c .if8 .left)) refl _ _ (c .before .before .before .before .before .before .end-of .ensures) (let h = c .before .before .before .before .before .if6 .left in omega arith) (omega arith)
 
-check-part-returns-2 : (t : ℕ) → check-part-lts.Need-returns-2 (
+check-head-same-length-5 : (t : ℕ) → check-head-lts.Need-same-length-5 (
+  place-for-reads.Asked,
+  place-for-reads.Learnt,
+  target-of-reads.Asked,
+  target-of-reads.Learnt,
+  end-of-reads.Asked,
+  end-of-reads.Learnt,
+  known-part-reads.Asked,
+  known-part-reads.Learnt,
   check-term-below t,
   check-term.Post,
-  known-reads.Asked,
-  known-reads.Learnt,
-  learn-reads.Asked,
-  learn-reads.Learnt,
-) (check-part-at t) check-part.Post
-check-part-returns-2 t c = types-many _ _ _ _ (c .if2 .taken)
+  learn-part-reads.Asked,
+  learn-part-reads.Learnt,
+) (check-head-at t) check-head.Post check-head-Inv-loop check-head-μ-loop
+check-head-same-length-5 t c = c .before .loop .inv .keeps .long
 
-check-part-add-known : (t : ℕ) → check-part-lts.Need-add-known (
+check-head-returns-9 : (t : ℕ) → check-head-lts.Need-returns-9 (
+  place-for-reads.Asked,
+  place-for-reads.Learnt,
+  target-of-reads.Asked,
+  target-of-reads.Learnt,
+  end-of-reads.Asked,
+  end-of-reads.Learnt,
+  known-part-reads.Asked,
+  known-part-reads.Learnt,
   check-term-below t,
   check-term.Post,
-  known-reads.Asked,
-  known-reads.Learnt,
-  learn-reads.Asked,
-  learn-reads.Learnt,
-) (check-part-at t) check-part.Post
-check-part-add-known t c = let h = c .before .if2 .left in omega arith
-
-check-part-element-copy-out-known : (t : ℕ) → check-part-lts.Need-element-copy-out-known (
-  check-term-below t,
-  check-term.Post,
-  known-reads.Asked,
-  known-reads.Learnt,
-  learn-reads.Asked,
-  learn-reads.Learnt,
-) (check-part-at t) check-part.Post
-check-part-element-copy-out-known t c = search needs
-
-check-part-known-requires : (t : ℕ) → check-part-lts.Need-known-requires (
-  check-term-below t,
-  check-term.Post,
-  known-reads.Asked,
-  known-reads.Learnt,
-  learn-reads.Asked,
-  learn-reads.Learnt,
-) (check-part-at t) check-part.Post
-check-part-known-requires t c κs = search needs
-
-check-part-same-length-2 : (t : ℕ) → check-part-lts.Need-same-length-2 (
-  check-term-below t,
-  check-term.Post,
-  known-reads.Asked,
-  known-reads.Learnt,
-  learn-reads.Asked,
-  learn-reads.Learnt,
-) (check-part-at t) check-part.Post
-check-part-same-length-2 t c = search needs
-
-check-part-returns-3 : (t : ℕ) → check-part-lts.Need-returns-3 (
-  check-term-below t,
-  check-term.Post,
-  known-reads.Asked,
-  known-reads.Learnt,
-  learn-reads.Asked,
-  learn-reads.Learnt,
-) (check-part-at t) check-part.Post
-check-part-returns-3 t c = known-no _ _ _ _ _ (c .before .known .ensures) (c .if3 .taken)
-
-check-part-same-length-3 : (t : ℕ) → check-part-lts.Need-same-length-3 (
-  check-term-below t,
-  check-term.Post,
-  known-reads.Asked,
-  known-reads.Learnt,
-  learn-reads.Asked,
-  learn-reads.Learnt,
-) (check-part-at t) check-part.Post
-check-part-same-length-3 t c = search needs
-
-check-part-returns-4 : (t : ℕ) → check-part-lts.Need-returns-4 (
-  check-term-below t,
-  check-term.Post,
-  known-reads.Asked,
-  known-reads.Learnt,
-  learn-reads.Asked,
-  learn-reads.Learnt,
-) (check-part-at t) check-part.Post
-check-part-returns-4 t c = known-yes _ _ _ _ _ (c .before .before .known .ensures) (c .if4 .taken)
-
-check-part-check-term-requires-2 : (t : ℕ) → check-part-lts.Need-check-term-requires-2 (
-  check-term-below t,
-  check-term.Post,
-  known-reads.Asked,
-  known-reads.Learnt,
-  learn-reads.Asked,
-  learn-reads.Learnt,
-) (check-part-at t) check-part.Post
-check-part-check-term-requires-2 t c κs = let p = c .before .before .before .before .before .before .before .before .before .before .before .pre .0 in (omega arith, Prim.tt)
-
-check-part-add-learn : (t : ℕ) → check-part-lts.Need-add-learn (
-  check-term-below t,
-  check-term.Post,
-  known-reads.Asked,
-  known-reads.Learnt,
-  learn-reads.Asked,
-  learn-reads.Learnt,
-) (check-part-at t) check-part.Post
-check-part-add-learn t c = search needs
-
-check-part-element-copy-out-learn : (t : ℕ) → check-part-lts.Need-element-copy-out-learn (
-  check-term-below t,
-  check-term.Post,
-  known-reads.Asked,
-  known-reads.Learnt,
-  learn-reads.Asked,
-  learn-reads.Learnt,
-) (check-part-at t) check-part.Post
-check-part-element-copy-out-learn t c = search needs
-
-check-part-learn-requires : (t : ℕ) → check-part-lts.Need-learn-requires (
-  check-term-below t,
-  check-term.Post,
-  known-reads.Asked,
-  known-reads.Learnt,
-  learn-reads.Asked,
-  learn-reads.Learnt,
-) (check-part-at t) check-part.Post
-check-part-learn-requires t c κs = search needs
-
-check-part-same-length-4 : (t : ℕ) → check-part-lts.Need-same-length-4 (
-  check-term-below t,
-  check-term.Post,
-  known-reads.Asked,
-  known-reads.Learnt,
-  learn-reads.Asked,
-  learn-reads.Learnt,
-) (check-part-at t) check-part.Post
-check-part-same-length-4 t c = learnt-length _ _ _ _ _ _ _ (c .before .before .learn .ensures) ∙ c .before .before .before .before .before .before .before .check-term2 .ensures .keeps .long
-
-check-part-returns-5 : (t : ℕ) → check-part-lts.Need-returns-5 (
-  check-term-below t,
-  check-term.Post,
-  known-reads.Asked,
-  known-reads.Learnt,
-  learn-reads.Asked,
-  learn-reads.Learnt,
-) (check-part-at t) check-part.Post
-check-part-returns-5 t c = term-learnt _ _ _ _ _ _ (c .before .before .before .before .before .before .before .check-term2 .ensures) _ (c .before .before .learn .ensures)
+  learn-part-reads.Asked,
+  learn-part-reads.Learnt,
+) (check-head-at t) check-head.Post check-head-Inv-loop check-head-μ-loop
+check-head-returns-9 t c = λ z p. row-checked _ _ _ _ _ _ _ (p .tag-is) (p .number-is) (p .count-is) z _ (c .before .before .before .place-for .ensures) (c .before .before .if4 .left) _ (p .first-is) _ _ (args-end _ (c .before .loop .inv) (c .loop-test .left))
 
 check-term-element-copy-out-types : (t : ℕ) → check-term-lts.Need-element-copy-out-types (
   node-at-reads.Asked,
@@ -1620,15 +1648,9 @@ check-term-returns-5 : (t : ℕ) → check-term-lts.Need-returns-5 (
 ) (check-term-at t) check-term.Post
 check-term-returns-5 t c = c .before .before .check-choices .ensures (c .before .before .before .before .before .before .if3 .left) (c .before .before .before .before .before .before .before .before .before .before .node-at .ensures .placed (not-false _ (c .before .before .before .before .before .before .before .before .if2 .left)))
 
-pub +check-args+check-choices+check-head+check-part+check-term-spec : {M : Type 1} → statement M
-+check-args+check-choices+check-head+check-part+check-term-spec =
-    close
-    μ-check-args
-    μ-check-choices
-    μ-check-head
-    μ-check-part
-    μ-check-term
-    (λ t. check-args-lts.spec (
+pub +check-args+check-choices+check-head+check-term-spec : {M : Type 1} → statement M
++check-args+check-choices+check-head+check-term-spec =
+    close μ-check-args μ-check-choices μ-check-head μ-check-term (λ t. check-args-lts.spec (
       members-of-reads.Asked,
       members-of-reads.Learnt,
       wanted-reads.Asked,
@@ -1719,8 +1741,12 @@ pub +check-args+check-choices+check-head+check-part+check-term-spec : {M : Type 
       target-of-reads.Learnt,
       end-of-reads.Asked,
       end-of-reads.Learnt,
-      check-part-below t,
-      check-part.Post,
+      known-part-reads.Asked,
+      known-part-reads.Learnt,
+      check-term-below t,
+      check-term.Post,
+      learn-part-reads.Asked,
+      learn-part-reads.Learnt,
     )
     (check-head-at t)
     check-head.Post
@@ -1743,41 +1769,21 @@ pub +check-args+check-choices+check-head+check-part+check-term-spec : {M : Type 
     (check-head-returns-6 t)
     (check-head-add-i t)
     (check-head-sub-size t)
-    (check-head-check-part-requires t)
+    (check-head-element-copy-out-known-part t)
+    (check-head-known-part-requires t)
     (check-head-same-length-3 t)
     (check-head-returns-7 t)
+    (check-head-check-term-requires t)
+    (check-head-element-copy-out-learn-part t)
+    (check-head-learn-part-requires t)
+    (check-head-same-length-4 t)
+    (check-head-returns-8 t)
     (check-head-loop-less t)
     (check-head-loop-again t)
-    (check-head-same-length-4 t)
-    (check-head-returns-8 t))
-    (λ t. check-part-lts.spec (
-      check-term-below t,
-      check-term.Post,
-      known-reads.Asked,
-      known-reads.Learnt,
-      learn-reads.Asked,
-      learn-reads.Learnt,
-    )
-    (check-part-at t)
-    check-part.Post
-    (check-part-check-term-requires t)
-    (check-part-same-length t)
-    (check-part-returns t)
-    (check-part-element-copy-out-types t)
-    (check-part-returns-2 t)
-    (check-part-add-known t)
-    (check-part-element-copy-out-known t)
-    (check-part-known-requires t)
-    (check-part-same-length-2 t)
-    (check-part-returns-3 t)
-    (check-part-same-length-3 t)
-    (check-part-returns-4 t)
-    (check-part-check-term-requires-2 t)
-    (check-part-add-learn t)
-    (check-part-element-copy-out-learn t)
-    (check-part-learn-requires t)
-    (check-part-same-length-4 t)
-    (check-part-returns-5 t))
+    (check-head-loop-less-2 t)
+    (check-head-loop-again-2 t)
+    (check-head-same-length-5 t)
+    (check-head-returns-9 t))
     λ t. check-term-lts.spec (
       node-at-reads.Asked,
       node-at-reads.Learnt,
