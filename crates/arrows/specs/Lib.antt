@@ -1,1 +1,3 @@
-pub mod Arrows
+pub mod arrows
+pub mod final_state
+pub mod argument_goals

@@ -1,5 +1,5 @@
 -- The start binding among those kept: the bindings of nonterminal 0 stand first, and a goal says which types are the state 0.
-use Rattle.candidates.specs.Candidates.{noBinding}
+use Rattle.head_types.specs.candidates.Candidates.{noBinding}
 use Prim.Native.Nat.{ℕ, zero, suc, _+_, _<_, _≤_}
 use native.Mathlib.Omega.{arith}
 use native.Mathlib.Nat.{add-zero, le-of-suc-le-suc}
@@ -17,16 +17,16 @@ use Rattle.scheme.specs.Typing.{Binding}
 use Rattle.scheme.specs.Flags.{isKept, chosen}
 use Rattle.scheme.specs.Acceptance.{isStart}
 use Rattle.scheme.proofs.Lists.{and-no, getD-map-in}
-use Rattle.records.specs.Fields.{word}
-use Rattle.records.specs.Records.{Record}
+use Rattle.casefile.specs.Fields.{word}
+use Rattle.casefile.specs.Records.{Record}
 use Rattle.casefile.specs.Kinds.{Kind, payloads, count}
 use Rattle.casefile.specs.Tables.{typesOf, bindingsOf}
 use Rattle.casefile.proofs.TypeTable.{count-payloads}
-use Rattle.entries.specs.Index.{Indexed}
-use Rattle.entries.specs.Tests.{IsPlace}
-use Rattle.groups.specs.Groups.{nonterminalOf, Grouped}
-use Rattle.goals.specs.Goals.{of-state, Typed, typeOfBinding, IsOwn}
-use Rattle.goals.proofs.Goals.{goals-same}
+use Rattle.index.specs.entries.Index.{Indexed}
+use Rattle.index.specs.entries.Tests.{IsPlace}
+use Rattle.goals.specs.groups.Groups.{nonterminalOf, Grouped}
+use Rattle.goals.specs.goals.Goals.{of-state, Typed, typeOfBinding, IsOwn}
+use Rattle.goals.proofs.goals.Goals.{goals-same}
 use Rattle.rounds.proofs.Turning.{bindings-many}
 use Rattle.binding_cases.specs.Judging.{startsAt, StartsAt, FindsStart}
 

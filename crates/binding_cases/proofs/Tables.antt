@@ -17,30 +17,30 @@ use Rattle.scheme.specs.Flags.{chosen, keptFlags}
 use Rattle.scheme.specs.Acceptance.{isStart, accepts}
 use Rattle.scheme.proofs.Lists.{or-false}
 use Rattle.scheme.proofs.Flags.{chosen-kept, keptFlags-length}
-use Rattle.records.specs.Records.{Record}
-use Rattle.records.proofs.Fields.{Bytes}
+use Rattle.casefile.specs.Records.{Record}
+use Rattle.casefile.proofs.Fields.{Bytes}
 use Rattle.casefile.specs.Kinds.{Kind, number, ofKind, count}
 use Rattle.casefile.specs.Tables.{aritiesOf, signaturesOf, typesOf, planOf, automatonOf, bindingsOf}
 use Rattle.casefile.specs.Refusals.{Test, refuse_at_when_, wrongStart, wrongBodies, misfits, refuseWhole}
 use Rattle.casefile.proofs.Passed.{Passed, first-none}
 use Rattle.casefile.proofs.Plans.{first-both, plan-right}
-use Rattle.entries.specs.Index.{base, Indexed}
-use Rattle.entries.specs.Tests.{IsPlace}
-use Rattle.entries.proofs.Stays.{indexed-same}
-use Rattle.kinds.specs.Known.{room, Known}
-use Rattle.rule_bodies.specs.RuleBodies.{ruleOf, firstNode}
-use Rattle.first_nodes.specs.FirstNodes.{FillsFirsts}
-use Rattle.plan_tests.specs.PlanTests.{EndsAre}
-use Rattle.plan_tests.proofs.Contents.{payload-bytes}
-use Rattle.groups.specs.Groups.{Grouped, Fills}
-use Rattle.row_places.specs.RowPlaces.{rowBase, RowsFor, FillsRows}
-use Rattle.goals.specs.Goals.{Goal, of-state, of-arrow, Listed, typeOfBinding, goalBase, ownBase, Goals, Owns, Typed, FillsGoals, FillsOwns}
-use Rattle.whole_bodies.proofs.Wholes.{whole-body}
-use Rattle.binding_tests.specs.BindingTests.{Ready}
+use Rattle.index.specs.entries.Index.{base, Indexed}
+use Rattle.index.specs.entries.Tests.{IsPlace}
+use Rattle.index.proofs.entries.Stays.{indexed-same}
+use Rattle.index.specs.entries.Known.{room, Known}
+use Rattle.rules.specs.reading.RuleBodies.{ruleOf, firstNode}
+use Rattle.rules.specs.first_nodes.FirstNodes.{FillsFirsts}
+use Rattle.intake.specs.plan.PlanTests.{EndsAre}
+use Rattle.intake.proofs.plan.Contents.{payload-bytes}
+use Rattle.goals.specs.groups.Groups.{Grouped, Fills}
+use Rattle.transitions.specs.places.RowPlaces.{rowBase, RowsFor, FillsRows}
+use Rattle.goals.specs.goals.Goals.{Goal, of-state, of-arrow, Listed, typeOfBinding, goalBase, ownBase, Goals, Owns, Typed, FillsGoals, FillsOwns}
+use Rattle.index.proofs.Wholes.{whole-body}
+use Rattle.binding_tests.specs.test.BindingTests.{Ready}
 use Rattle.rounds.specs.Shrinking.{testOf, Shrinks}
 use Rattle.rounds.proofs.Flagged.{chosen-take}
 use Rattle.rounds.proofs.Turning.{bindings-many}
-use Rattle.shrink.specs.BindingCases.{shrunk}
+use Rattle.casefile.specs.BindingCases.{shrunk}
 use Rattle.binding_cases.specs.Judging.{FindsStart, IsShrunk, JudgesBindings}
 
 -- 12 is not met: there is a flag for each binding

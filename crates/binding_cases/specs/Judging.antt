@@ -1,5 +1,5 @@
 -- What comes of a binding case. Sections "Types and shrinking" and "Verdicts" of the scope.
-use Rattle.candidates.specs.Candidates.{noBinding}
+use Rattle.head_types.specs.candidates.Candidates.{noBinding}
 use Prim.Native.Nat.{ℕ, _<_, _≤_}
 use mathlib.Core.Path.{_≡_}
 use mathlib.Core.Bool.{Bool, _&&_}
@@ -10,17 +10,17 @@ use Rattle.scheme.specs.Lists.{any}
 use Rattle.scheme.specs.Types.{state, same}
 use Rattle.scheme.specs.Flags.{isKept, chosen}
 use Rattle.scheme.specs.Acceptance.{isStart}
-use Rattle.records.specs.Records.{Record}
+use Rattle.casefile.specs.Records.{Record}
 use Rattle.casefile.specs.Kinds.{Kind, count}
 use Rattle.casefile.specs.Tables.{planOf, automatonOf, bindingsOf}
 use Rattle.casefile.specs.Refusals.{refuseWhole}
 use Rattle.casefile.proofs.Passed.{Passed}
-use Rattle.entries.specs.Index.{Indexed}
-use Rattle.kinds.specs.Known.{Known}
-use Rattle.plan_tests.specs.PlanTests.{EndsAre}
-use Rattle.groups.specs.Groups.{Grouped}
-use Rattle.goals.specs.Goals.{Typed}
-use Rattle.shrink.specs.BindingCases.{Shrunk, shrunk}
+use Rattle.index.specs.entries.Index.{Indexed}
+use Rattle.index.specs.entries.Known.{Known}
+use Rattle.intake.specs.plan.PlanTests.{EndsAre}
+use Rattle.goals.specs.groups.Groups.{Grouped}
+use Rattle.goals.specs.goals.Goals.{Typed}
+use Rattle.casefile.specs.BindingCases.{Shrunk, shrunk}
 
 -- binding b is kept by its flag and has the state 0 for its type
 abbrev pub startsAt : List Record → ℕ → ℕ → Bool

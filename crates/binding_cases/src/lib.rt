@@ -1,12 +1,12 @@
 // Binding cases: which of the bindings offered are kept, in how many rounds, and whether the start binding is one of them.
-use entries::place_at;
-use first_nodes::fill_firsts;
-use goal_tables::own_of;
-use goals::fill_goals;
-use goals::fill_owns;
-use groups::fill_groups;
+use goals::goals::fill_goals;
+use goals::goals::fill_owns;
+use goals::groups::fill_groups;
+use goals::parts::own_of;
+use index::entries::place_at;
 use rounds::shrink;
-use row_places::fill_rows;
+use rules::first_nodes::fill_firsts;
+use transitions::places::fill_rows;
 ghost use Rattle.binding_cases.specs.Judging.{StartsAt, FindsStart, JudgesBindings};
 
 // What comes of the bindings offered: whether the start binding is kept, how many are kept and how many were offered, and

@@ -1,1 +1,2 @@
-pub mod BindingTests
+pub mod mentions
+pub mod test

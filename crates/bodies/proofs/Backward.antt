@@ -16,13 +16,13 @@ use Rattle.scheme.specs.Terms.{Head, Terms, []ᵗ, _∷ᵗ_, countᵗ, nodes, n
 use Rattle.scheme.specs.Prefix.{Node, takeᵗ, dropᵗ, terms, complete, depth, deepest}
 use Rattle.scheme.proofs.Lists.{and-left, and-right, and-both, true→T}
 use Rattle.scheme.proofs.Sorting.{after-out}
-use Rattle.records.specs.Fields.{field}
+use Rattle.casefile.specs.Fields.{field}
 use Rattle.casefile.specs.Tables.{headOf, nodesOf, firstTerm}
 use Rattle.bodies.specs.Tables.{Stored}
-use Rattle.sort_codes.specs.Sorted.{Code}
+use Rattle.sorts.specs.codes.Sorted.{Code}
 use Rattle.bodies.specs.Bodies.{Held, Fits, ArgumentsFit, Goods, Held-from, headsBy, Setting, HeadCode, Room, NodeRead, NodeTaken}
 use Rattle.bodies.specs.declared.Arguments.{Arguments}
-use Rattle.sort_codes.proofs.Codes.{code-small}
+use Rattle.sorts.proofs.codes.Codes.{code-small}
 use Rattle.casefile.proofs.Cells.{cellAt, nodeAt, nodes-length, nodes-drop}
 
 -- a table after a store

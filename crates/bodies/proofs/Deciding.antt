@@ -17,9 +17,9 @@ use Rattle.scheme.proofs.Lists.{and-true, T→true, true→T}
 use Rattle.scheme.proofs.Sorting.{same-refl, found-sort}
 use Rattle.casefile.specs.Tables.{nodesOf, firstTerm, bodyOf}
 use Rattle.casefile.specs.Refusals.{wrongBody}
-use Rattle.sort_codes.specs.Sorted.{SortArrays}
+use Rattle.sorts.specs.codes.Sorted.{SortArrays}
 use Rattle.bodies.specs.Bodies.{Held, Goods, headsBy, Setting, Scanned, BodyDecided}
-use Rattle.sort_codes.proofs.Codes.{code-listed, listed-code}
+use Rattle.sorts.proofs.codes.Codes.{code-listed, listed-code}
 use Rattle.casefile.proofs.Cells.{nodes-length}
 
 no-true : (b : Bool) → (b ≡ true → ⊥) → b ≡ false

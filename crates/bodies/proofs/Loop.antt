@@ -11,7 +11,7 @@ use Rattle.scheme.specs.Sorting.{sortAfter}
 use Rattle.scheme.specs.Terms.{Head, Terms, []ᵗ, _∷ᵗ_, countᵗ, nodes, nodesAll}
 use Rattle.scheme.specs.Prefix.{takeᵗ, depth, deepest}
 use Rattle.scheme.proofs.Sorting.{after-fit, after-out}
-use Rattle.sort_codes.specs.Sorted.{Code, Coded, Off, misfit, off, Applied}
+use Rattle.sorts.specs.codes.Sorted.{Code, Coded, Off, misfit, off, Applied}
 use Rattle.bodies.specs.Bodies.{Held, Fits, ArgumentsFit}
 use Rattle.bodies.specs.declared.Arguments.{Arguments}
 

@@ -8,10 +8,10 @@ use lib.ListN.{length, getD}
 use Rattle.scheme.specs.Sorts.{Sort, o, arguments}
 use Rattle.scheme.specs.Sorting.{headSort}
 use Rattle.scheme.proofs.Lists.{any-at, getD-map-in, getD-prefix}
-use Rattle.records.specs.Fields.{field}
+use Rattle.casefile.specs.Fields.{field}
 use Rattle.casefile.specs.Tables.{cellsOf, headOf}
 use Rattle.casefile.specs.Refusals.{wrongCell}
-use Rattle.sort_codes.specs.Sorted.{Code, listed, ParameterSort}
+use Rattle.sorts.specs.codes.Sorted.{Code, listed, ParameterSort}
 use Rattle.casefile.proofs.Cells.{cellAt, cells-length, cells-at, cell-range}
 use Rattle.bodies.specs.Bodies.{headsBy, Setting}
 

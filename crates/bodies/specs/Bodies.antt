@@ -11,11 +11,11 @@ use Rattle.scheme.specs.Sorts.{Sort, o, arguments}
 use Rattle.scheme.specs.Sorting.{headSort, sortOf, sortAfter}
 use Rattle.scheme.specs.Terms.{Head, Terms, []ᵗ, _∷ᵗ_, countᵗ, nodes, nodesAll}
 use Rattle.scheme.specs.Prefix.{Node, takeᵗ, terms, complete, depth, deepest}
-use Rattle.records.specs.Fields.{field}
+use Rattle.casefile.specs.Fields.{field}
 use Rattle.casefile.specs.Tables.{cellsOf, headOf, nodesOf, firstTerm}
 use Rattle.casefile.specs.Refusals.{wrongCell, wrongBody}
 use Rattle.casefile.proofs.Cells.{cellAt}
-use Rattle.sort_codes.specs.Sorted.{Code, Coded}
+use Rattle.sorts.specs.codes.Sorted.{Code, Coded}
 use Rattle.bodies.specs.declared.Arguments.{Arguments}
 
 -- the tables hold terms one after another from node `at` up to node n: where each ends, the code of its sort, its depth

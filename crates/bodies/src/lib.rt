@@ -1,17 +1,17 @@
 // The bodies of rules: whether one is a single term of sort o within 64 levels, and where each of its subterms ends.
-use entries::larger;
-use entries::narrow;
-use entries::place_at;
-use sort_steps::apply;
-use sort_steps::parameter;
-use sort_steps::parameter_sorts;
+use index::entries::larger;
+use index::entries::narrow;
+use index::entries::place_at;
+use sorts::steps::apply;
+use sorts::steps::parameter;
+use sorts::steps::parameter_sorts;
 ghost use mathlib.Core.Path.{_≡_};
 ghost use mathlib.Core.Bool.{_&&_, true, false};
 ghost use Prim.Native.Nat.{_+_, _<_, _/_};
 ghost use lib.Dec.{eqb};
 ghost use lib.ListN.{length, getD};
-ghost use Rattle.records.specs.Fields.{IsField};
-ghost use Rattle.sort_codes.specs.Sorted.{ParameterSorts};
+ghost use Rattle.casefile.specs.Fields.{IsField};
+ghost use Rattle.sorts.specs.codes.Sorted.{ParameterSorts};
 ghost use Rattle.bodies.specs.Tables.{Stored};
 ghost use Rattle.bodies.specs.Bodies.{ArgumentsFit, HeldAs, HeadOf, Room, NodeTaken, Scanned, BodyDecided};
 

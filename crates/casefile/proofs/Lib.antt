@@ -9,3 +9,8 @@ pub mod Steps
 pub mod Cells
 pub mod Plans
 pub mod Payloads
+pub mod Fields
+pub mod Walk
+pub mod Bodies
+pub mod Small
+pub mod Replays

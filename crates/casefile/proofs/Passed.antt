@@ -14,7 +14,7 @@ use lib.ListN.{length, getD, take, length-append, List·getD-append}
 use lib.Seq.{take-append-seam, take-append-le, getD-append-seam}
 use Rattle.scheme.specs.Lists.{if_then_else_, keepIf, select}
 use Rattle.scheme.proofs.Lists.{select-append}
-use Rattle.records.specs.Records.{Record, Walk, end, cut, next, recordsOf, listed}
+use Rattle.casefile.specs.Records.{Record, Walk, end, cut, next, recordsOf, listed}
 use Rattle.casefile.specs.Kinds.{Kind, sort, constructor, nonterminal, rule, states, transition, type, binding, path, number, kindOf, ofKind, payloads, count}
 use Rattle.casefile.specs.Refusals.{Refusal, Test, refuse_at_when_, first, tooLong, wrongLength, tooMany, tooLarge, outOfRange, misplaced, refuseAs, refuseKind, lastKind, refuseRecord, refuseWhole}
 use Rattle.casefile.specs.Cases.{Case, refusedCase, bindingCase, pathCase, unlessRefused, acceptedCase, caseFrom, caseOf}

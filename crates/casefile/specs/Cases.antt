@@ -3,7 +3,7 @@ use Prim.Native.Nat.{ℕ}
 use mathlib.Core.List.{List, [], _∷_, _++_}
 use mathlib.Core.Option.{Option, none, some}
 use Rattle.scheme.specs.Lists.{if_then_else_}
-use Rattle.records.specs.Records.{Record, Walk, end, cut, next, recordsOf}
+use Rattle.casefile.specs.Records.{Record, Walk, end, cut, next, recordsOf}
 use Rattle.casefile.specs.Kinds.{Kind, payloads}
 use Rattle.casefile.specs.Refusals.{Refusal, tooLong, refuseRecord, refuseWhole}
 

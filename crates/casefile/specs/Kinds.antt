@@ -5,7 +5,7 @@ use mathlib.Core.Option.{Option, none, some}
 use lib.ListN.{length, getD}
 use lib.Dec.{eqb}
 use Rattle.scheme.specs.Lists.{select}
-use Rattle.records.specs.Records.{Record}
+use Rattle.casefile.specs.Records.{Record}
 
 -- the nine kinds, in the order of their numbers
 pub data Kind : Type 0 where

@@ -12,8 +12,8 @@ use Rattle.scheme.specs.Prefix.{terms, complete, depth}
 use Rattle.scheme.specs.Sorting.{headSort, sortOf}
 use Rattle.scheme.specs.Types.{fits}
 use Rattle.scheme.specs.Typing.{Binding}
-use Rattle.records.specs.Fields.{byte, word}
-use Rattle.records.specs.Records.{Record}
+use Rattle.casefile.specs.Fields.{byte, word}
+use Rattle.casefile.specs.Records.{Record}
 use Rattle.casefile.specs.Kinds.{Kind, sort, constructor, nonterminal, rule, states, transition, type, binding, path, kindOf, ofKind, payloads, count}
 use Rattle.casefile.specs.Tables.{sortsOf, aritiesOf, signaturesOf, Cell, cellsOf, nodesOf, bodyOf, stateCount, words, bindingsOf}
 

@@ -14,8 +14,8 @@ use Rattle.scheme.specs.Prefix.{Node, terms}
 use Rattle.scheme.specs.Reduction.{Plan, start}
 use Rattle.scheme.specs.Types.{Ty, state, arrow, Tys, []ʸ, _∷ʸ_}
 use Rattle.scheme.specs.Typing.{Automaton, Binding}
-use Rattle.records.specs.Fields.{byte, word}
-use Rattle.records.specs.Records.{Record}
+use Rattle.casefile.specs.Fields.{byte, word}
+use Rattle.casefile.specs.Records.{Record}
 use Rattle.casefile.specs.Kinds.{Kind, payloads}
 
 -- a table with one entry more for each payload, which f makes of the entries so far and the payload

@@ -1,3 +1,2 @@
-pub mod Nodes
-pub mod Closures
-pub mod Promises
+pub mod closures
+pub mod fronts

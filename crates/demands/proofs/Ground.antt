@@ -15,14 +15,14 @@ use Rattle.scheme.specs.Flags.{bit, isKept, chosen, retested, roundFlags, keptF
 use Rattle.scheme.specs.Flags
 use Rattle.scheme.specs.Replay.{argument, descend, follow, unless, stuck, arrived, exceeds, followed, replay}
 use Rattle.scheme.specs.Acceptance.{holdsExactly, isStart, accepts}
-use Rattle.records.specs.Fields.{field}
-use Rattle.records.specs.Records.{whole, recordAt, walk, recordsOf}
+use Rattle.casefile.specs.Fields.{field}
+use Rattle.casefile.specs.Records.{whole, recordAt, walk, recordsOf}
 use Rattle.casefile.specs.Kinds.{number, kindOf, ofKind, payloads, count}
 use Rattle.casefile.specs.Tables.{grow, sortFrom, sortsOf, aritiesOf, signaturesOf, cellsOf, headOf, nodesOf, firstTerm, bodyOf, planOf, stateCount, transitionOf, transitionsOf, targetsAt, automatonOf, words, membersAt, arrowFrom, typeFrom, typesOf, bindingsOf}
 use Rattle.casefile.specs.Refusals.{first, tooLong, wrongLength, tooMany, wrongCell, wrongTargets, sameBytes, ascendsFrom, ascends, before, follows, tooLarge, outOfRange, repeats, misplaced, refuseAs, refuseKind, lastKind, refuseRecord, wrongBody, wrongBodies, wrongStart, misfits, refuseWhole}
 use Rattle.casefile.specs.Cases.{unlessRefused, acceptedCase, caseFrom, caseOf}
-use Rattle.replay.specs.PathCases.{pathAnswer, replayed}
-use Rattle.shrink.specs.BindingCases.{shrunk}
+use Rattle.casefile.specs.PathCases.{pathAnswer, replayed}
+use Rattle.casefile.specs.BindingCases.{shrunk}
 use Rattle.demands.specs.Answers.{refusal, bindingOutcome, pathOutcome, outcomeOf, answer, flagsAfter}
 use Rattle.demands.specs.Ground.{Line, starred, small, E}
 

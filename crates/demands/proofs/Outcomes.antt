@@ -22,14 +22,14 @@ use Rattle.scheme.specs.Flags.{keptFlags}
 use Rattle.scheme.proofs.Flags.{chosen-kept, chosen-prefix, keptFlags-length}
 use Rattle.scheme.proofs.Acceptance.{holds-greatest, accepts-out, accepts-in, accepted-safe}
 use Rattle.scheme.proofs.Paths.{replay-ends, replay-refutes, refutes-error}
-use Rattle.records.specs.Records.{Record}
+use Rattle.casefile.specs.Records.{Record}
 use Rattle.casefile.specs.Kinds.{Kind, payloads}
 use Rattle.casefile.specs.Refusals.{Refusal}
 use Rattle.casefile.specs.Tables.{planOf, automatonOf, bindingsOf}
 use Rattle.casefile.specs.Cases.{Case, refusedCase, bindingCase, pathCase, caseOf}
 use Rattle.casefile.proofs.Passed.{binding-case, path-case}
-use Rattle.replay.specs.PathCases.{nodeLimit, pathAnswer, replayed}
-use Rattle.shrink.specs.BindingCases.{Shrunk, shrunk}
+use Rattle.casefile.specs.PathCases.{nodeLimit, pathAnswer, replayed}
+use Rattle.casefile.specs.BindingCases.{Shrunk, shrunk}
 use Rattle.demands.specs.Answers.{Answer, proved, unproved, refuted, Outcome, refusal, bindingOutcome, pathOutcome, outcomeOf, answer, flagsAfter}
 use Rattle.demands.specs.Demands.{planIn, automatonIn, lettersIn, startBinding, Shrinks, Replayed, Demand1, Demand2, Demand3}
 

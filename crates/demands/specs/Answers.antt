@@ -6,8 +6,8 @@ use Rattle.scheme.specs.Lists.{if_then_else_}
 use Rattle.casefile.specs.Refusals.{Refusal}
 use Rattle.casefile.specs.Tables.{planOf, automatonOf, bindingsOf}
 use Rattle.casefile.specs.Cases.{Case, refusedCase, bindingCase, pathCase, caseOf}
-use Rattle.replay.specs.PathCases.{PathAnswer, refutedPath, refusedPath, replayed}
-use Rattle.shrink.specs.BindingCases.{Shrunk, shrunk}
+use Rattle.casefile.specs.PathCases.{PathAnswer, refutedPath, refusedPath, replayed}
+use Rattle.casefile.specs.BindingCases.{Shrunk, shrunk}
 
 -- the four lines that are printed, with their numbers
 pub data Answer : Type 0 where

@@ -14,11 +14,11 @@ use Rattle.scheme.specs.Acceptance.{holdsExactly}
 use Rattle.scheme.specs.Replay.{Ending}
 use Rattle.scheme.specs.Paths.{starting, Within, ReplaysTo, Ends}
 use Rattle.scheme.specs.Safety.{SafetyRule}
-use Rattle.records.specs.Records.{Record, recordsOf, listed}
+use Rattle.casefile.specs.Records.{Record, recordsOf, listed}
 use Rattle.casefile.specs.Kinds.{Kind, payloads}
 use Rattle.casefile.specs.Tables.{planOf, automatonOf, bindingsOf}
 use Rattle.casefile.specs.Cases.{bindingCase, pathCase, caseOf}
-use Rattle.replay.specs.PathCases.{nodeLimit, pathAnswer}
+use Rattle.casefile.specs.PathCases.{nodeLimit, pathAnswer}
 use Rattle.demands.specs.Answers.{Answer, proved, unproved, refuted, answer, pathOutcome, flagsAfter}
 
 -- The parts of a file: "plan and automaton are that file's kinds 1 to 6".

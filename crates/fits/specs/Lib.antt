@@ -1,1 +1,3 @@
-pub mod Filled
+pub mod flags
+pub mod fits
+pub mod misfits

@@ -1,1 +1,3 @@
-pub mod Intake
+pub mod plan
+pub mod evidence
+pub mod intake

@@ -1,7 +1,7 @@
 // Reads each case file that its arguments name, with the number of lent flags behind its name, and prints a line for each:
 // `NAME: refused 3 at 12` or `NAME: accepted`. A flag that changed is reported as well.
+use intake::evidence::Case;
 use libc::STDOUT_FILENO;
-use whole_file::Case;
 ghost use Prim.Native.Nat.{_≤_};
 
 fn say(name: &[u8], case: Case) {
@@ -58,7 +58,7 @@ fn judge(name: &[u8], file: &[u8], flags: &mut [u8], lent: usize) {
         return;
     }
     let part = &mut flags[..lent];
-    let case = intake::case_of(file, part);
+    let case = intake::intake::case_of(file, part);
     if !untouched(part) {
         io::write_all(STDOUT_FILENO, b"a flag changed: ");
     }

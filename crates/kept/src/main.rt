@@ -18,9 +18,9 @@ fn say_binding(file: &[u8], at: usize, k: usize, flag: u8) {
     io::write_all(STDOUT_FILENO, b"binding ");
     io::print_decimal(STDOUT_FILENO, k as u64);
     io::write_all(STDOUT_FILENO, b" nonterminal ");
-    io::print_decimal(STDOUT_FILENO, records::word_at(file, at + 4) as u64);
+    io::print_decimal(STDOUT_FILENO, records::fields::word_at(file, at + 4) as u64);
     io::write_all(STDOUT_FILENO, b" type ");
-    io::print_decimal(STDOUT_FILENO, records::word_at(file, at + 6) as u64);
+    io::print_decimal(STDOUT_FILENO, records::fields::word_at(file, at + 6) as u64);
     if flag == 0 {
         io::write_all(STDOUT_FILENO, b" dropped\n");
     } else {
@@ -33,7 +33,7 @@ fn is_binding(file: &[u8], at: usize) -> bool {
     if file.len() <= at || file.len() - at < 4 {
         return false;
     }
-    records::word_at(file, at + 2) == BINDING
+    records::fields::word_at(file, at + 2) == BINDING
 }
 
 // The place behind the record at a place; the end of the file where the record runs past it.
@@ -45,7 +45,7 @@ fn behind(file: &[u8], at: usize) -> usize {
     if left < 4 {
         return file.len();
     }
-    let length = records::word_at(file, at);
+    let length = records::fields::word_at(file, at);
     if left - 4 < length {
         return file.len();
     }

@@ -14,8 +14,8 @@ use lib.Seq.{set-out, getD-set-same, getD-set-other}
 use Rattle.scheme.specs.Lists.{if_then_else_}
 use Rattle.scheme.specs.Flags.{bit}
 use Rattle.scheme.proofs.Lists.{and-true}
-use Rattle.records.specs.Fields.{byte}
-use Rattle.records.proofs.Fields.{field-none, field-more}
+use Rattle.casefile.specs.Fields.{byte}
+use Rattle.casefile.proofs.Fields.{field-none, field-more}
 use Rattle.memo.specs.Memo.{covered, key, code, recalled, learnt, cleared, nextStamp, readied, Under, Faithful}
 
 -- what it takes for there to be an entry

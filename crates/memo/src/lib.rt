@@ -1,5 +1,5 @@
 // Answers remembered for a node and a goal, in a table that is lent.
-use records::byte_at;
+use records::fields::byte_at;
 ghost use mathlib.Core.Path.{_≡_};
 ghost use Rattle.memo.specs.Memo.{recalled, learnt, nextStamp, readied};
 

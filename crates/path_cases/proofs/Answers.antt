@@ -10,19 +10,19 @@ use Rattle.scheme.specs.Reduction.{start}
 use Rattle.scheme.specs.Replay.{Ending, refutes, lost, outgrown, elsewhere, replay}
 use Rattle.scheme.specs.Paths.{starting, Ends}
 use Rattle.scheme.proofs.Paths.{replay-ends, replay-refutes}
-use Rattle.records.specs.Records.{recordsOf, listed}
+use Rattle.casefile.specs.Records.{recordsOf, listed}
 use Rattle.casefile.specs.Kinds.{Kind, payloads}
 use Rattle.casefile.specs.Tables.{planOf, automatonOf}
 use Rattle.casefile.specs.Cases
 use Rattle.casefile.specs.Cases.{pathCase, caseOf}
 use Rattle.casefile.proofs.Passed.{path-case}
-use Rattle.whole_file.specs.declared.Case.{Case}
-use Rattle.whole_file.specs.declared.Case.the-variants.{Refused as RefusedCase, Bindings as BindingCase, Path}
-use Rattle.intake.specs.Intake.{caseAs, Taken, Leaves}
-use Rattle.replay.specs.PathCases.{nodeLimit, pathAnswer, replayed}
-use Rattle.replay.specs.Replays.{pathAs, ReplaysPath}
-use Rattle.replay.specs.declared.Replayed.{Replayed}
-use Rattle.replay.specs.declared.Replayed.the-variants.{Refuted as Refuted′, Refused as Refused′}
+use Rattle.intake.specs.declared.evidence.Case.{Case}
+use Rattle.intake.specs.declared.evidence.Case.the-variants.{Refused as RefusedCase, Bindings as BindingCase, Path}
+use Rattle.intake.specs.intake.Intake.{caseAs, Taken, Leaves}
+use Rattle.casefile.specs.PathCases.{nodeLimit, pathAnswer, replayed}
+use Rattle.replay.specs.replay.Replays.{pathAs, ReplaysPath}
+use Rattle.replay.specs.declared.replay.Replayed.{Replayed}
+use Rattle.replay.specs.declared.replay.Replayed.the-variants.{Refuted as Refuted′, Refused as Refused′}
 use Rattle.path_cases.specs.PathAnswers.{answerOf, answerTo-path, answerTo, RefutedExactly}
 use Rattle.path_cases.specs.declared.Answer.{Answer}
 use Rattle.path_cases.specs.declared.Answer.the-variants.{Refuted, Refused, Bindings}

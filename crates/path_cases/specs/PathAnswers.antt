@@ -4,12 +4,12 @@ use mathlib.Core.Path.{_≡_}
 use mathlib.Core.List.{List}
 use lib.ListN.{length}
 use Rattle.scheme.specs.Paths.{starting, Within, ReplaysTo}
-use Rattle.records.specs.Records.{Record}
+use Rattle.casefile.specs.Records.{Record}
 use Rattle.casefile.specs.Tables.{planOf, automatonOf}
 use Rattle.casefile.specs.Cases.{Case, refusedCase, bindingCase, pathCase, caseOf}
-use Rattle.replay.specs.PathCases.{nodeLimit, PathAnswer, refutedPath, refusedPath, replayed}
-use Rattle.replay.specs.declared.Replayed.{Replayed}
-use Rattle.replay.specs.declared.Replayed.the-variants.{Refuted as Refuted′, Refused as Refused′}
+use Rattle.casefile.specs.PathCases.{nodeLimit, PathAnswer, refutedPath, refusedPath, replayed}
+use Rattle.replay.specs.declared.replay.Replayed.{Replayed}
+use Rattle.replay.specs.declared.replay.Replayed.the-variants.{Refuted as Refuted′, Refused as Refused′}
 use Rattle.path_cases.specs.declared.Answer.{Answer}
 use Rattle.path_cases.specs.declared.Answer.the-variants.{Refuted, Refused, Bindings}
 

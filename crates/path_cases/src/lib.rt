@@ -1,10 +1,10 @@
 // A case file with a path: refused by 1 to 15, or refuted. A binding case is named and not judged.
-use intake::examine;
-use replay::Replayed;
-use replay::is_short;
-use replay::replay_long;
-use replay::replay_short;
-use whole_file::Case;
+use intake::evidence::Case;
+use intake::intake::examine;
+use replay::replay::Replayed;
+use replay::replay::is_short;
+use replay::replay::replay_long;
+use replay::replay::replay_short;
 ghost use mathlib.Core.Path.{_≡_};
 ghost use lib.ListN.{length};
 ghost use Rattle.casefile.specs.Cases.{caseOf};

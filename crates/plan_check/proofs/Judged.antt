@@ -5,20 +5,20 @@ use mathlib.Core.Bool.{Bool, true, false}
 use mathlib.Core.List.{List, [], _++_}
 use lib.ListN.{length, getD, drop}
 use Rattle.scheme.specs.Lists.{if_then_else_}
-use Rattle.records.specs.Records.{recordsOf, listed}
+use Rattle.casefile.specs.Records.{recordsOf, listed}
 use Rattle.casefile.specs.Kinds.{Kind, payloads}
 use Rattle.casefile.specs.Tables.{planOf, automatonOf, bindingsOf}
 use Rattle.casefile.specs.Cases
 use Rattle.casefile.specs.Cases.{refusedCase, bindingCase, pathCase, caseOf}
 use Rattle.casefile.proofs.Passed.{binding-case, path-case}
-use Rattle.whole_file.specs.declared.Case.{Case}
-use Rattle.whole_file.specs.declared.Case.the-variants.{Refused as RefusedCase, Bindings as BindingCase, Path}
-use Rattle.intake.specs.Intake.{caseAs, Taken, Leaves}
-use Rattle.replay.specs.PathCases.{PathAnswer, refutedPath, refusedPath, replayed}
-use Rattle.replay.specs.Replays.{pathAs, ReplaysPath}
-use Rattle.replay.specs.declared.Replayed.{Replayed}
-use Rattle.replay.specs.declared.Replayed.the-variants.{Refuted as Refuted′, Refused as Refused′}
-use Rattle.shrink.specs.BindingCases.{Shrunk, shrunk}
+use Rattle.intake.specs.declared.evidence.Case.{Case}
+use Rattle.intake.specs.declared.evidence.Case.the-variants.{Refused as RefusedCase, Bindings as BindingCase, Path}
+use Rattle.intake.specs.intake.Intake.{caseAs, Taken, Leaves}
+use Rattle.casefile.specs.PathCases.{PathAnswer, refutedPath, refusedPath, replayed}
+use Rattle.replay.specs.replay.Replays.{pathAs, ReplaysPath}
+use Rattle.replay.specs.declared.replay.Replayed.{Replayed}
+use Rattle.replay.specs.declared.replay.Replayed.the-variants.{Refuted as Refuted′, Refused as Refused′}
+use Rattle.casefile.specs.BindingCases.{Shrunk, shrunk}
 use Rattle.binding_cases.specs.Judging.{IsShrunk, JudgesBindings}
 use Rattle.demands.specs.Answers.{Answer, proved, unproved, refused, refusal, bindingOutcome, pathOutcome, outcomeOf, answer, flagsAfter}
 use Rattle.demands.specs.Demands.{Demand1}

@@ -1,3 +1,4 @@
+pub mod drawn;
 // A reducer on its own. It shares no code with the library, and it holds a term as linked cells where the library holds a
 // list of nodes. A cell has five numbers: its tag (0 constructor, 1 nonterminal, 2 parameter), its number, its first
 // argument, the argument after it in the same list, and a link: the cell that it is made from, or, while nodes are counted,

@@ -189,8 +189,8 @@ fn drawn_case(
     cells: &mut [u16],
 ) -> usize {
     let mut letters = io::buffer();
-    let drawn = drawn_paths::draw(file, plan, cells, seed, &mut letters);
-    let end = drawn_paths::set_path(file, plan.path, &letters, drawn.length);
+    let drawn = reducer::drawn::draw(file, plan, cells, seed, &mut letters);
+    let end = reducer::drawn::set_path(file, plan.path, &letters, drawn.length);
     let case = first_bytes(file, end);
     let answer = answer_of(case, 16);
     compare(name, case, plan.path, k, answer, cells);

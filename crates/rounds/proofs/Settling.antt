@@ -14,18 +14,18 @@ use Rattle.scheme.specs.Reduction.{body}
 use Rattle.scheme.specs.Typing.{bound}
 use Rattle.scheme.specs.Flags.{bit, isKept, chosen}
 use Rattle.scheme.proofs.Lists.{getD-map-in}
-use Rattle.records.specs.Records.{Record}
+use Rattle.casefile.specs.Records.{Record}
 use Rattle.casefile.specs.Kinds.{Kind, payloads, count}
 use Rattle.casefile.specs.Tables.{nodesOf, bodyOf, planOf, automatonOf, bindingsOf}
 use Rattle.casefile.proofs.Cells.{nodeAt, nodes-length, nodes-drop}
 use Rattle.casefile.proofs.TypeTable.{count-payloads}
-use Rattle.rule_bodies.specs.RuleBodies.{ruleOf}
-use Rattle.goals.proofs.Goals.{binding-there}
-use Rattle.candidates.specs.Candidates.{noBinding}
-use Rattle.candidates.proofs.Spanning.{binding-made}
-use Rattle.agreement.proofs.Agreeing.{bound-agrees, holds-agrees}
-use Rattle.touched.proofs.Touching.{untouched}
-use Rattle.binding_tests.specs.BindingTests.{Ready, symbolOf, IsSymbol}
+use Rattle.rules.specs.reading.RuleBodies.{ruleOf}
+use Rattle.goals.proofs.goals.Goals.{binding-there}
+use Rattle.head_types.specs.candidates.Candidates.{noBinding}
+use Rattle.head_types.proofs.candidates.Spanning.{binding-made}
+use Rattle.scheme.proofs.Agreeing.{bound-agrees, holds-agrees}
+use Rattle.binding_tests.proofs.mentions.Touching.{untouched}
+use Rattle.binding_tests.specs.test.BindingTests.{Ready, symbolOf, IsSymbol}
 use Rattle.rounds.specs.Shrinking.{testOf, Settled, Marks}
 
 -- node i of a body

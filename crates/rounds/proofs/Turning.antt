@@ -12,20 +12,20 @@ use lib.Seq.{getD-take, drop-set-lt, drop-drop}
 use Rattle.scheme.specs.Rounds
 use Rattle.scheme.specs.Flags.{bit, isKept, chosen, roundFlags}
 use Rattle.scheme.proofs.Flags.{chosen-round}
-use Rattle.records.specs.Records.{Record}
+use Rattle.casefile.specs.Records.{Record}
 use Rattle.casefile.specs.Kinds.{Kind, number, payloads, count}
 use Rattle.casefile.specs.Tables.{bindingsOf}
 use Rattle.casefile.proofs.TypeTable.{count-payloads}
-use Rattle.entries.specs.Tests.{IsPlace}
+use Rattle.index.specs.entries.Tests.{IsPlace}
 use Rattle.memo.specs.Memo.{nextStamp, readied, Under}
 use Rattle.memo.proofs.Remembering.{stamp-range, readied-under}
-use Rattle.candidates.specs.Candidates.{noBinding}
-use Rattle.lookup.specs.Lookup.{entryOf}
-use Rattle.lookup.proofs.Found.{entry-there}
-use Rattle.rule_bodies.specs.RuleBodies.{ruleOf}
-use Rattle.touched.specs.Touched.{touches}
-use Rattle.touched.proofs.Touching.{untouched}
-use Rattle.binding_tests.specs.BindingTests.{Ready, entriesFor, symbolOf, IsSymbol, TestsBinding}
+use Rattle.head_types.specs.candidates.Candidates.{noBinding}
+use Rattle.index.specs.lookup.Lookup.{entryOf}
+use Rattle.index.proofs.lookup.Found.{entry-there}
+use Rattle.rules.specs.reading.RuleBodies.{ruleOf}
+use Rattle.binding_tests.specs.mentions.Touched.{touches}
+use Rattle.binding_tests.proofs.mentions.Touching.{untouched}
+use Rattle.binding_tests.specs.test.BindingTests.{Ready, entriesFor, symbolOf, IsSymbol, TestsBinding}
 use Rattle.rounds.specs.Shrinking.{testOf, Numbered, Settled, Retests, Marks, Turns, Copies, Shrinks}
 use Rattle.rounds.proofs.Settling.{kept-byte, rule-there, settle}
 use Rattle.rounds.proofs.Flagged.{bit-small, chosen-take, round-length, round-at}

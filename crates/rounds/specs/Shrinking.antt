@@ -9,16 +9,16 @@ use Rattle.scheme.specs.Typing.{Binding}
 use Rattle.scheme.specs.Rounds
 use Rattle.scheme.specs.Flags.{bit, isKept, chosen, roundFlags, keptFlags}
 use Rattle.scheme.specs.Acceptance.{holdsExactly}
-use Rattle.records.specs.Records.{Record}
+use Rattle.casefile.specs.Records.{Record}
 use Rattle.casefile.specs.Kinds.{Kind, count}
 use Rattle.casefile.specs.Tables.{planOf, automatonOf, bindingsOf}
 use Rattle.memo.specs.Memo.{Under}
-use Rattle.candidates.specs.Candidates.{noBinding}
+use Rattle.head_types.specs.candidates.Candidates.{noBinding}
 use Rattle.casefile.proofs.Passed.{Passed}
-use Rattle.entries.specs.Index.{Indexed}
-use Rattle.rule_bodies.specs.RuleBodies.{ruleOf}
-use Rattle.touched.specs.Touched.{touches}
-use Rattle.binding_tests.specs.BindingTests.{Ready, entriesFor, symbolOf}
+use Rattle.index.specs.entries.Index.{Indexed}
+use Rattle.rules.specs.reading.RuleBodies.{ruleOf}
+use Rattle.binding_tests.specs.mentions.Touched.{touches}
+use Rattle.binding_tests.specs.test.BindingTests.{Ready, entriesFor, symbolOf}
 
 -- the test of a binding against a set, for the plan and the automaton of a file
 abbrev pub testOf : List Record → List Binding → Binding → Bool

@@ -1,12 +1,12 @@
 // Shrinking by rounds: each round tests every binding that is kept against the set as the round began, and drops those
 // that fail; the rounds end with one that drops nothing. A binding that held in the round before holds still where its body
 // names no nonterminal that lost a binding there, and is not tested again.
-use binding_tests::holds;
-use binding_tests::symbol_of;
-use entries::place_at;
-use lookup::entry;
+use binding_tests::mentions::touched;
+use binding_tests::test::holds;
+use binding_tests::test::symbol_of;
+use index::entries::place_at;
+use index::lookup::entry;
 use memo::ready;
-use touched::touched;
 ghost use Rattle.rounds.specs.Shrinking.{Retests, Marks, Turns, Copies, KeepsAll, Shrinks};
 
 // The flag of a binding after its test, and the number of the last test.

@@ -1,1 +1,3 @@
-pub mod Rules
+pub mod reading
+pub mod rules
+pub mod first_nodes

@@ -14,3 +14,4 @@ pub mod Acceptance
 pub mod Alike
 pub mod Examples
 pub mod Sorting
+pub mod Agreeing

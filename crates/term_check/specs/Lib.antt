@@ -1,2 +1,2 @@
-pub mod Nodes
-pub mod Checking
+pub mod known
+pub mod check

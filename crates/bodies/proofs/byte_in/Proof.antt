@@ -1,7 +1,7 @@
 -- `byte_in` meets its contract.
 use mathlib.Core.Path.{refl}
 use native.Mathlib.Omega.{arith}
-use Rattle.records.proofs.Fields.{is-field-one}
+use Rattle.casefile.proofs.Fields.{is-field-one}
 use borrow.Author.Needs.{needs}
 use Rattle.bodies.proofs.byte_in.Statement.{statement}
 use Rattle.bodies.proofs.byte_in.Tie as tie

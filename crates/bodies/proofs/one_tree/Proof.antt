@@ -1,5 +1,5 @@
 -- `one_tree` meets its contract.
-use Rattle.sort_codes.proofs.Codes.{both-no, both-last}
+use Rattle.sorts.proofs.codes.Codes.{both-no, both-last}
 use borrow.Author.Needs.{needs}
 use Rattle.bodies.proofs.one_tree.Statement.{statement}
 use Rattle.bodies.proofs.one_tree.Tie as tie

@@ -1,5 +1,5 @@
 -- `word_in` meets its contract.
-use Rattle.records.proofs.Fields.{is-field-join}
+use Rattle.casefile.proofs.Fields.{is-field-join}
 use borrow.Author.Needs.{needs}
 use Rattle.bodies.proofs.word_in.Statement.{statement}
 use Rattle.bodies.proofs.word_in.Tie as tie

@@ -1,1 +1,0 @@
-// Theorems in proofs/; no code.

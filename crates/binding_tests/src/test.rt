@@ -1,0 +1,60 @@
+// The test of one binding.
+use arrows::final_state::final_of;
+use goals::parts::own_of;
+use index::entries::place_at;
+use records::fields::word_at;
+use term_check::check::check_term;
+ghost use mathlib.Core.Path.{_≡_};
+ghost use Prim.Native.Nat.{_-_, _<_, _≤_};
+ghost use Rattle.casefile.specs.Fields.{word};
+ghost use Rattle.binding_tests.specs.test.BindingTests.{IsSymbol, TestsBinding};
+
+// The length of the payload at a place, by its header; 0 where there is no header before it.
+fn length_at(file: &[u8], start: usize) -> usize
+    ensures { λ r. ⌜ ((4 ≤ start → r ≡ word (now (file .entry)) (start - 4)) × (start < 4 → r ≡ 0)) ⌝ }
+{
+    if start < 4 {
+        return 0;
+    }
+    word_at(file, start - 4)
+}
+
+// The nonterminal of binding b.
+pub fn symbol_of(file: &[u8], index: &[u16], b: usize) -> usize
+    ensures { λ r. ⌜ IsSymbol (now (file .entry)) (now (index .entry)) b r ⌝ }
+{
+    if 1023 < b {
+        return 0;
+    }
+    word_at(file, place_at(index, 2144 + b))
+}
+
+// Whether binding b holds against those that are kept: its nonterminal's body has the final state of its type.
+pub fn holds(
+    file: &[u8],
+    index: &[u16; 8034],
+    counts: &[u16],
+    groups: &[u16; 257],
+    firsts: &[u16],
+    ends: &[u16; 15000],
+    kept: &[u8; 66560],
+    memo: &mut [u8],
+    stamp: usize,
+    b: usize,
+) -> bool
+    ensures { λ r. ⌜ TestsBinding (now (file .entry)) (now (index .entry)) (now (counts .entry)) (now (groups .entry)) (now (firsts .entry)) (now (ends .entry)) (now (kept .entry)) (now (memo .entry)) stamp b (now (memo .exit)) r ⌝ }
+{
+    if 1023 < b {
+        return false;
+    }
+    let types = place_at(counts, 7);
+    let constructors = place_at(counts, 2);
+    let f = symbol_of(file, index, b);
+    let own = own_of(index, b);
+    let goal = final_of(index, types, own);
+    let start = place_at(index, 352 + f);
+    let len = length_at(file, start);
+    let first = place_at(firsts, f);
+    let test = [types, constructors, own, stamp, start, len, first];
+    check_term(file, index, groups, kept, ends, &test, memo, 0, goal)
+}

@@ -1,4 +1,0 @@
-pub mod Index
-pub mod Chains
-pub mod Codes
-pub mod Tests

@@ -1,0 +1,3 @@
+pub mod constructors
+pub mod candidates
+pub mod bare

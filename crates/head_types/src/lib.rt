@@ -1,0 +1,3 @@
+pub mod bare;
+pub mod candidates;
+pub mod constructors;

@@ -1,0 +1,6 @@
+pub mod entries
+pub mod lookup
+pub mod repeats
+pub mod chains
+pub mod enter
+pub mod Wholes

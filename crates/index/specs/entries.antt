@@ -1,0 +1,5 @@
+pub mod Index
+pub mod Chains
+pub mod Codes
+pub mod Tests
+pub mod Known

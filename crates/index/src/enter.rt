@@ -1,0 +1,48 @@
+// The tables of the walk with one record more: stores, the argument counts of the sorts, the chains of the types.
+use crate::entries::place_at;
+use records::fields::word_at;
+ghost use mathlib.Core.Path.{_≡_};
+ghost use mathlib.Core.List.{List};
+ghost use Prim.Native.Nat.{ℕ, _<_};
+ghost use Rattle.index.specs.entries.Chains.{hashOf};
+ghost use Rattle.index.specs.enter.Entering.{stored, lensAfter, chainsAfter};
+
+// Stores v at i of a table; a number of over two bytes, or a place past the end, changes nothing.
+pub fn store(a: &mut [u16], i: usize, v: usize)
+    ensures { λ _. ⌜ now (a .exit) ≡ stored (now (a .entry)) i v ⌝ }
+{
+    if 65535 < v {
+        return;
+    }
+    if i < a.len() {
+        a[i] = v as u16;
+    }
+}
+
+// Enters the argument count of a sort with the payload p, after n others.
+pub fn enter_sort(lens: &mut [u16], n: usize, p: &[u8])
+    ensures { λ _. ⌜ (n < 65536 → now (lens .exit) ≡ lensAfter (now (lens .entry)) 1 n (now (p .entry))) ⌝ }
+{
+    if 65535 < n {
+        return;
+    }
+    let to = word_at(p, 2);
+    let arguments = place_at(lens, to);
+    store(lens, n + 1, arguments + 1);
+}
+
+// Chains a type after n others by the hash h of its payload.
+pub fn enter_type(index: &mut [u16], n: usize, h: usize)
+    ensures { λ _. ⌜ (n < 65536 → (p : List ℕ) → h ≡ hashOf p → now (index .exit) ≡ chainsAfter (now (index .entry)) 7 n p) ⌝ }
+{
+    if 65535 < n {
+        return;
+    }
+    if 255 < h {
+        return;
+    }
+    let head = 3170 + h;
+    let last = place_at(index, head);
+    store(index, 3426 + n, last);
+    store(index, head, n + 1);
+}

@@ -1,0 +1,5 @@
+pub mod chains;
+pub mod enter;
+pub mod entries;
+pub mod lookup;
+pub mod repeats;

@@ -1,0 +1,88 @@
+// The tests over the whole file, 8 to 12.
+use crate::plan::Plan;
+use crate::plan::test_plan;
+use fits::fits::fill_fits;
+use fits::misfits::first_misfit;
+use index::entries::place_at;
+use index::entries::place_of;
+ghost use Rattle.intake.specs.evidence.Whole.{TestsEvidence, FindsFirst, TestsWhole};
+
+// What a file is.
+pub enum Case {
+    Refused { number: usize, place: usize },
+    Bindings,
+    Path,
+}
+
+// The number of the first binding whose type does not fit its nonterminal's sort, or of all; the table is written anew.
+fn misfit(
+    file: &[u8],
+    index: &[u16],
+    types: usize,
+    sorts: usize,
+    bindings: usize,
+    fit: &mut [u8; 66560],
+) -> usize
+    ensures { λ r. ⌜ FindsFirst (now (file .entry)) (now (index .entry)) types sorts bindings r ⌝ }
+{
+    fill_fits(file, index, types, sorts, fit);
+    first_misfit(file, index, fit, bindings)
+}
+
+// The tests of the evidence, 10 to 12, for so many lent flags.
+fn test_evidence(
+    file: &[u8],
+    index: &[u16],
+    counts: &[u16],
+    flags: usize,
+    fit: &mut [u8; 66560],
+) -> Case
+    ensures { λ r. ⌜ TestsEvidence (now (file .entry)) (now (index .entry)) (now (counts .entry)) flags r ⌝ }
+{
+    let sorts = place_at(counts, 1);
+    let types = place_at(counts, 7);
+    let bindings = place_at(counts, 8);
+    let paths = place_at(counts, 9);
+    if 0 < paths {
+        if 0 < types + bindings {
+            return Case::Refused {
+                number: 10,
+                place: 0,
+            };
+        }
+        return Case::Path;
+    }
+    let b = misfit(file, index, types, sorts, bindings, fit);
+    if b < bindings {
+        let place = place_of(index, 2144 + b);
+        return Case::Refused { number: 11, place };
+    }
+    if flags < bindings {
+        return Case::Refused {
+            number: 12,
+            place: 0,
+        };
+    }
+    Case::Bindings
+}
+
+// The tests over the whole file, 8 to 12.
+// `codes` and `depths` are tables to work in: what they hold does not matter, before or after.
+pub fn test_whole(
+    file: &[u8],
+    index: &[u16],
+    counts: &[u16],
+    flags: usize,
+    ends: &mut [u16],
+    fit: &mut [u8; 66560],
+    codes: &mut [u16; 257],
+    depths: &mut [u16; 257],
+) -> Case
+    ensures { λ r. ⌜ TestsWhole (now (file .entry)) (now (index .entry)) (now (counts .entry)) flags (now (ends .entry)) (now (ends .exit)) r ⌝ }
+{
+    let plan = test_plan(file, index, counts, ends, codes, depths);
+    match plan {
+        Plan::Refused { number, place } => Case::Refused { number, place },
+        Plan::Fine => test_evidence(file, index, counts, flags, fit),
+    }
+}

@@ -1,0 +1,80 @@
+// The tests of the plan over the whole file, 8 and 9.
+use index::entries::place_at;
+use index::entries::place_of;
+use records::fields::word_at;
+use rules::rules::first_wrong_body;
+ghost use mathlib.Core.Path.{_≡_};
+ghost use mathlib.Core.Bool.{_||_, not};
+ghost use mathlib.Core.List.{List};
+ghost use Prim.Native.Nat.{ℕ};
+ghost use lib.Dec.{eqb};
+ghost use Rattle.casefile.specs.Records.{Record};
+ghost use Rattle.casefile.specs.Kinds.{Kind, count};
+ghost use Rattle.index.specs.entries.Known.{Known};
+ghost use Rattle.intake.specs.plan.PlanTests.{TestsPlan};
+
+// What the tests of the plan come to.
+pub enum Plan {
+    Fine,
+    Refused { number: usize, place: usize },
+}
+
+// Whether 8 is met: no states record, no nonterminal, or other than as many rules as nonterminals.
+fn counts_wrong(counts: &[u16]) -> bool
+    ensures { λ r. ⌜ ((file index lens : List ℕ) (rs : List Record) → Known file index lens (now (counts .entry)) rs → r ≡ (eqb (count Kind.states rs) 0 || eqb (count Kind.nonterminal rs) 0 || not (eqb (count Kind.rule rs) (count Kind.nonterminal rs)))) ⌝ }
+{
+    let states = place_at(counts, 5);
+    let nonterminals = place_at(counts, 3);
+    let rules = place_at(counts, 4);
+    if states == 0 {
+        return true;
+    }
+    if nonterminals == 0 {
+        return true;
+    }
+    rules != nonterminals
+}
+
+// The tests of the plan, 8 and 9; `ends` gets the ends of the subterms of all bodies.
+// `codes` and `depths` are tables to work in: what they hold does not matter, before or after.
+pub fn test_plan(
+    file: &[u8],
+    index: &[u16],
+    counts: &[u16],
+    ends: &mut [u16],
+    codes: &mut [u16; 257],
+    depths: &mut [u16; 257],
+) -> Plan
+    ensures { λ r. ⌜ TestsPlan (now (file .entry)) (now (index .entry)) (now (counts .entry)) (now (ends .entry)) (now (ends .exit)) r ⌝ }
+{
+    if counts_wrong(counts) {
+        return Plan::Refused {
+            number: 8,
+            place: 0,
+        };
+    }
+    let start = place_at(index, 96);
+    if word_at(file, start) != 0 {
+        let place = place_of(index, 96);
+        return Plan::Refused { number: 9, place };
+    }
+    let sorts = place_at(counts, 1);
+    let constructors = place_at(counts, 2);
+    let rules = place_at(counts, 4);
+    let f = first_wrong_body(
+        file,
+        index,
+        sorts,
+        constructors,
+        rules,
+        rules,
+        ends,
+        codes,
+        depths,
+    );
+    if f < rules {
+        let place = place_of(index, 352 + f);
+        return Plan::Refused { number: 9, place };
+    }
+    Plan::Fine
+}

@@ -1,3 +1,0 @@
-pub mod Known
-pub mod Codes
-pub mod Taking

@@ -1,0 +1,2 @@
+pub mod rule_record
+pub mod type_record

@@ -1,0 +1,104 @@
+// The test of a type record, 4 to 7.
+use index::chains::listed;
+use records::fields::byte_at;
+use records::fields::word_at;
+ghost use mathlib.Core.Path.{_≡_};
+ghost use Prim.Native.Nat.{ℕ};
+ghost use lib.ListN.{length, drop};
+ghost use lib.Dec.{leb};
+ghost use Rattle.scheme.specs.Lists.{any};
+ghost use Rattle.casefile.specs.Tables.{words};
+ghost use Rattle.casefile.specs.Refusals.{ascends};
+ghost use Rattle.index.specs.entries.Chains.{hashOf};
+ghost use Rattle.index.specs.entries.Tests.{TestsType};
+ghost use Rattle.record_tests.specs.type_record.Alone.{CodesAlone};
+
+// Whether one of the payload's numbers, of two bytes each, is n or more.
+fn names_later(p: &[u8], n: usize) -> bool
+    ensures { λ r. ⌜ r ≡ any (λ (t : ℕ). leb n t) (words (now (p .entry))) ⌝ }
+{
+    let mut i: usize = 0;
+    while 2 <= p.len() - i {
+        let t = word_at(p, i);
+        if n <= t {
+            return true;
+        }
+        i = i + 2;
+    }
+    false
+}
+
+// Whether the members of a type's payload ascend strictly; they stand behind its result.
+fn members_ascend(p: &[u8]) -> bool
+    ensures { λ r. ⌜ r ≡ ascends (words (drop 2 (now (p .entry)))) ⌝ }
+{
+    if p.len() < 4 {
+        return true;
+    }
+    let mut last = word_at(p, 2);
+    let mut i: usize = 4;
+    while 2 <= p.len() - i {
+        let m = word_at(p, i);
+        if m <= last {
+            return false;
+        }
+        last = m;
+        i = i + 2;
+    }
+    true
+}
+
+// The code of a state, a payload p of one byte, after n types and with so many states; 0 also where it repeats a type.
+fn state_code(n: usize, states: usize, p: &[u8]) -> usize
+    ensures { λ r. ⌜ (length (now (p .entry)) ≡ 1 → CodesAlone n states (now (p .entry)) r) ⌝ }
+{
+    if 1024 <= n {
+        return 5;
+    }
+    if states <= byte_at(p, 0) {
+        return 6;
+    }
+    0
+}
+
+// The same for a payload p of any type.
+fn own_code(n: usize, states: usize, p: &[u8]) -> usize
+    ensures { λ r. ⌜ CodesAlone n states (now (p .entry)) r ⌝ }
+{
+    if p.len() == 1 {
+        return state_code(n, states, p);
+    }
+    if p.len() < 2 {
+        return 4;
+    }
+    if 34 < p.len() {
+        return 4;
+    }
+    if p.len() % 2 != 0 {
+        return 4;
+    }
+    if 1024 <= n {
+        return 5;
+    }
+    if names_later(p, n) {
+        return 6;
+    }
+    if !members_ascend(p) {
+        return 7;
+    }
+    0
+}
+
+// The code of the payload p of a type, whose hash is h, after n types, with so many states.
+pub fn test_type(file: &[u8], index: &[u16], n: usize, states: usize, h: usize, p: &[u8]) -> usize
+    ensures { λ r. ⌜ (h ≡ hashOf (now (p .entry)) → TestsType (now (file .entry)) (now (index .entry)) n states (now (p .entry)) r) ⌝ }
+{
+    let number = own_code(n, states, p);
+    if number != 0 {
+        return number;
+    }
+    if listed(file, index, h, p) {
+        return 7;
+    }
+    0
+}

@@ -1,0 +1,47 @@
+// Where the nodes of each rule begin, where the nodes of all rules are numbered one after another.
+use index::entries::larger;
+use index::entries::place_at;
+use records::fields::word_at;
+ghost use Rattle.rules.specs.first_nodes.FirstNodes.{CountsNodes, FillsFirsts};
+
+// The number of nodes of rule f, four bytes each; 0 where the index has no such rule.
+fn nodes_of(file: &[u8], index: &[u16], f: usize) -> usize
+    ensures { λ r. ⌜ CountsNodes (now (file .entry)) (now (index .entry)) f r ⌝ }
+{
+    if 255 < f {
+        return 0;
+    }
+    let place = place_at(index, 352 + f);
+    if place < 4 {
+        return 0;
+    }
+    let len = word_at(file, place - 4);
+    if 1024 < len {
+        return 0;
+    }
+    len / 4
+}
+
+// Fills a table: entry f gets the number of the first node of rule f, entry 256 how many nodes the largest rule has. The
+// table stays as it is where there are more than 256 rules, or it has fewer than 257 entries.
+pub fn fill_firsts(file: &[u8], index: &[u16], rules: usize, firsts: &mut [u16])
+    ensures { λ _. ⌜ FillsFirsts (now (file .entry)) (now (index .entry)) rules (now (firsts .entry)) (now (firsts .exit)) ⌝ }
+{
+    if 256 < rules {
+        return;
+    }
+    if firsts.len() < 257 {
+        return;
+    }
+    let mut at: usize = 0;
+    let mut most: usize = 0;
+    let mut f: usize = 0;
+    while f < rules {
+        firsts[f] = at as u16;
+        let n = nodes_of(file, index, f);
+        at = at + n;
+        most = larger(most, n);
+        f = f + 1;
+    }
+    firsts[256] = most as u16;
+}

@@ -1,0 +1,112 @@
+// The bodies of all rules of a file: the first that is no single term of sort o within 64 levels, and the ends of subterms.
+use crate::reading::read_rules;
+use index::entries::place_at;
+use records::fields::byte_at;
+use records::fields::word_at;
+use sorts::codes::tree_codes;
+ghost use Rattle.rules.specs.rules.Rules.{FieldOf, Filled, WithinLimits, FindsWrongBody};
+
+// The field of one byte or of two at a place.
+fn field_of(file: &[u8], at: usize, width: usize) -> usize
+    ensures { λ r. ⌜ FieldOf width (now (file .entry)) at r ⌝ }
+{
+    if width == 1 {
+        return byte_at(file, at);
+    }
+    word_at(file, at)
+}
+
+// Stores from place `to` on the fields at byte `at` of n payloads, those of the entries of the index from `from` on.
+fn fill(
+    file: &[u8],
+    index: &[u16],
+    width: usize,
+    from: usize,
+    at: usize,
+    n: usize,
+    to: usize,
+    table: &mut [u16],
+)
+    ensures { λ _. ⌜ Filled width (now (file .entry)) (now (index .entry)) from at n to (now (table .entry)) (now (table .exit)) ⌝ }
+{
+    if 1000 < from {
+        return;
+    }
+    if 1000 < at {
+        return;
+    }
+    if 1000 < n {
+        return;
+    }
+    if table.len() < to {
+        return;
+    }
+    if table.len() - to < n {
+        return;
+    }
+    let mut i: usize = 0;
+    while i < n {
+        let place = place_at(index, from + i);
+        let v = field_of(file, place + at, width);
+        table[to + i] = v as u16;
+        i = i + 1;
+    }
+}
+
+// Are the counts within the limits of their kinds, and is there a nonterminal for each rule?
+fn within_limits(sorts: usize, constructors: usize, nonterminals: usize, rules: usize) -> bool
+    ensures { λ r. ⌜ WithinLimits sorts constructors nonterminals rules r ⌝ }
+{
+    if 64 < sorts {
+        return false;
+    }
+    if 32 < constructors {
+        return false;
+    }
+    if 256 < nonterminals {
+        return false;
+    }
+    rules <= nonterminals
+}
+
+// The number of the first rule whose body is no single term of sort o within 64 levels, or of rules where there is none; then `ends` has the ends of all subterms.
+// `codes` and `depths` are tables to work in: what they hold does not matter, before or after.
+pub fn first_wrong_body(
+    file: &[u8],
+    index: &[u16],
+    sorts: usize,
+    constructors: usize,
+    nonterminals: usize,
+    rules: usize,
+    ends: &mut [u16],
+    codes: &mut [u16; 257],
+    depths: &mut [u16; 257],
+) -> usize
+    ensures { λ r. ⌜ FindsWrongBody (now (file .entry)) (now (index .entry)) sorts constructors nonterminals rules (now (ends .entry)) (now (ends .exit)) r ⌝ }
+{
+    if !within_limits(sorts, constructors, nonterminals, rules) {
+        return 0;
+    }
+    let mut froms = [0u16; 65];
+    let mut tos = [0u16; 65];
+    let mut arities = [0u16; 32];
+    let mut signatures = [0u16; 256];
+    fill(file, index, 2, 0, 0, sorts, 1, &mut froms);
+    fill(file, index, 2, 0, 2, sorts, 1, &mut tos);
+    fill(file, index, 1, 64, 0, constructors, 0, &mut arities);
+    fill(file, index, 2, 96, 0, nonterminals, 0, &mut signatures);
+    let trees = tree_codes(&froms, &tos, sorts + 1);
+    read_rules(
+        file,
+        index,
+        &froms,
+        &tos,
+        &trees,
+        &arities,
+        &signatures,
+        rules,
+        ends,
+        codes,
+        depths,
+    )
+}

@@ -1,3 +1,0 @@
-pub mod Bodies
-pub mod Small
-pub mod Replays

@@ -1,0 +1,3 @@
+pub mod places;
+pub mod rows;
+pub mod table;

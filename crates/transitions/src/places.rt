@@ -1,0 +1,55 @@
+// The transitions by state and constructor: behind the goals the index has, from number 7,522 on, where the payload of each
+// lies in the file, 32 for each state; 0 where there is none.
+use index::enter::store;
+use index::entries::place_at;
+use records::fields::byte_at;
+ghost use Rattle.transitions.specs.places.RowPlaces.{IsPlaceIn, Emptied, FillsRows};
+
+// Where the transition for a state and a constructor lies in the file; 0 where there is none.
+pub fn place_in(index: &[u16], q: usize, c: usize) -> usize
+    ensures { λ r. ⌜ IsPlaceIn (now (index .entry)) q c r ⌝ }
+{
+    if 16 <= q {
+        return 0;
+    }
+    if 32 <= c {
+        return 0;
+    }
+    place_at(index, 7522 + (q * 32 + c))
+}
+
+// Sets the place for each state and constructor to 0.
+fn empty_rows(index: &mut [u16])
+    ensures { λ _. ⌜ Emptied (now (index .entry)) (now (index .exit)) ⌝ }
+{
+    if index.len() < 8034 {
+        return;
+    }
+    let mut i: usize = 0;
+    while i < 512 {
+        index[7522 + i] = 0;
+        i = i + 1;
+    }
+}
+
+// Enters where the n transitions of a file lie, the last one first, so that the first for a state and a constructor counts.
+pub fn fill_rows(file: &[u8], index: &mut [u16], n: usize)
+    ensures { λ _. ⌜ FillsRows (now (file .entry)) (now (index .entry)) n (now (index .exit)) ⌝ }
+{
+    if 512 < n {
+        return;
+    }
+    empty_rows(index);
+    let mut k = n;
+    while 0 < k {
+        k = k - 1;
+        let at = place_at(index, 608 + k);
+        let q = byte_at(file, at);
+        let c = byte_at(file, at + 1);
+        if q < 16 {
+            if c < 32 {
+                store(index, 7522 + (q * 32 + c), at);
+            }
+        }
+    }
+}

@@ -1,0 +1,220 @@
+// A record by its kind: its test, 3 to 7, and its entry in the tables of the walk where it passes.
+use index::chains::hash_of;
+use index::enter::enter_sort;
+use index::enter::enter_type;
+use index::enter::store;
+use index::entries::place_at;
+use record_tests::once::test_path;
+use record_tests::once::test_states;
+use record_tests::ordered::test_binding;
+use record_tests::ordered::test_transition;
+use record_tests::rule_record::test_rule;
+use record_tests::sort_record::test_sort;
+use record_tests::symbols::test_constructor;
+use record_tests::symbols::test_nonterminal;
+use record_tests::type_record::test_type;
+use records::fields::byte_at;
+ghost use mathlib.Core.Path.{_≡_};
+ghost use mathlib.Core.List.{List};
+ghost use Prim.Native.Nat.{ℕ, _≤_};
+ghost use Rattle.casefile.specs.Records.{Record};
+ghost use Rattle.casefile.specs.Kinds.{Kind, number};
+ghost use Rattle.casefile.specs.Tables.{stateCount};
+ghost use Rattle.index.specs.entries.Index.{Indexed};
+ghost use Rattle.index.specs.entries.Tests.{Fitting};
+ghost use Rattle.walk.specs.kinds.Taking.{Taken};
+
+// How many states there are, by the n states records.
+fn state_count(file: &[u8], index: &[u16], n: usize) -> usize
+    ensures { λ r. ⌜ ((rs : List Record) → Indexed (now (file .entry)) (now (index .entry)) Kind.states n rs → Fitting Kind.states n rs → n ≤ 1 → r ≡ stateCount rs) ⌝ }
+{
+    if n == 0 {
+        return 0;
+    }
+    byte_at(file, place_at(index, 3168))
+}
+
+// A record of a kind, here a sort, with the payload p, which begins at start: its code, 0 or the number of the first of 4 to 7
+// that is met. Where it is 0 the record is entered in the tables, behind the others of its kind; else they stay as they are.
+fn take_sort(
+    file: &[u8],
+    index: &mut [u16],
+    lens: &mut [u16],
+    counts: &mut [u16],
+    start: usize,
+    p: &[u8],
+) -> usize
+    ensures { λ r. ⌜ Taken (now (file .entry)) (now (index .entry)) (now (lens .entry)) (now (counts .entry)) (number Kind.sort) start (now (p .entry)) (now (index .exit)) (now (lens .exit)) (now (counts .exit)) r ⌝ }
+{
+    let n = place_at(counts, 1);
+    let number = test_sort(file, index, lens, n, p);
+    if number != 0 {
+        return number;
+    }
+    store(index, n, start);
+    enter_sort(lens, n, p);
+    store(counts, 1, n + 1);
+    0
+}
+
+// The same for a constructor.
+fn take_constructor(index: &mut [u16], counts: &mut [u16], start: usize, p: &[u8]) -> usize
+    ensures { λ r. ⌜ ((file lens : List ℕ) → Taken file (now (index .entry)) lens (now (counts .entry)) (number Kind.constructor) start (now (p .entry)) (now (index .exit)) lens (now (counts .exit)) r) ⌝ }
+{
+    let n = place_at(counts, 2);
+    let number = test_constructor(n, p);
+    if number != 0 {
+        return number;
+    }
+    store(index, 64 + n, start);
+    store(counts, 2, n + 1);
+    0
+}
+
+// The same for a nonterminal.
+fn take_nonterminal(index: &mut [u16], counts: &mut [u16], start: usize, p: &[u8]) -> usize
+    ensures { λ r. ⌜ ((file lens : List ℕ) → Taken file (now (index .entry)) lens (now (counts .entry)) (number Kind.nonterminal) start (now (p .entry)) (now (index .exit)) lens (now (counts .exit)) r) ⌝ }
+{
+    let n = place_at(counts, 3);
+    let number = test_nonterminal(place_at(counts, 1) + 1, n, p);
+    if number != 0 {
+        return number;
+    }
+    store(index, 96 + n, start);
+    store(counts, 3, n + 1);
+    0
+}
+
+// The same for a rule.
+fn take_rule(
+    file: &[u8],
+    index: &mut [u16],
+    lens: &[u16],
+    counts: &mut [u16],
+    start: usize,
+    p: &[u8],
+) -> usize
+    ensures { λ r. ⌜ Taken (now (file .entry)) (now (index .entry)) (now (lens .entry)) (now (counts .entry)) (number Kind.rule) start (now (p .entry)) (now (index .exit)) (now (lens .entry)) (now (counts .exit)) r ⌝ }
+{
+    let n = place_at(counts, 4);
+    let constructors = place_at(counts, 2);
+    let nonterminals = place_at(counts, 3);
+    let number = test_rule(file, index, lens, n, constructors, nonterminals, p);
+    if number != 0 {
+        return number;
+    }
+    store(index, 352 + n, start);
+    store(counts, 4, n + 1);
+    0
+}
+
+// The same for the states.
+fn take_states(index: &mut [u16], counts: &mut [u16], start: usize, p: &[u8]) -> usize
+    ensures { λ r. ⌜ ((file lens : List ℕ) → Taken file (now (index .entry)) lens (now (counts .entry)) (number Kind.states) start (now (p .entry)) (now (index .exit)) lens (now (counts .exit)) r) ⌝ }
+{
+    let n = place_at(counts, 5);
+    let number = test_states(n, p);
+    if number != 0 {
+        return number;
+    }
+    store(index, 3168 + n, start);
+    store(counts, 5, n + 1);
+    0
+}
+
+// The same for a transition.
+fn take_transition(
+    file: &[u8],
+    index: &mut [u16],
+    counts: &mut [u16],
+    start: usize,
+    p: &[u8],
+) -> usize
+    ensures { λ r. ⌜ ((lens : List ℕ) → Taken (now (file .entry)) (now (index .entry)) lens (now (counts .entry)) (number Kind.transition) start (now (p .entry)) (now (index .exit)) lens (now (counts .exit)) r) ⌝ }
+{
+    let n = place_at(counts, 6);
+    let states = state_count(file, index, place_at(counts, 5));
+    let number = test_transition(file, index, n, states, place_at(counts, 2), p);
+    if number != 0 {
+        return number;
+    }
+    store(index, 608 + n, start);
+    store(counts, 6, n + 1);
+    0
+}
+
+// The same for a type; its hash serves the test and the entry.
+fn take_type(file: &[u8], index: &mut [u16], counts: &mut [u16], start: usize, p: &[u8]) -> usize
+    ensures { λ r. ⌜ ((lens : List ℕ) → Taken (now (file .entry)) (now (index .entry)) lens (now (counts .entry)) (number Kind.type) start (now (p .entry)) (now (index .exit)) lens (now (counts .exit)) r) ⌝ }
+{
+    let n = place_at(counts, 7);
+    let states = state_count(file, index, place_at(counts, 5));
+    let h = hash_of(p);
+    let number = test_type(file, index, n, states, h, p);
+    if number != 0 {
+        return number;
+    }
+    store(index, 1120 + n, start);
+    enter_type(index, n, h);
+    store(counts, 7, n + 1);
+    0
+}
+
+// The same for a binding.
+fn take_binding(file: &[u8], index: &mut [u16], counts: &mut [u16], start: usize, p: &[u8]) -> usize
+    ensures { λ r. ⌜ ((lens : List ℕ) → Taken (now (file .entry)) (now (index .entry)) lens (now (counts .entry)) (number Kind.binding) start (now (p .entry)) (now (index .exit)) lens (now (counts .exit)) r) ⌝ }
+{
+    let n = place_at(counts, 8);
+    let nonterminals = place_at(counts, 3);
+    let types = place_at(counts, 7);
+    let number = test_binding(file, index, n, nonterminals, types, p);
+    if number != 0 {
+        return number;
+    }
+    store(index, 2144 + n, start);
+    store(counts, 8, n + 1);
+    0
+}
+
+// The same for a path.
+fn take_path(index: &mut [u16], counts: &mut [u16], start: usize, p: &[u8]) -> usize
+    ensures { λ r. ⌜ ((file lens : List ℕ) → Taken file (now (index .entry)) lens (now (counts .entry)) (number Kind.path) start (now (p .entry)) (now (index .exit)) lens (now (counts .exit)) r) ⌝ }
+{
+    let n = place_at(counts, 9);
+    let number = test_path(n, p);
+    if number != 0 {
+        return number;
+    }
+    store(index, 3169 + n, start);
+    store(counts, 9, n + 1);
+    0
+}
+
+// The code of a record of a kind with the payload p, which begins at start: 0, or the number of the first of 3 to 7 that is
+// met. Where it is 0 the record is entered in the tables, behind the others of its kind; else they stay as they are.
+pub fn take(
+    file: &[u8],
+    index: &mut [u16],
+    lens: &mut [u16],
+    counts: &mut [u16],
+    kind: usize,
+    start: usize,
+    p: &[u8],
+) -> usize
+    ensures { λ r. ⌜ Taken (now (file .entry)) (now (index .entry)) (now (lens .entry)) (now (counts .entry)) kind start (now (p .entry)) (now (index .exit)) (now (lens .exit)) (now (counts .exit)) r ⌝ }
+{
+    match kind {
+        1 => take_sort(file, index, lens, counts, start, p),
+        2 => take_constructor(index, counts, start, p),
+        3 => take_nonterminal(index, counts, start, p),
+        4 => take_rule(file, index, lens, counts, start, p),
+        5 => take_states(index, counts, start, p),
+        6 => take_transition(file, index, counts, start, p),
+        7 => take_type(file, index, counts, start, p),
+        8 => take_binding(file, index, counts, start, p),
+        9 => take_path(index, counts, start, p),
+        // Kinds from 8000 (hexadecimal) on are unknown today, as those between are.
+        0x8000..=0xFFFF => 3,
+        _ => 3,
+    }
+}
