@@ -6,7 +6,7 @@ ghost use mathlib.Core.List.{List};
 ghost use Prim.Native.Nat.{ℕ, _<_};
 ghost use Rattle.arrows.specs.arrows.Arrows.{RowAt};
 ghost use Rattle.goals.specs.goals.Goals.{CountsMembers};
-ghost use Rattle.arrows.specs.argument_goals.Wants.{Wants, IsTarget};
+ghost use Rattle.arrows.specs.argument_goals.Wants.{Wants, IsTargetGoal};
 
 // Member j of the set that the next argument must have, by the head's type, an arrow of so many members; 65,535 behind the
 // last.
@@ -25,7 +25,7 @@ pub fn wanted(file: &[u8], index: &[u16], types: usize, head: usize, many: usize
 // Target i of the transition at a place, as a goal; 65,535 for more types than a file has. A constructor has four arguments at
 // most.
 pub fn target_of(file: &[u8], types: usize, place: usize, i: usize) -> usize
-    ensures { λ r. ⌜ (place < 65536 → (row : List ℕ) → RowAt (now (file .entry)) place row → IsTarget types row i r) ⌝ }
+    ensures { λ r. ⌜ (place < 65536 → (row : List ℕ) → RowAt (now (file .entry)) place row → IsTargetGoal types row i r) ⌝ }
 {
     if 1024 < types {
         return 65535;

@@ -34,10 +34,10 @@ use Rattle.intake.specs.plan.PlanTests.{EndsAre}
 use Rattle.intake.proofs.plan.Contents.{payload-bytes}
 use Rattle.goals.specs.groups.Groups.{Grouped, Fills}
 use Rattle.transitions.specs.places.RowPlaces.{rowBase, RowsFor, FillsRows}
-use Rattle.goals.specs.goals.Goals.{Goal, of-state, of-arrow, Listed, typeOfBinding, goalBase, ownBase, Goals, Owns, Typed, FillsGoals, FillsOwns}
+use Rattle.goals.specs.goals.Goals.{Goal, of-state, of-arrow, TypesListed, typeOfBinding, goalBase, ownBase, Goals, Owns, Typed, FillsGoals, FillsOwns}
 use Rattle.index.proofs.Wholes.{whole-body}
 use Rattle.binding_tests.specs.test.BindingTests.{Ready}
-use Rattle.rounds.specs.Shrinking.{testOf, Shrinks}
+use Rattle.rounds.specs.Shrinking.{testOf, ShrinksByRounds}
 use Rattle.rounds.proofs.Flagged.{chosen-take}
 use Rattle.rounds.proofs.Turning.{bindings-many}
 use Rattle.casefile.specs.BindingCases.{shrunk}
@@ -90,7 +90,7 @@ module _ {file index lens counts : List ℕ} {rs : List Record} (known : Known f
   -- the promise, from what was made and found
   is-shrunk : {ends : List ℕ} (groups firsts : List ℕ) → Ready file index counts groups firsts ends rs
       → (lent flags : List ℕ) (r : Bool) (many rounds total : ℕ) → refuseWhole rs (length lent) ≡ none → total ≡ getD counts 8 0
-      → Shrinks file index counts groups firsts ends lent flags many rounds → FindsStart index counts groups flags r
+      → ShrinksByRounds file index counts groups firsts ends lent flags many rounds → FindsStart index counts groups flags r
       → IsShrunk (shrunk (automatonOf rs) (planOf rs) (bindingsOf rs)) lent flags r many total rounds
   unfolding number shrunk accepts
   is-shrunk groups firsts w lent flags r many rounds total whole et shrinks starts =
@@ -141,7 +141,7 @@ known-same {counts = counts} same known =
     inside Kind.binding i h = omega arith
     inside Kind.path i h = omega arith
 
-listed-known : {file index lens counts : List ℕ} {rs : List Record} → Known file index lens counts rs → Passed rs → Bytes file → Listed file index (getD counts 7 0) rs
+listed-known : {file index lens counts : List ℕ} {rs : List Record} → Known file index lens counts rs → Passed rs → Bytes file → TypesListed file index (getD counts 7 0) rs
 unfolding number
 listed-known known ok bytes = record { passed = ok; bytes = payload-bytes (known .entries Kind.type) bytes; there = known .entries Kind.type; few = known .fits Kind.type }
 
@@ -164,7 +164,7 @@ module _ (file before counts ends lent flags : List ℕ) (r : Bool) (many rounds
       → (transitions : ℕ) → IsPlace counts 6 transitions → FillsRows file third transitions index
       → (nonterminals : ℕ) → IsPlace counts 3 nonterminals → (lent-groups groups : List ℕ) → 257 ≤ length lent-groups → Fills file index total nonterminals lent-groups groups
       → (rules : ℕ) → IsPlace counts 4 rules → (lent-firsts firsts : List ℕ) → 257 ≤ length lent-firsts → FillsFirsts file index rules lent-firsts firsts
-      → Shrinks file index counts groups firsts ends lent flags many rounds → FindsStart index counts groups flags r
+      → ShrinksByRounds file index counts groups firsts ends lent flags many rounds → FindsStart index counts groups flags r
       → JudgesBindings file before counts ends lent flags r many total rounds
   unfolding number
   judged bytes enough total et types ey second third index fills-goals fills-owns transitions em fills-rows nonterminals en lent-groups groups room fills rules er lent-firsts firsts has-room fills-firsts shrinks starts =
@@ -173,9 +173,9 @@ module _ (file before counts ends lent flags : List ℕ) (r : Bool) (many rounds
             let known₁ : Known file second lens counts rs = known-same (fills-goals .stays) known₀ in
             let known₂ : Known file third lens counts rs = known-same (λ i h. fills-owns .stays i (omega arith)) known₁ in
             let known : Known file index lens counts rs = known-same (λ i h. fills-rows .stays i (omega arith)) known₂ in
-            let listed₀ : Listed file before types rs = subst (λ n. Listed file before n rs) (sym (ey .value)) (listed-known known₀ ok bytes) in
-            let listed₁ : Listed file second types rs = subst (λ n. Listed file second n rs) (sym (ey .value)) (listed-known known₁ ok bytes) in
-            let listed : Listed file index types rs = subst (λ n. Listed file index n rs) (sym (ey .value)) (listed-known known ok bytes) in
+            let listed₀ : TypesListed file before types rs = subst (λ n. TypesListed file before n rs) (sym (ey .value)) (listed-known known₀ ok bytes) in
+            let listed₁ : TypesListed file second types rs = subst (λ n. TypesListed file second n rs) (sym (ey .value)) (listed-known known₁ ok bytes) in
+            let listed : TypesListed file index types rs = subst (λ n. TypesListed file index n rs) (sym (ey .value)) (listed-known known ok bytes) in
             let there : Indexed file second Kind.binding total rs = subst (λ n. Indexed file second Kind.binding n rs) (sym (et .value)) (known₁ .entries Kind.binding) in
             let all-fit = known₀ .fits Kind.binding in
             let te = et .value in

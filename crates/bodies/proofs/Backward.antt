@@ -20,7 +20,7 @@ use Rattle.casefile.specs.Fields.{field}
 use Rattle.casefile.specs.Tables.{headOf, nodesOf, firstTerm}
 use Rattle.bodies.specs.Tables.{Stored}
 use Rattle.sorts.specs.codes.Sorted.{Code}
-use Rattle.bodies.specs.Bodies.{Held, Fits, ArgumentsFit, Goods, Held-from, headsBy, Setting, HeadCode, Room, NodeRead, NodeTaken}
+use Rattle.bodies.specs.Bodies.{Held, Fits, ArgumentsFit, Goods, Held-from, headsBy, BodyTables, HeadCode, Room, NodeRead, NodeTaken}
 use Rattle.bodies.specs.declared.Arguments.{Arguments}
 use Rattle.sorts.proofs.codes.Codes.{code-small}
 use Rattle.casefile.proofs.Cells.{cellAt, nodeAt, nodes-length, nodes-drop}
@@ -196,7 +196,7 @@ module _ (hs : Head → Sort) (sorts : List Sort) (ns : List Node) (i : ℕ) (nd
 
 module _ {p froms tos trees arities signatures : List ℕ} {own i : ℕ} {ends codes depths : List ℕ} {head k : ℕ} {r : Arguments} (hc : HeadCode p froms tos trees arities signatures own i head)
     (ek : k ≡ field 1 p (i * 4 + 3)) (af : ArgumentsFit froms tos trees ends codes depths (length p / 4) (i + 1) k head r) where
-  module _ {sorts : List Sort} {counts numbers : List ℕ} (w : Setting sorts counts numbers p froms tos trees arities signatures own) (inside : i < length p / 4)
+  module _ {sorts : List Sort} {counts numbers : List ℕ} (w : BodyTables sorts counts numbers p froms tos trees arities signatures own) (inside : i < length p / 4)
       (h : Held-from (headsBy sorts counts numbers own) sorts (nodesOf p) ends codes depths (suc i)) where
     behind-node : Held (headsBy sorts counts numbers own) sorts ends codes depths (length p / 4) (terms (drop (suc i) (nodesOf p))) (i + 1)
     behind-node =

@@ -18,7 +18,7 @@ use Rattle.scheme.proofs.Sorting.{same-refl, found-sort}
 use Rattle.casefile.specs.Tables.{nodesOf, firstTerm, bodyOf}
 use Rattle.casefile.specs.Refusals.{wrongBody}
 use Rattle.sorts.specs.codes.Sorted.{SortArrays}
-use Rattle.bodies.specs.Bodies.{Held, Goods, headsBy, Setting, Scanned, BodyDecided}
+use Rattle.bodies.specs.Bodies.{Held, Goods, headsBy, BodyTables, Scanned, BodyDecided}
 use Rattle.sorts.proofs.codes.Codes.{code-listed, listed-code}
 use Rattle.casefile.proofs.Cells.{nodes-length}
 
@@ -154,7 +154,7 @@ module _ {p froms tos trees arities signatures : List ℕ} {own : ℕ} where
       }
 
       last-cases : (code : ℕ) (b : Bool) → eqb code 0 ≡ b → code ≡ getD codes 0 0 → getD ends 0 0 ≡ length (nodesOf p)
-          → (sorts : List Sort) (counts numbers : List ℕ) → Setting sorts counts numbers p froms tos trees arities signatures own → length p / 4 ≤ length before
+          → (sorts : List Sort) (counts numbers : List ℕ) → BodyTables sorts counts numbers p froms tos trees arities signatures own → length p / 4 ≤ length before
           → b ≡ not (wrongBody counts (map (λ (f : ℕ). getD sorts f o) numbers) (getD sorts own o) p)
       last-cases code true eb ec ee sorts counts numbers w m =
           let h = s .holds sorts counts numbers w m y in

@@ -13,12 +13,12 @@ use Rattle.casefile.specs.Tables.{cellsOf, headOf}
 use Rattle.casefile.specs.Refusals.{wrongCell}
 use Rattle.sorts.specs.codes.Sorted.{Code, listed, ParameterSort}
 use Rattle.casefile.proofs.Cells.{cellAt, cells-length, cells-at, cell-range}
-use Rattle.bodies.specs.Bodies.{headsBy, Setting}
+use Rattle.bodies.specs.Bodies.{headsBy, BodyTables}
 
 tag-two : (k : ℕ) → k ≤ 2 → (k ≡ 0 → ⊥) → (k ≡ 1 → ⊥) → k ≡ 2
 tag-two k h a b = omega arith
 
-module _ {sorts : List Sort} {counts numbers p froms tos trees arities signatures : List ℕ} {own : ℕ} (w : Setting sorts counts numbers p froms tos trees arities signatures own) where
+module _ {sorts : List Sort} {counts numbers p froms tos trees arities signatures : List ℕ} {own : ℕ} (w : BodyTables sorts counts numbers p froms tos trees arities signatures own) where
   in-range-at : (i : ℕ) → i < length p / 4
       → (field 1 p (i * 4) ≤ 2) × (field 2 p (i * 4 + 1) < getD (length counts ∷ length numbers ∷ []) (field 1 p (i * 4)) (length (arguments (getD sorts own o))))
   in-range-at i h =

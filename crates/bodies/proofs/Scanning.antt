@@ -10,7 +10,7 @@ use Rattle.scheme.specs.Sorts.{Sort}
 use Rattle.scheme.specs.Terms.{Head}
 use Rattle.scheme.specs.Prefix.{Node, terms, complete}
 use Rattle.casefile.specs.Tables.{nodesOf}
-use Rattle.bodies.specs.Bodies.{Held, Held-from, HeldAs, headsBy, Setting, Room, NodeRead, Scanned}
+use Rattle.bodies.specs.Bodies.{Held, Held-from, HeldAs, headsBy, BodyTables, Room, NodeRead, Scanned}
 use Rattle.bodies.specs.declared.Arguments.{Arguments}
 use Rattle.casefile.proofs.Cells.{nodes-length}
 
@@ -42,7 +42,7 @@ pub record Scanning (p froms tos trees arities signatures : List ℕ) (own : ℕ
   pub long-codes : length codes ≡ 257
   pub long-depths : length depths ≡ 257
   pub rest : drop (length p / 4) ends ≡ drop (length p / 4) before
-  pub holds : (sorts : List Sort) (counts numbers : List ℕ) → Setting sorts counts numbers p froms tos trees arities signatures own → length p / 4 ≤ length before
+  pub holds : (sorts : List Sort) (counts numbers : List ℕ) → BodyTables sorts counts numbers p froms tos trees arities signatures own → length p / 4 ≤ length before
       → Held-from (headsBy sorts counts numbers own) sorts (nodesOf p) ends codes depths i
 
 module _ {p froms tos trees arities signatures : List ℕ} {own : ℕ} where

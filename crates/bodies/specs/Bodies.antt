@@ -52,7 +52,7 @@ abbrev pub headsBy : List Sort → List ℕ → List ℕ → ℕ → Head → So
 headsBy sorts counts numbers own = headSort counts (map (λ (f : ℕ). getD sorts f o) numbers) (arguments (getD sorts own o))
 
 -- what a body is judged by: the codes of sorts, the constructors' argument counts, the numbers of the nonterminals' sorts and that of the body's own; its nodes are in range
-pub record Setting (sorts : List Sort) (counts numbers p froms tos trees arities signatures : List ℕ) (own : ℕ) : Type 0 where
+pub record BodyTables (sorts : List Sort) (counts numbers p froms tos trees arities signatures : List ℕ) (own : ℕ) : Type 0 where
   pub coded : Coded sorts froms tos trees
   pub counts-are : take (length counts) arities ≡ counts
   pub counts-small : (c : ℕ) → getD counts c 0 ≤ 4
@@ -64,7 +64,7 @@ pub record Setting (sorts : List Sort) (counts numbers p froms tos trees arities
 -- r is the code of the sort of the head of node i
 abbrev pub HeadCode : List ℕ → List ℕ → List ℕ → List ℕ → List ℕ → List ℕ → ℕ → ℕ → ℕ → Type 0
 HeadCode p froms tos trees arities signatures own i r =
-    (sorts : List Sort) (counts numbers : List ℕ) → Setting sorts counts numbers p froms tos trees arities signatures own → i < length p / 4
+    (sorts : List Sort) (counts numbers : List ℕ) → BodyTables sorts counts numbers p froms tos trees arities signatures own → i < length p / 4
     → Code sorts r (headsBy sorts counts numbers own (headOf (cellAt p i)))
 
 -- r is the code of the sort of the head of each node with a tag and a number
@@ -89,10 +89,10 @@ pub record NodeRead (p froms tos trees arities signatures : List ℕ) (own i : �
   pub long-codes : length codes′ ≡ length codes
   pub long-depths : length depths′ ≡ length depths
   pub rest : (m : ℕ) → i < m → drop m ends′ ≡ drop m ends
-  pub holds : (sorts : List Sort) (counts numbers : List ℕ) → Setting sorts counts numbers p froms tos trees arities signatures own → length p / 4 ≤ 256
+  pub holds : (sorts : List Sort) (counts numbers : List ℕ) → BodyTables sorts counts numbers p froms tos trees arities signatures own → length p / 4 ≤ 256
       → i < length p / 4 → i < length ends → i < length codes → i < length depths → Held-from (headsBy sorts counts numbers own) sorts (nodesOf p) ends codes depths (suc i)
       → r ≡ true → Held-from (headsBy sorts counts numbers own) sorts (nodesOf p) ends′ codes′ depths′ i
-  pub fails : (sorts : List Sort) (counts numbers : List ℕ) → Setting sorts counts numbers p froms tos trees arities signatures own → i < length p / 4
+  pub fails : (sorts : List Sort) (counts numbers : List ℕ) → BodyTables sorts counts numbers p froms tos trees arities signatures own → i < length p / 4
       → Held-from (headsBy sorts counts numbers own) sorts (nodesOf p) ends codes depths (suc i)
       → r ≡ false → T (complete (nodesOf p)) → Goods (headsBy sorts counts numbers own) (terms (nodesOf p)) → ⊥
 
@@ -112,16 +112,16 @@ pub record NodeTaken (p froms tos trees arities signatures : List ℕ) (own i : 
 pub record Scanned (p froms tos trees arities signatures : List ℕ) (own : ℕ) (before ends codes depths : List ℕ) (r : Bool) : Type 0 where
   pub long : length ends ≡ length before
   pub rest : drop (length p / 4) ends ≡ drop (length p / 4) before
-  pub holds : (sorts : List Sort) (counts numbers : List ℕ) → Setting sorts counts numbers p froms tos trees arities signatures own → length p / 4 ≤ length before
+  pub holds : (sorts : List Sort) (counts numbers : List ℕ) → BodyTables sorts counts numbers p froms tos trees arities signatures own → length p / 4 ≤ length before
       → r ≡ true → Held-from (headsBy sorts counts numbers own) sorts (nodesOf p) ends codes depths 0
-  pub fails : (sorts : List Sort) (counts numbers : List ℕ) → Setting sorts counts numbers p froms tos trees arities signatures own → length p / 4 ≤ length before
+  pub fails : (sorts : List Sort) (counts numbers : List ℕ) → BodyTables sorts counts numbers p froms tos trees arities signatures own → length p / 4 ≤ length before
       → r ≡ false → T (complete (nodesOf p)) → Goods (headsBy sorts counts numbers own) (terms (nodesOf p)) → ⊥
 
 -- r says whether the body p is accepted, and where it is, each subterm ends at the node that `ends` says; entries behind the nodes are as before
 pub record BodyDecided (p froms tos trees arities signatures : List ℕ) (own : ℕ) (before ends : List ℕ) (r : Bool) : Type 0 where
   pub long : length ends ≡ length before
   pub rest : drop (length p / 4) ends ≡ drop (length p / 4) before
-  pub decided : (sorts : List Sort) (counts numbers : List ℕ) → Setting sorts counts numbers p froms tos trees arities signatures own → length p ≤ 1024
+  pub decided : (sorts : List Sort) (counts numbers : List ℕ) → BodyTables sorts counts numbers p froms tos trees arities signatures own → length p ≤ 1024
       → length p / 4 ≤ length before → r ≡ not (wrongBody counts (map (λ (f : ℕ). getD sorts f o) numbers) (getD sorts own o) p)
-  pub ends-are : (sorts : List Sort) (counts numbers : List ℕ) → Setting sorts counts numbers p froms tos trees arities signatures own → length p ≤ 1024
+  pub ends-are : (sorts : List Sort) (counts numbers : List ℕ) → BodyTables sorts counts numbers p froms tos trees arities signatures own → length p ≤ 1024
       → length p / 4 ≤ length before → r ≡ true → (i : ℕ) → i < length p / 4 → getD ends i 0 ≡ i + nodes (firstTerm (terms (drop i (nodesOf p))))

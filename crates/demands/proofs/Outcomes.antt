@@ -31,7 +31,7 @@ use Rattle.casefile.proofs.Passed.{binding-case, path-case}
 use Rattle.casefile.specs.PathCases.{nodeLimit, pathAnswer, replayed}
 use Rattle.casefile.specs.BindingCases.{Shrunk, shrunk}
 use Rattle.demands.specs.Answers.{Answer, proved, unproved, refuted, Outcome, refusal, bindingOutcome, pathOutcome, outcomeOf, answer, flagsAfter}
-use Rattle.demands.specs.Demands.{planIn, automatonIn, lettersIn, startBinding, Shrinks, Replayed, Demand1, Demand2, Demand3}
+use Rattle.demands.specs.Demands.{planIn, automatonIn, lettersIn, startBinding, Shrinks, PathJudged, Demand1, Demand2, Demand3}
 
 -- Binding cases.
 module _ (aut : Automaton) (plan : Plan) (offered : List Binding) where
@@ -86,7 +86,7 @@ unfolding nodes
 start-fits = omega arith
 
 module _ (aut : Automaton) (plan : Plan) (letters : List ℕ) where
-  replays : Replayed aut plan letters (pathOutcome (replayed aut plan letters) .answer)
+  replays : PathJudged aut plan letters (pathOutcome (replayed aut plan letters) .answer)
   unfolding replayed Ends pathOutcome pathAnswer
   replays =
       let e = replay nodeLimit aut plan 0 letters start 0 in
@@ -112,7 +112,7 @@ of-binding-case : (rs : List Record) (lent : List ℕ) → Shrinks (automatonOf 
 unfolding outcomeOf bindingOutcome shrunk
 of-binding-case rs lent = shrinks (automatonOf rs) (planOf rs) (bindingsOf rs) (drop (length (keptFlags (holdsExactly (automatonOf rs) (planOf rs)) (bindingsOf rs))) lent)
 
-of-path-case : (rs : List Record) (ls : List ℕ) → Replayed (automatonOf rs) (planOf rs) ls (outcomeOf (pathCase rs ls) .answer)
+of-path-case : (rs : List Record) (ls : List ℕ) → PathJudged (automatonOf rs) (planOf rs) ls (outcomeOf (pathCase rs ls) .answer)
 unfolding outcomeOf
 of-path-case rs ls = replays (automatonOf rs) (planOf rs) ls
 
@@ -137,8 +137,8 @@ module _ (file lent : List ℕ) where
         of-path = λ rs ls e.
             let (known, first-path) = path-case (length lent) file rs ls e in
             let out = answer-of (pathCase rs ls) e in
-            subst (λ z. Replayed (automatonOf z) (planOf z) (getD (payloads Kind.path z) 0 []) a) (known .all-records)
-            (subst₂ (Replayed (automatonOf rs) (planOf rs)) (sym first-path)
+            subst (λ z. PathJudged (automatonOf z) (planOf z) (getD (payloads Kind.path z) 0 []) a) (known .all-records)
+            (subst₂ (PathJudged (automatonOf rs) (planOf rs)) (sym first-path)
             (ap (λ (z : Outcome). z .answer) (sym out) ∙ sym (d .is-answer))
             (of-path-case rs ls));
       }

@@ -65,7 +65,7 @@ pub record Shrinks (aut : Automaton) (plan : Plan) (offered : List Binding) (mar
   pub verdict : (List·Memᴰ startBinding kept × (a ≡ proved (length kept) (length offered) rounds)) ⊎ ((List·Memᴰ startBinding kept → ⊥) × (a ≡ unproved (length kept) (length offered) rounds))
 
 -- A path case: a is the answer.
-pub record Replayed (aut : Automaton) (plan : Plan) (letters : List ℕ) (a : Answer) : Type 0 where
+pub record PathJudged (aut : Automaton) (plan : Plan) (letters : List ℕ) (a : Answer) : Type 0 where
   -- refuted exactly when the path replays within the limit to a constructor with no transition there
   pub refutes : (q c : ℕ) → ReplaysTo aut plan (Within nodeLimit) letters starting q c → a ≡ refuted (length letters) q c
   pub refuted-replays : (n q c : ℕ) → a ≡ refuted n q c → (length letters ≡ n) × ReplaysTo aut plan (Within nodeLimit) letters starting q c
@@ -82,7 +82,7 @@ pub record Demand1 (file lent : List ℕ) (a : Answer) (marks : List ℕ) : Type
 -- DEMAND 2: the kept bindings are the greatest consistent subset; proved, unproved and refuted are said exactly where they are so.
 pub record Demand2 (file lent : List ℕ) (a : Answer) (marks : List ℕ) : Type 0 where
   pub of-bindings : (rs : List Record) → caseOf file (length lent) ≡ bindingCase rs → Shrinks (automatonIn file) (planIn file) (offeredIn file) marks a
-  pub of-path : (rs : List Record) (ls : List ℕ) → caseOf file (length lent) ≡ pathCase rs ls → Replayed (automatonIn file) (planIn file) (lettersIn file) a
+  pub of-path : (rs : List Record) (ls : List ℕ) → caseOf file (length lent) ≡ pathCase rs ls → PathJudged (automatonIn file) (planIn file) (lettersIn file) a
 
 -- DEMAND 3: after `proved` the safety rule holds for that file's plan and automaton.
 abbrev pub Demand3 : List ℕ → Answer → Type 0

@@ -4,7 +4,7 @@ use crate::evidence::test_whole;
 use walk::walk::Walked;
 ghost use mathlib.Core.Path.{_≡_};
 ghost use lib.ListN.{length};
-ghost use Rattle.intake.specs.intake.Intake.{Taken, caseAs};
+ghost use Rattle.intake.specs.intake.Intake.{Examined, caseAs};
 ghost use Rattle.casefile.specs.Cases.{caseOf};
 
 // What a file is, for so many lent flags, with its tables: the index of its entries, the argument counts of its sorts, the
@@ -21,7 +21,7 @@ pub fn examine(
     codes: &mut [u16; 257],
     depths: &mut [u16; 257],
 ) -> Case
-    ensures { λ r. ⌜ Taken (now (file .entry)) flags (now (index .exit)) (now (lens .exit)) (now (counts .exit)) (now (ends .exit)) r ⌝ }
+    ensures { λ r. ⌜ Examined (now (file .entry)) flags (now (index .exit)) (now (lens .exit)) (now (counts .exit)) (now (ends .exit)) r ⌝ }
 {
     if 60000 < file.len() {
         return Case::Refused {

@@ -18,7 +18,7 @@ use Rattle.casefile.specs.Cases.{pathCase, caseOf}
 use Rattle.casefile.proofs.Passed.{path-case}
 use Rattle.intake.specs.declared.evidence.Case.{Case}
 use Rattle.intake.specs.declared.evidence.Case.the-variants.{Refused as RefusedCase, Bindings as BindingCase, Path}
-use Rattle.intake.specs.intake.Intake.{caseAs, Taken, Leaves}
+use Rattle.intake.specs.intake.Intake.{caseAs, Examined, Leaves}
 use Rattle.casefile.specs.PathCases.{nodeLimit, pathAnswer, replayed}
 use Rattle.replay.specs.replay.Replays.{pathAs, ReplaysPath}
 use Rattle.replay.specs.declared.replay.Replayed.{Replayed}
@@ -43,7 +43,7 @@ answer-path (Refuted′ n q c) = refl
 answer-path (Refused′ n k) = refl
 
 -- the answer, by what the intake took the file for
-module _ {file : List ℕ} {flags : ℕ} {index lens counts ends : List ℕ} {r : Case} (w : Taken file flags index lens counts ends r) where
+module _ {file : List ℕ} {flags : ℕ} {index lens counts ends : List ℕ} {r : Case} (w : Examined file flags index lens counts ends r) where
   pub answer-refused : (n p : ℕ) → r ≡ RefusedCase n p → Refused n p ≡ answerTo (caseOf file flags)
   unfolding answerTo caseAs
   answer-refused n p e = ap answerTo (sym (ap (caseAs file) e) ∙ w .is-case)

@@ -13,7 +13,7 @@ use Rattle.casefile.specs.Cases.{refusedCase, bindingCase, pathCase, caseOf}
 use Rattle.casefile.proofs.Passed.{binding-case, path-case}
 use Rattle.intake.specs.declared.evidence.Case.{Case}
 use Rattle.intake.specs.declared.evidence.Case.the-variants.{Refused as RefusedCase, Bindings as BindingCase, Path}
-use Rattle.intake.specs.intake.Intake.{caseAs, Taken, Leaves}
+use Rattle.intake.specs.intake.Intake.{caseAs, Examined, Leaves}
 use Rattle.casefile.specs.PathCases.{PathAnswer, refutedPath, refusedPath, replayed}
 use Rattle.replay.specs.replay.Replays.{pathAs, ReplaysPath}
 use Rattle.replay.specs.declared.replay.Replayed.{Replayed}
@@ -74,7 +74,7 @@ module _ (file lent : List ℕ) where
         are-marks = em ∙ ap (λ x. outcomeOf x .written ++ drop (length (outcomeOf x .written)) lent) (sym e);
       }
 
-  module _ {index lens counts ends : List ℕ} {r : Case} (w : Taken file (length lent) index lens counts ends r) where
+  module _ {index lens counts ends : List ℕ} {r : Case} (w : Examined file (length lent) index lens counts ends r) where
     pub judged-refused : (n p : ℕ) → r ≡ RefusedCase n p → Demand1 file lent (answerAs (Refused n p)) lent
     unfolding caseAs outcomeOf refusal answerAs
     judged-refused n p e = meets1 (refusedCase (record { number = n; place = p })) (sym (w .is-case) ∙ ap (caseAs file) e) (refused n p) lent refl refl

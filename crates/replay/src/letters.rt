@@ -5,7 +5,7 @@ use index::entries::place_at;
 use transitions::rows::arity_of;
 ghost use mathlib.Core.Path.{_≡_};
 ghost use Prim.Native.Nat.{_<_};
-ghost use Rattle.replay.specs.letters.Letters.{IsTarget, Unfolds, Descends, Follows};
+ghost use Rattle.replay.specs.letters.Letters.{IsTargetOf, Unfolds, Descends, Follows};
 
 // The term held: the tag and the number of its head, the block and the count of its arguments' closures; and the state.
 pub struct Held {
@@ -73,7 +73,7 @@ fn wide(x: u8) -> usize
 // The target for argument i of a constructor, by the row of the table, its argument count and the arguments held; 256
 // where there is no such argument, no such target or no transition.
 fn target_for(row: [u8; 4], arity: usize, count: usize, i: usize) -> usize
-    ensures { λ r. ⌜ IsTarget row arity count i r ⌝ }
+    ensures { λ r. ⌜ IsTargetOf row arity count i r ⌝ }
 {
     if row[0] == 255 {
         return 256;

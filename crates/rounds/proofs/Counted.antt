@@ -13,7 +13,7 @@ use lib.Seq.{take-suc, drop-cons, take-suc-set, take-all, length-take-le, drop-l
 use Rattle.scheme.specs.Lists.{keepIf}
 use Rattle.scheme.specs.Rounds
 use Rattle.scheme.specs.Rounds.{countTo}
-use Rattle.scheme.specs.Flags.{isKept, chosen, roundFlags, flagsAfter, keptFlags}
+use Rattle.scheme.specs.Flags.{isKept, chosen, roundFlags, flagsAfterRounds, keptFlags}
 use Rattle.scheme.proofs.Rounds.{round-length as round-fewer}
 use Rattle.scheme.proofs.Flags.{chosen-round, chosen-kept}
 use Rattle.rounds.proofs.Flagged.{Small, chosen-take, round-take, round-small, round-same, after-same}
@@ -67,7 +67,7 @@ pub record Left {B : Type 0} (test : List B → B → Bool) (bs : List B) (old :
   pub fuel : ℕ
   pub enough : kept ≤ fuel
   pub count : rounds + countTo test fuel (chosen old bs) ≡ Rounds.rounds test bs
-  pub flags : flagsAfter test bs fuel (take (length bs) old) ≡ keptFlags test bs
+  pub flags : flagsAfterRounds test bs fuel (take (length bs) old) ≡ keptFlags test bs
 
 module _ {B : Type 0} (test : List B → B → Bool) (bs : List B) where
   ones-small : (n : ℕ) → Small (replicate n 1)
@@ -92,7 +92,7 @@ module _ {B : Type 0} (test : List B → B → Bool) (bs : List B) where
         fuel = length bs;
         enough = omega arith;
         count = zero-add (countTo test (length bs) (chosen old bs)) ∙ ap (countTo test (length bs)) c;
-        flags = ap (flagsAfter test bs (length bs)) t;
+        flags = ap (flagsAfterRounds test bs (length bs)) t;
       }
 
   module _ (old : List ℕ) (kept rounds : ℕ) (w : Left test bs old kept rounds) where
@@ -105,7 +105,7 @@ module _ {B : Type 0} (test : List B → B → Bool) (bs : List B) where
 
     -- a round that drops something
     pub left-turn : (new : List ℕ) (more : ℕ) → take (length bs) new ≡ roundFlags test bs old → more ≡ length (Rounds.round test (chosen old bs)) → more < kept → Left test bs new more (rounds + 1)
-    unfolding flagsAfter
+    unfolding flagsAfterRounds
     left-turn new more t e h =
         let (f, is, c) = turn (w .fuel) more h (w .enough) e (w .kept-are) in
         let r : take (length bs) new ≡ roundFlags test bs (take (length bs) old) = t ∙ sym (round-take test bs old) in
@@ -116,7 +116,7 @@ module _ {B : Type 0} (test : List B → B → Bool) (bs : List B) where
           fuel = f;
           enough = let en = w .enough in omega arith;
           count = let a = ap (countTo test f) s in let b = w .count in omega arith;
-          flags = ap (flagsAfter test bs f) r ∙ sym (ap (λ n. flagsAfter test bs n (take (length bs) old)) is) ∙ w .flags;
+          flags = ap (flagsAfterRounds test bs f) r ∙ sym (ap (λ n. flagsAfterRounds test bs n (take (length bs) old)) is) ∙ w .flags;
         }
 
     -- a round that drops nothing

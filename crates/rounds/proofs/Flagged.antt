@@ -8,7 +8,7 @@ use mathlib.Core.Bool.{Bool, true, false, _&&_}
 use mathlib.Core.List.{List, [], _∷_}
 use lib.ListN.{length, getD, take}
 use Rattle.scheme.specs.Lists.{keepIf}
-use Rattle.scheme.specs.Flags.{bit, isKept, chosen, retested, roundFlags, flagsAfter}
+use Rattle.scheme.specs.Flags.{bit, isKept, chosen, retested, roundFlags, flagsAfterRounds}
 
 -- every flag is 0 or 1
 abbrev pub Small : List ℕ → Type 0
@@ -106,7 +106,7 @@ module _ {B : Type 0} (test : List B → B → Bool) where
   round-same bs fs = retested-same (chosen fs bs) fs bs
 
   -- and so do all after it
-  pub after-same : (bs : List B) (n : ℕ) (fs : List ℕ) → roundFlags test bs fs ≡ fs → flagsAfter test bs n fs ≡ fs
-  unfolding flagsAfter
+  pub after-same : (bs : List B) (n : ℕ) (fs : List ℕ) → roundFlags test bs fs ≡ fs → flagsAfterRounds test bs n fs ≡ fs
+  unfolding flagsAfterRounds
   after-same bs zero fs e = refl
-  after-same bs (suc n) fs e = ap (flagsAfter test bs n) e ∙ after-same bs n fs e
+  after-same bs (suc n) fs e = ap (flagsAfterRounds test bs n) e ∙ after-same bs n fs e

@@ -26,7 +26,7 @@ use Rattle.rules.specs.reading.RuleBodies.{ruleOf}
 use Rattle.binding_tests.specs.mentions.Touched.{touches}
 use Rattle.binding_tests.proofs.mentions.Touching.{untouched}
 use Rattle.binding_tests.specs.test.BindingTests.{Ready, entriesFor, symbolOf, IsSymbol, TestsBinding}
-use Rattle.rounds.specs.Shrinking.{testOf, Numbered, Settled, Retests, Marks, Turns, Copies, Shrinks}
+use Rattle.rounds.specs.Shrinking.{testOf, Numbered, Settled, Retests, Marks, Turns, Copies, ShrinksByRounds}
 use Rattle.rounds.proofs.Settling.{kept-byte, rule-there, settle}
 use Rattle.rounds.proofs.Flagged.{bit-small, chosen-take, round-length, round-at}
 use Rattle.rounds.proofs.Counted.{Sofar, sofar-none, sofar-more, sofar-flags, sofar-kept, Left, left-start, left-turn, left-rounds, left-made, left-kept}
@@ -302,7 +302,7 @@ module _ (file index counts groups firsts ends : List ℕ) where
             let l = t .long in
             subst (λ n. take n old′ ≡ take n new) here (c .copied (omega arith) (omega arith) (g .long))
 
-    pub going-all : kept ≤ more → Shrinks file index counts groups firsts ends lent new kept rounds
+    pub going-all : kept ≤ more → ShrinksByRounds file index counts groups firsts ends lent new kept rounds
     going-all h =
         record {
           long = t .long ∙ g .same;

@@ -73,7 +73,7 @@ pub record KeepsAll (n : ℕ) (flags flags′ : List ℕ) : Type 0 where
 
 -- what the rounds leave, where there is a flag for each binding: the flags, how many bindings are kept, and how many rounds dropped
 -- something; "bytes past the count are untouched"
-pub record Shrinks (file index counts groups firsts ends : List ℕ) (flags flags′ : List ℕ) (kept rounds : ℕ) : Type 0 where
+pub record ShrinksByRounds (file index counts groups firsts ends : List ℕ) (flags flags′ : List ℕ) (kept rounds : ℕ) : Type 0 where
   pub long : length flags′ ≡ length flags
   pub flags-are : (rs : List Record) → Ready file index counts groups firsts ends rs → count Kind.binding rs ≤ length flags → flags′ ≡ keptFlags (testOf rs) (bindingsOf rs) ++ drop (count Kind.binding rs) flags
   pub kept-are : (rs : List Record) → Ready file index counts groups firsts ends rs → count Kind.binding rs ≤ length flags → kept ≡ length (Rounds.kept (testOf rs) (bindingsOf rs))

@@ -7,7 +7,7 @@ use binding_tests::test::symbol_of;
 use index::entries::place_at;
 use index::lookup::entry;
 use memo::ready;
-ghost use Rattle.rounds.specs.Shrinking.{Retests, Marks, Turns, Copies, KeepsAll, Shrinks};
+ghost use Rattle.rounds.specs.Shrinking.{Retests, Marks, Turns, Copies, KeepsAll, ShrinksByRounds};
 
 // The flag of a binding after its test, and the number of the last test.
 struct Tested {
@@ -186,7 +186,7 @@ pub fn shrink(
     old: &mut [u8; 66560],
     flags: &mut [u8],
 ) -> Ended
-    ensures { λ r. ⌜ Shrinks (now (file .entry)) (now (index .entry)) (now (counts .entry)) (now (groups .entry)) (now (firsts .entry)) (now (ends .entry)) (now (flags .entry)) (now (flags .exit)) (r .kept) (r .rounds) ⌝ }
+    ensures { λ r. ⌜ ShrinksByRounds (now (file .entry)) (now (index .entry)) (now (counts .entry)) (now (groups .entry)) (now (firsts .entry)) (now (ends .entry)) (now (flags .entry)) (now (flags .exit)) (r .kept) (r .rounds) ⌝ }
 {
     let total = place_at(counts, 8);
     all_kept(old, total);

@@ -23,7 +23,7 @@ ghost use Rattle.term_check.specs.check.Checking.{LearntOrNot, ChecksTer
 
 // What stands in front of a term, if there is one: the tag and the number of its head, how many arguments it has, and the
 // node of the first of them.
-struct Front {
+struct HeadNode {
     there: bool,
     tag: usize,
     number: usize,
@@ -32,10 +32,10 @@ struct Front {
 }
 
 // No term.
-fn nothing() -> Front
+fn nothing() -> HeadNode
     ensures { λ r. ⌜ r .there ≡ false ⌝ }
 {
-    Front {
+    HeadNode {
         there: false,
         tag: 0,
         number: 0,
@@ -45,7 +45,7 @@ fn nothing() -> Front
 }
 
 // The node with a number, of the body of so many bytes at a place of the file.
-fn node_at(file: &[u8], start: usize, len: usize, at: usize) -> Front
+fn node_at(file: &[u8], start: usize, len: usize, at: usize) -> HeadNode
     ensures { λ r. ⌜ IsNode (partOf (now (file .entry)) start len) at r ⌝ }
 {
     if file.len() < start {
@@ -62,7 +62,7 @@ fn node_at(file: &[u8], start: usize, len: usize, at: usize) -> Front
     let low = file[place + 1] as usize;
     let high = file[place + 2] as usize;
     let count = file[place + 3] as usize;
-    Front {
+    HeadNode {
         there: true,
         tag,
         number: low + 256 * high,
@@ -173,7 +173,7 @@ fn check_head(
     test: &[usize; 7],
     memo: &mut [u8],
     at: usize,
-    front: Front,
+    front: HeadNode,
     goal: usize,
 ) -> bool
     ensures { λ r. ⌜ ChecksHead (record { file = now (file .entry); index = now (index .entry); groups = now (groups .entry); kept = now (kept .entry); ends = endsBy (now (ends .entry)) (now (test .entry)); body = bodyBy (now (file .entry)) (now (test .entry)); test = testBy (now (test .entry)) }) (now (memo .entry)) at front goal (now (memo .exit)) r ⌝ }
@@ -233,7 +233,7 @@ fn check_choices(
     test: &[usize; 7],
     memo: &mut [u8],
     at: usize,
-    front: Front,
+    front: HeadNode,
     goal: usize,
 ) -> bool
     ensures { λ r. ⌜ ChecksChoices (record { file = now (file .entry); index = now (index .entry); groups = now (groups .entry); kept = now (kept .entry); ends = endsBy (now (ends .entry)) (now (test .entry)); body = bodyBy (now (file .entry)) (now (test .entry)); test = testBy (now (test .entry)) }) (now (memo .entry)) at front goal (now (memo .exit)) r ⌝ }

@@ -15,7 +15,7 @@ use Rattle.goals.proofs.goals.Goals as types
 use Rattle.goals.proofs.goals.Goals.{arrow-record}
 use Rattle.arrows.specs.arrows.Arrows.{RowAt}
 use Rattle.arrows.proofs.arrows.Arrows.{target-is, takes-step, takes-none}
-use Rattle.arrows.specs.argument_goals.Wants.{HeadType, listed, of-row, Wants, Follows, IsTarget}
+use Rattle.arrows.specs.argument_goals.Wants.{HeadType, listed, of-row, Wants, Follows, IsTargetGoal}
 
 -- an arrow that a row makes
 record RowArrow (row : List ℕ) (arity q i : ℕ) (a : Tys) (τ : Ty) : Type 0 where
@@ -103,7 +103,7 @@ pub follow-result : {index : List ℕ} {n head : ℕ} (r : ℕ) → IsResult ind
 follow-result r is = record { next = λ rs w row i a τ x. listed refl (is .result rs w a τ (by-number a τ x)) }
 
 -- a target as a goal
-pub target-there : (file : List ℕ) (n place : ℕ) (row : List ℕ) (i r : ℕ) → n ≤ 1024 → RowAt file place row → IsField 1 file (place + 2 + i % 4) r → IsTarget n row i (n + r)
+pub target-there : (file : List ℕ) (n place : ℕ) (row : List ℕ) (i r : ℕ) → n ≤ 1024 → RowAt file place row → IsField 1 file (place + 2 + i % 4) r → IsTargetGoal n row i (n + r)
 target-there file n place row i r few at is =
     record {
       target = λ ne l. let e : i % 4 ≡ i = omega arith in ap (λ t. n + t) (target-is file row place at (omega arith) (is .value ∙ ap (λ k. byte file (place + 2 + k)) e));

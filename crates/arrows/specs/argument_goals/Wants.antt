@@ -25,6 +25,6 @@ pub record Follows (index : List ℕ) (n : ℕ) (byRow : Bool) (head r : ℕ) : 
   pub next : {file : List ℕ} (rs : List Record) → Typed file index n rs → (row : List ℕ) (i : ℕ) (a : Tys) (τ : Ty) → HeadType rs n byRow row i head (arrow a τ) → HeadType rs n byRow row (suc i) r τ
 
 -- r is target i of a row, as a goal; 65,535 for more types than a file has
-pub record IsTarget (n : ℕ) (row : List ℕ) (i r : ℕ) : Type 0 where
+pub record IsTargetGoal (n : ℕ) (row : List ℕ) (i r : ℕ) : Type 0 where
   pub target : (r ≡ 65535 → ⊥) → i < 4 → r ≡ n + getD row i 0
   pub past : r ≡ 65535 → 1024 < n

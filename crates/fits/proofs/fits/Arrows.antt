@@ -15,7 +15,7 @@ use Rattle.casefile.specs.Kinds.{type, payloads}
 use Rattle.casefile.specs.Tables.{words}
 use Rattle.casefile.proofs.Steps.{words-step, words-done}
 use Rattle.fits.specs.flags.Fitted.{flag, fitsAt, Fitted}
-use Rattle.fits.specs.fits.Filled.{Known, Wrote, both, PayloadThere, saysFits, met, MeetsMembers, FillsArrow}
+use Rattle.fits.specs.fits.Filled.{KnownRow, Wrote, both, PayloadThere, saysFits, met, MeetsMembers, FillsArrow}
 use Rattle.fits.proofs.fits.Rows.{Arrow, arrow-there, arrow-numbers, arrow-fits, arrow-tree, payload-there, length-is}
 use Rattle.fits.proofs.fits.Filling.{fitted-more}
 use Rattle.fits.proofs.fits.Members.{all-same, says-early}
@@ -45,7 +45,7 @@ kept-bit true = refl
 kept-bit false = refl
 
 -- what the file says of the arrow
-module _ {file froms tos : List ℕ} {sorts t place len : ℕ} {old index : List ℕ} {types : ℕ} {rs : List Record} (kn : Known file froms tos sorts t place len old index types rs) where
+module _ {file froms tos : List ℕ} {sorts t place len : ℕ} {old index : List ℕ} {types : ℕ} {rs : List Record} (kn : KnownRow file froms tos sorts t place len old index types rs) where
   abbrev payload : List ℕ
   payload = getD (payloads type rs) t []
 

@@ -24,7 +24,7 @@ use Rattle.casefile.proofs.TypeTable.{count-payloads, type-shape, type-made}
 use Rattle.casefile.proofs.SortTable.{sort-zero, sort-below, sort-made}
 use Rattle.index.specs.entries.Tests.{IsPlace}
 use Rattle.fits.specs.flags.Fitted.{fitsAt}
-use Rattle.fits.specs.fits.Filled.{Listed, TypeThere}
+use Rattle.fits.specs.fits.Filled.{TypesAndSorts, TypeThere}
 
 -- where a type's payload lies, as it was read
 pub type-read : (file index : List ℕ) (t place len : ℕ) → IsPlace index (1120 + t) place → IsField 2 file (place - 4) len → TypeThere file index t place len
@@ -48,7 +48,7 @@ arrow-from : (types : List Ty) (p : List ℕ) (r : ℕ) (ms : List ℕ) → eqb 
 unfolding typeFrom arrowFrom
 arrow-from types p r ms e f = rw (e, f) refl
 
-module _ {file index : List ℕ} {types sorts : ℕ} {rs : List Record} (li : Listed file index types sorts rs) where
+module _ {file index : List ℕ} {types sorts : ℕ} {rs : List Record} (li : TypesAndSorts file index types sorts rs) where
   abbrev typePay : ℕ → List ℕ
   typePay t = getD (payloads type rs) t []
 

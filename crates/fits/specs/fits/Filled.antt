@@ -18,7 +18,7 @@ use Rattle.index.specs.entries.Index.{Indexed}
 use Rattle.fits.specs.flags.Fitted.{flag, Fitted}
 
 -- the records passed their tests, and the index has their types and their sorts, no more than the table has room for
-pub record Listed (file index : List ℕ) (types sorts : ℕ) (rs : List Record) : Type 0 where
+pub record TypesAndSorts (file index : List ℕ) (types sorts : ℕ) (rs : List Record) : Type 0 where
   pub passed : Passed rs
   pub type-bytes : (i : ℕ) → Bytes (getD (payloads type rs) i [])
   pub sort-bytes : (i : ℕ) → Bytes (getD (payloads sort rs) i [])
@@ -79,7 +79,7 @@ module _ (file index : List ℕ) where
   -- the table with the row of type t, where it had the rows before
   abbrev pub FillsRow : ℕ → ℕ → List ℕ → List ℕ → Type 0
   FillsRow sorts t old fit =
-      (types : ℕ) (rs : List Record) → Listed file index types sorts rs → t < types → Fitted old t sorts rs → Fitted fit (t + 1) sorts rs
+      (types : ℕ) (rs : List Record) → TypesAndSorts file index types sorts rs → t < types → Fitted old t sorts rs → Fitted fit (t + 1) sorts rs
 
   -- the same, where two tables have the numbers of the sorts that each sort goes from and to
   abbrev pub ReadsRow : List ℕ → List ℕ → ℕ → ℕ → List ℕ → List ℕ → Type 0
@@ -88,7 +88,7 @@ module _ (file index : List ℕ) where
 
   -- the table of all types
   abbrev pub Fills : ℕ → ℕ → List ℕ → Type 0
-  Fills types sorts fit = (rs : List Record) → Listed file index types sorts rs → Fitted fit types sorts rs
+  Fills types sorts fit = (rs : List Record) → TypesAndSorts file index types sorts rs → Fitted fit types sorts rs
 
 -- the row of type t, where it is a state
 abbrev pub FillsState : ℕ → ℕ → List ℕ → List ℕ → Type 0
@@ -96,8 +96,8 @@ FillsState sorts t old fit =
     (file index : List ℕ) (place len : ℕ) → TypeThere file index t place len → len ≡ 1 → FillsRow file index sorts t old fit
 
 -- what is known of type t, an arrow, where a table has the rows before it and two have the numbers of the sorts
-pub record Known (file froms tos : List ℕ) (sorts t place len : ℕ) (old index : List ℕ) (types : ℕ) (rs : List Record) : Type 0 where
-  pub listed : Listed file index types sorts rs
+pub record KnownRow (file froms tos : List ℕ) (sorts t place len : ℕ) (old index : List ℕ) (types : ℕ) (rs : List Record) : Type 0 where
+  pub listed : TypesAndSorts file index types sorts rs
   pub there : TypeThere file index t place len
   pub no-state : len ≡ 1 → ⊥
   pub froms-there : SortWords file index 0 sorts froms
@@ -108,4 +108,4 @@ pub record Known (file froms tos : List ℕ) (sorts t place len : ℕ) (old inde
 -- the row of type t, where it is an arrow
 abbrev pub FillsArrow : List ℕ → List ℕ → List ℕ → ℕ → ℕ → ℕ → ℕ → List ℕ → List ℕ → Type 0
 FillsArrow file froms tos sorts t place len old fit =
-    (index : List ℕ) (types : ℕ) (rs : List Record) → Known file froms tos sorts t place len old index types rs → Fitted fit (t + 1) sorts rs
+    (index : List ℕ) (types : ℕ) (rs : List Record) → KnownRow file froms tos sorts t place len old index types rs → Fitted fit (t + 1) sorts rs

@@ -15,10 +15,10 @@ use Rattle.index.specs.entries.Index.{Indexed}
 use Rattle.index.proofs.entries.Stays.{indexed-same}
 use Rattle.index.specs.enter.Entering.{stored}
 use Rattle.index.proofs.enter.Storing.{stored-length, stored-here, stored-other}
-use Rattle.goals.specs.goals.Goals.{Goal, Listed, typeOfBinding, goalBase, ownBase, Goals, ReadsGoal, Entered, ReadsEntered, FillsGoals, FillsOwns}
+use Rattle.goals.specs.goals.Goals.{Goal, TypesListed, typeOfBinding, goalBase, ownBase, Goals, ReadsGoal, Entered, ReadsEntered, FillsGoals, FillsOwns}
 use Rattle.goals.proofs.goals.Goals.{goal-below, arrow-record, result-there, binding-there}
 
-listed-same : {file before index : List ℕ} {n : ℕ} {rs : List Record} → ((i : ℕ) → i < goalBase → getD index i 0 ≡ getD before i 0) → Listed file before n rs → Listed file index n rs
+listed-same : {file before index : List ℕ} {n : ℕ} {rs : List Record} → ((i : ℕ) → i < goalBase → getD index i 0 ≡ getD before i 0) → TypesListed file before n rs → TypesListed file index n rs
 listed-same same w = record { passed = w .passed; bytes = w .bytes; there = indexed-same (λ i h. same (1120 + i) (omega (arith, w .few))) (w .there); few = w .few }
 
 -- The types.
@@ -31,8 +31,8 @@ pub record GoalsTo (file before : List ℕ) (n t : ℕ) (index : List ℕ) : Typ
   pub upTo : t ≤ n
   pub long : length index ≡ length before
   pub stays : (i : ℕ) → i < goalBase → getD index i 0 ≡ getD before i 0
-  pub goals : (rs : List Record) → Listed file before n rs → 6498 ≤ length before → Entered index n rs t
-  pub results : (rs : List Record) → Listed file before n rs → 6498 ≤ length before → (i : ℕ) → i < t → (a : Tys) (τ : Ty) → Goal rs n i (arrow a τ) → Goal rs n (getD index (5474 + i) 0) τ
+  pub goals : (rs : List Record) → TypesListed file before n rs → 6498 ≤ length before → Entered index n rs t
+  pub results : (rs : List Record) → TypesListed file before n rs → 6498 ≤ length before → (i : ℕ) → i < t → (a : Tys) (τ : Ty) → Goal rs n i (arrow a τ) → Goal rs n (getD index (5474 + i) 0) τ
 
 pub goals-none : {file before : List ℕ} {n : ℕ} → n ≤ 1024 → GoalsTo file before n 0 before
 goals-none h = record { few = h; upTo = omega arith; long = refl; stays = λ i l. refl; goals = λ rs w l i k. absurd (omega arith); results = λ rs w l i k. absurd (omega arith) }
@@ -56,7 +56,7 @@ module _ {file before : List ℕ} {n t : ℕ} {index : List ℕ} (so : GoalsTo f
       both : (j : ℕ) → (j ≡ 4450 + t → ⊥) → (j ≡ 5474 + t → ⊥) → getD last j 0 ≡ getD index j 0
       both j a b = ap (λ l. getD l j 0) el ∙ stored-other next (5474 + t) result j b ∙ ap (λ l. getD l j 0) en ∙ stored-other index (4450 + t) goal j a
 
-      goal-at : (rs : List Record) → Listed file before n rs → 6498 ≤ length before → (i : ℕ) → i < t + 1 → Dec (i ≡ t) → Goal rs n (getD last (4450 + i) 0) (getD (typesOf rs) i (state 0))
+      goal-at : (rs : List Record) → TypesListed file before n rs → 6498 ≤ length before → (i : ℕ) → i < t + 1 → Dec (i ≡ t) → Goal rs n (getD last (4450 + i) 0) (getD (typesOf rs) i (state 0))
       goal-at rs w l i k (no z) = subst (λ x. Goal rs n x (getD (typesOf rs) i (state 0))) (sym (both (4450 + i) (λ e. z (omega arith)) (λ e. omega (arith, so .few)))) (so .goals rs w l i (let y = z in omega arith))
       goal-at rs w l i k (yes z) =
           let g = is-goal .goal rs (listed-same (so .stays) w) h in
@@ -65,7 +65,7 @@ module _ {file before : List ℕ} {n t : ℕ} {index : List ℕ} (so : GoalsTo f
           ap (λ x. getD x (4450 + t) 0) el ∙ stored-other next (5474 + t) result (4450 + t) (λ e. omega (arith, so .few)) ∙ ap (λ x. getD x (4450 + t) 0) en ∙ stored-here index (4450 + t) goal (omega arith) (omega (arith, so .long, so .few)) in
           subst (λ j. Goal rs n (getD last (4450 + j) 0) (getD (typesOf rs) j (state 0))) (sym z) (subst (λ x. Goal rs n x (getD (typesOf rs) t (state 0))) (sym e) g)
 
-      result-at : (rs : List Record) → Listed file before n rs → 6498 ≤ length before → (i : ℕ) → i < t + 1 → Dec (i ≡ t) → (a : Tys) (τ : Ty) → Goal rs n i (arrow a τ) → Goal rs n (getD last (5474 + i) 0) τ
+      result-at : (rs : List Record) → TypesListed file before n rs → 6498 ≤ length before → (i : ℕ) → i < t + 1 → Dec (i ≡ t) → (a : Tys) (τ : Ty) → Goal rs n i (arrow a τ) → Goal rs n (getD last (5474 + i) 0) τ
       result-at rs w l i k (no z) a τ x = subst (λ y. Goal rs n y τ) (sym (both (5474 + i) (λ e. omega (arith, so .few)) (λ e. z (omega arith)))) (so .results rs w l i (let y = z in omega arith) a τ x)
       result-at rs w l i k (yes z) a τ x =
           let g = result-there payload ep m result em is-result rs (listed-same (so .stays) w) (so .goals rs w l) a τ (subst (λ j. Goal rs n j (arrow a τ)) z x) in
@@ -96,7 +96,7 @@ pub record OwnsTo (file before : List ℕ) (n bindings b : ℕ) (index : List �
   pub upTo : b ≤ bindings
   pub long : length index ≡ length before
   pub stays : (i : ℕ) → i < ownBase → getD index i 0 ≡ getD before i 0
-  pub owns : (rs : List Record) → Listed file before n rs → Goals before n rs → Indexed file before Kind.binding bindings rs → 7522 ≤ length before → (i : ℕ) → i < b → Goal rs n (getD index (6498 + i) 0) (getD (typesOf rs) (typeOfBinding rs i) (state 0))
+  pub owns : (rs : List Record) → TypesListed file before n rs → Goals before n rs → Indexed file before Kind.binding bindings rs → 7522 ≤ length before → (i : ℕ) → i < b → Goal rs n (getD index (6498 + i) 0) (getD (typesOf rs) (typeOfBinding rs i) (state 0))
 
 pub owns-none : {file before : List ℕ} {n bindings : ℕ} → bindings ≤ 1024 → OwnsTo file before n bindings 0 before
 owns-none h = record { few = h; upTo = omega arith; long = refl; stays = λ i l. refl; owns = λ rs w there ix l i k. absurd (omega arith) }
@@ -115,7 +115,7 @@ module _ {file before : List ℕ} {n bindings b : ℕ} {index : List ℕ} (so : 
       other : (j : ℕ) → (j ≡ 6498 + b → ⊥) → getD last j 0 ≡ getD index j 0
       other j ne = ap (λ l. getD l j 0) el ∙ stored-other index (6498 + b) own j ne
 
-      own-at : (rs : List Record) → Listed file before n rs → Goals before n rs → Indexed file before Kind.binding bindings rs → 7522 ≤ length before → (i : ℕ) → i < b + 1 → Dec (i ≡ b) → Goal rs n (getD last (6498 + i) 0) (getD (typesOf rs) (typeOfBinding rs i) (state 0))
+      own-at : (rs : List Record) → TypesListed file before n rs → Goals before n rs → Indexed file before Kind.binding bindings rs → 7522 ≤ length before → (i : ℕ) → i < b + 1 → Dec (i ≡ b) → Goal rs n (getD last (6498 + i) 0) (getD (typesOf rs) (typeOfBinding rs i) (state 0))
       own-at rs w there ix l i k (no z) = subst (λ x. Goal rs n x (getD (typesOf rs) (typeOfBinding rs i) (state 0))) (sym (other (6498 + i) (λ e. z (omega arith)))) (so .owns rs w there ix l i (let y = z in omega arith))
       own-at rs w there ix l i k (yes z) =
           let c : length (payloads Kind.binding rs) ≡ bindings = sym (count-payloads Kind.binding rs) ∙ ix .counted in

@@ -21,7 +21,7 @@ use Rattle.casefile.proofs.Repeats.{getD-mem}
 use Rattle.casefile.proofs.Steps.{words-step, words-done}
 use Rattle.casefile.proofs.TypeNumbers.{Shape, a-state, an-arrow}
 use Rattle.casefile.proofs.TypeTable.{count-payloads, type-shape, type-made, types-distinct}
-use Rattle.goals.specs.goals.Goals.{Goal, of-state, of-arrow, Listed, Typed, ReadsGoal, Entered, ReadsEntered}
+use Rattle.goals.specs.goals.Goals.{Goal, of-state, of-arrow, TypesListed, Typed, ReadsGoal, Entered, ReadsEntered}
 
 -- the numbers of a payload, and how many bytes they take
 words-length : (p : List ℕ) (i : ℕ) → length (words (drop i p)) ≡ (length p - i) / 2
@@ -81,7 +81,7 @@ type-short k e = go (eqb k 1) (leb 2 k) (leb k 34) (eqb (k % 2) 0) refl refl (no
     go false true false d f g h = let z : _≡_ {A = ℕ} 0 1 = cc in absurd (omega arith)
     go false false c d f g h = let z : _≡_ {A = ℕ} 0 1 = cc in absurd (omega arith)
 
-module _ {file index : List ℕ} {n : ℕ} {rs : List Record} (w : Listed file index n rs) where
+module _ {file index : List ℕ} {n : ℕ} {rs : List Record} (w : TypesListed file index n rs) where
   pub type-count : length (payloads Kind.type rs) ≡ n
   type-count = sym (count-payloads Kind.type rs) ∙ w .there .counted
 
@@ -170,7 +170,7 @@ module _ {file index : List ℕ} {n t : ℕ} where
               by rs w k (type-shape (w .passed) (w .bytes) t (omega arith));
         }
       where
-        by : (rs : List Record) (w : Listed file index n rs) → t < n → Shape t (getD (payloads Kind.type rs) t []) → Goal rs n t (getD (typesOf rs) t (state 0))
+        by : (rs : List Record) (w : TypesListed file index n rs) → t < n → Shape t (getD (payloads Kind.type rs) t []) → Goal rs n t (getD (typesOf rs) t (state 0))
         by rs w k (a-state q e) = let l = length-there w t k start es in let m = ap length e in absurd (ne (omega arith))
         by rs w k (an-arrow r ms x y hr hms asc pairs) =
             let m = arrow-made w t r ms k x y in
@@ -184,7 +184,7 @@ module _ {file index : List ℕ} {n t : ℕ} where
               by rs w k (type-shape (w .passed) (w .bytes) t (omega arith));
         }
       where
-        by : (rs : List Record) (w : Listed file index n rs) → t < n → Shape t (getD (payloads Kind.type rs) t []) → Goal rs n (n + q) (getD (typesOf rs) t (state 0))
+        by : (rs : List Record) (w : TypesListed file index n rs) → t < n → Shape t (getD (payloads Kind.type rs) t []) → Goal rs n (n + q) (getD (typesOf rs) t (state 0))
         by rs w k (a-state p e) =
             let l = length-there w t k start es in
             let f : byte file (start + 0) ≡ byte (getD (payloads Kind.type rs) t []) 0 = field-there w t k start es 1 0 (omega arith) in
@@ -205,7 +205,7 @@ module _ {file index : List ℕ} {n entered t r : ℕ} where
 
 -- the result of an arrow: the type whose number its record has first
 pub result-there : {file index : List ℕ} {n entered g : ℕ} (start : ℕ) → start ≡ getD index (1120 + g) 0 → (m r : ℕ) → m ≡ word file start → ReadsEntered file index n entered m r
-    → (rs : List Record) → Listed file index n rs → Entered index n rs entered → (a : Tys) (τ : Ty) → Goal rs n g (arrow a τ) → Goal rs n r τ
+    → (rs : List Record) → TypesListed file index n rs → Entered index n rs entered → (a : Tys) (τ : Ty) → Goal rs n g (arrow a τ) → Goal rs n r τ
 result-there {file} {index} {n} {entered} {g} start es m r em is rs w there a τ x =
     let k = arrow-record w g a τ x in
     let z : start + 0 ≡ start = omega arith in
@@ -213,7 +213,7 @@ result-there {file} {index} {n} {entered} {g} start es m r em is rs w there a τ
     subst (Goal rs n r) (ap (λ i. getD (typesOf rs) i (state 0)) f ∙ k .result-is) (is .goal rs w there (omega (arith, k .result-below)))
 
 -- the records of types, with no tables
-pub listed : {file index : List ℕ} {n : ℕ} {rs : List Record} → Typed file index n rs → Listed file index n rs
+pub listed : {file index : List ℕ} {n : ℕ} {rs : List Record} → Typed file index n rs → TypesListed file index n rs
 listed w = record { passed = w .passed; bytes = w .bytes; there = w .there; few = w .few }
 
 -- a goal's number is below 65,535

@@ -18,7 +18,7 @@ pub data Goal (rs : List Record) (n g : ℕ) (τ : Ty) : Type 0 where
   of-arrow : (a : Tys) (r : Ty) → g < n → getD (typesOf rs) g (state 0) ≡ arrow a r → τ ≡ arrow a r → Goal rs n g τ
 
 -- the records passed their tests, and the index has their types
-pub record Listed (file index : List ℕ) (n : ℕ) (rs : List Record) : Type 0 where
+pub record TypesListed (file index : List ℕ) (n : ℕ) (rs : List Record) : Type 0 where
   pub passed : Passed rs
   pub bytes : (i : ℕ) → Bytes (getD (payloads Kind.type rs) i [])
   pub there : Indexed file index Kind.type n rs
@@ -58,7 +58,7 @@ pub record Typed (file index : List ℕ) (n : ℕ) (rs : List Record) : Type 0 w
 
 -- by the records: r is the goal that type t is
 pub record ReadsGoal (file index : List ℕ) (n : ℕ) (t r : ℕ) : Type 0 where
-  pub goal : (rs : List Record) → Listed file index n rs → t < n → Goal rs n r (getD (typesOf rs) t (state 0))
+  pub goal : (rs : List Record) → TypesListed file index n rs → t < n → Goal rs n r (getD (typesOf rs) t (state 0))
 
 -- the index has the first of the types as goals
 abbrev pub Entered : List ℕ → ℕ → List Record → ℕ → Type 0
@@ -66,19 +66,19 @@ Entered index n rs entered = (i : ℕ) → i < entered → Goal rs n (getD index
 
 -- by the index, where it has the first of the types as goals, and by the records: r is the goal that type t is
 pub record ReadsEntered (file index : List ℕ) (n entered : ℕ) (t r : ℕ) : Type 0 where
-  pub goal : (rs : List Record) → Listed file index n rs → Entered index n rs entered → t < n → Goal rs n r (getD (typesOf rs) t (state 0))
+  pub goal : (rs : List Record) → TypesListed file index n rs → Entered index n rs entered → t < n → Goal rs n r (getD (typesOf rs) t (state 0))
 
 -- the index after goals and results were entered: all up to them is as it was
 pub record FillsGoals (file before : List ℕ) (n : ℕ) (index : List ℕ) : Type 0 where
   pub long : length index ≡ length before
   pub stays : (i : ℕ) → i < goalBase → getD index i 0 ≡ getD before i 0
-  pub goals : (rs : List Record) → Listed file before n rs → 6498 ≤ length before → Goals index n rs
+  pub goals : (rs : List Record) → TypesListed file before n rs → 6498 ≤ length before → Goals index n rs
 
 -- the index after the types of the bindings were entered
 pub record FillsOwns (file before : List ℕ) (n bindings : ℕ) (index : List ℕ) : Type 0 where
   pub long : length index ≡ length before
   pub stays : (i : ℕ) → i < ownBase → getD index i 0 ≡ getD before i 0
-  pub owns : (rs : List Record) → Listed file before n rs → Goals before n rs → Indexed file before Kind.binding bindings rs → bindings ≤ 1024 → 7522 ≤ length before → Owns index n rs
+  pub owns : (rs : List Record) → TypesListed file before n rs → Goals before n rs → Indexed file before Kind.binding bindings rs → bindings ≤ 1024 → 7522 ≤ length before → Owns index n rs
 
 -- by the tables: r is the goal that type t is
 pub record IsGoal (index : List ℕ) (n : ℕ) (t r : ℕ) : Type 0 where

@@ -17,12 +17,12 @@ use Rattle.walk.specs.declared.walk.Walked.{Walked}
 use Rattle.walk.specs.declared.walk.Walked.the-variants as walked
 use Rattle.intake.specs.declared.evidence.Case.{Case}
 use Rattle.intake.specs.declared.evidence.Case.the-variants as is
-use Rattle.intake.specs.intake.Intake.{caseAs, Tables, Leaves, Taken}
+use Rattle.intake.specs.intake.Intake.{caseAs, Tables, Leaves, Examined}
 use Rattle.intake.specs.evidence.Whole.{WholeEnds, WholeTested, TestsWhole}
 
 module _ (file : List ℕ) (flags : ℕ) (index lens counts ends : List ℕ) where
   -- 1
-  pub taken-long : 60000 < length file → Taken file flags index lens counts ends (is.Refused 1 0)
+  pub taken-long : 60000 < length file → Examined file flags index lens counts ends (is.Refused 1 0)
   unfolding caseAs Leaves caseOf tooLong
   taken-long h = record { is-case = sym (simp (lt-ltb 60000 (length file) h)); tables = tt }
 
@@ -32,12 +32,12 @@ module _ (file : List ℕ) (flags : ℕ) (index lens counts ends : List ℕ) whe
     case-is = simp (le-ltb 60000 (length file) short)
 
     -- 2 to 7
-    pub taken-refused : (n p : ℕ) (w : Walked) → w ≡ walked.Refused n p → WalkEnds file index lens counts w → Taken file flags index lens counts ends (is.Refused n p)
+    pub taken-refused : (n p : ℕ) (w : Walked) → w ≡ walked.Refused n p → WalkEnds file index lens counts w → Examined file flags index lens counts ends (is.Refused n p)
     unfolding WalkEnds caseAs Leaves
     taken-refused n p w e h = record { is-case = sym (case-is ∙ (let k : WalkEnds file index lens counts (walked.Refused n p) = rw e at h in k flags)); tables = tt }
 
     -- 8 to 12, or none
-    pub taken-whole : (w : Walked) → w ≡ walked.Read → WalkEnds file index lens counts w → (before : List ℕ) → 15000 ≤ length before → (r : Case) → TestsWhole file index counts flags before ends r → Taken file flags index lens counts ends r
+    pub taken-whole : (w : Walked) → w ≡ walked.Read → WalkEnds file index lens counts w → (before : List ℕ) → 15000 ≤ length before → (r : Case) → TestsWhole file index counts flags before ends r → Examined file flags index lens counts ends r
     unfolding WalkEnds WholeEnds caseAs Leaves unlessRefused acceptedCase
     taken-whole w e h before room r tests = by r (tested .verdict)
       where
@@ -53,7 +53,7 @@ module _ (file : List ℕ) (flags : ℕ) (index lens counts ends : List ℕ) whe
         tables : refuseWhole rs flags ≡ none → Tables file index lens counts ends
         tables f = record { passed = all .passed; known = all .known; ends-are = tested .ends-are f }
 
-        by : (r : Case) → WholeEnds (listed (recordsOf file)) flags r → Taken file flags index lens counts ends r
+        by : (r : Case) → WholeEnds (listed (recordsOf file)) flags r → Examined file flags index lens counts ends r
         by (is.Refused n p) f = record { is-case = sym (case-is ∙ all .left flags ∙ ap (λ z. unlessRefused z (acceptedCase rs (payloads Kind.path rs))) f); tables = tt }
         by is.Bindings (f, g) = record { is-case = sym (case-is ∙ all .left flags ∙ ap (λ z. unlessRefused z (acceptedCase rs (payloads Kind.path rs))) f ∙ ap (acceptedCase rs) g); tables = tables f }
         by is.Path (f, g) = record { is-case = sym (case-is ∙ all .left flags ∙ ap (λ z. unlessRefused z (acceptedCase rs (payloads Kind.path rs))) f ∙ first-path (payloads Kind.path rs) (let a = count-payloads Kind.path rs in omega arith)); tables = (tables f, g) }

@@ -32,6 +32,6 @@ Leaves file index lens counts ends Bindings = Tables file index lens counts ends
 Leaves file index lens counts ends Path = Tables file index lens counts ends × (0 < count Kind.path (listed (recordsOf file)))
 
 -- the promise of the intake: the case of the definitions, and its tables
-pub record Taken (file : List ℕ) (flags : ℕ) (index lens counts ends : List ℕ) (r : Case) : Type 0 where
+pub record Examined (file : List ℕ) (flags : ℕ) (index lens counts ends : List ℕ) (r : Case) : Type 0 where
   pub is-case : caseAs file r ≡ caseOf file flags
   pub tables : Leaves file index lens counts ends r

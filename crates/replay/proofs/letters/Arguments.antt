@@ -11,7 +11,7 @@ use lib.Seq.{getD-take}
 use Rattle.scheme.specs.Terms.{Term, Terms, []ᵗ, _∷ᵗ_, countᵗ, termAt}
 use Rattle.scheme.specs.Replay.{argument, descend}
 use Rattle.transitions.specs.table.Moves.{targetsIn}
-use Rattle.replay.specs.letters.Letters.{IsTarget}
+use Rattle.replay.specs.letters.Letters.{IsTargetOf}
 
 -- there are both
 argument-some : (i : ℕ) (ts : Terms) (qs : List ℕ) (d : Term) → i < countᵗ ts → i < length qs → argument i ts qs ≡ some (record { term = termAt ts i d; state = getD qs i 0 })
@@ -69,21 +69,21 @@ module _ (i : ℕ) (ts : Terms) (row : List ℕ) (arity : ℕ) where
 
 module _ {row : List ℕ} {arity count i : ℕ} where
   -- no target, because the letter leads nowhere
-  no-way : ((ts : Terms) → countᵗ ts ≡ count → length row ≡ 4 → descend i ts (targetsIn arity row) ≡ none) → IsTarget row arity count i 256
+  no-way : ((ts : Terms) → countᵗ ts ≡ count → length row ≡ 4 → descend i ts (targetsIn arity row) ≡ none) → IsTargetOf row arity count i 256
   no-way w = record { goes = λ e. absurd (e refl); stops = λ e. w }
 
-  pub target-none : getD row 0 0 ≡ 255 → IsTarget row arity count i 256
+  pub target-none : getD row 0 0 ≡ 255 → IsTargetOf row arity count i 256
   target-none h = no-way (λ ts c l. stops i ts row arity h)
 
   module _ (there : getD row 0 0 ≡ 255 → ⊥) where
-    pub target-past : count ≤ i → IsTarget row arity count i 256
+    pub target-past : count ≤ i → IsTargetOf row arity count i 256
     target-past h = no-way (λ ts c l. goes i ts row arity there ∙ no-argument i ts (take arity row) (omega arith))
 
-    pub target-over : arity ≤ i → IsTarget row arity count i 256
+    pub target-over : arity ≤ i → IsTargetOf row arity count i 256
     target-over h = no-way (λ ts c l. goes i ts row arity there ∙ no-target i ts (take arity row) (let k = take-few arity row in omega arith))
 
-    pub target-four : 4 ≤ i → IsTarget row arity count i 256
+    pub target-four : 4 ≤ i → IsTargetOf row arity count i 256
     target-four h = no-way (λ ts c l. goes i ts row arity there ∙ no-target i ts (take arity row) (let k = take-short arity row in omega arith))
 
-    pub target-there : i < count → i < arity → i < 4 → (r : ℕ) → r ≡ getD row i 0 → r < 256 → IsTarget row arity count i r
+    pub target-there : i < count → i < arity → i < 4 → (r : ℕ) → r ≡ getD row i 0 → r < 256 → IsTargetOf row arity count i r
     target-there h k m r is byte = record { goes = λ e. (there, h, k, m, sym is); stops = λ e. absurd (omega arith) }

@@ -31,7 +31,7 @@ use Rattle.closures.specs.fronts.Fronts.{argumentsᵗ, Gatherable, IsFront, Gat
 use Rattle.closures.specs.declared.fronts.Front.{Front}
 use Rattle.transitions.specs.rows.Rows.{IsRow, IsArity}
 use Rattle.transitions.proofs.rows.Rows.{constructor-count}
-use Rattle.replay.specs.letters.Letters.{Replaying, Holding, LeadsTo, Ready, Unfolds, IsTarget, Descends, Follows}
+use Rattle.replay.specs.letters.Letters.{Replaying, Holding, LeadsTo, Ready, Unfolds, IsTargetOf, Descends, Follows}
 use Rattle.replay.specs.declared.letters.Held.{Held}
 use Rattle.replay.specs.declared.letters.Step.{Step}
 use Rattle.replay.specs.declared.letters.Step.the-variants.{Lost, TooLarge, At}
@@ -197,7 +197,7 @@ module _ {file index : List ℕ} {constructors : ℕ} {row cells : List ℕ} {he
             ap (λ u. Replay.follow (automatonOf rs) (planOf rs) (suc i) u q) (h .is) ∙ not-descended (automatonOf rs) (planOf rs) (held .tag) (held .number) (h .arguments) q i (h .head) (h .head-is) k;
       }
 
-  module _ (k : held .tag ≡ 0) (arity : ℕ) (is-arity : IsArity file index constructors (held .number) arity) (r : ℕ) (is-target : IsTarget row arity (held .count) i r) where
+  module _ (k : held .tag ≡ 0) (arity : ℕ) (is-arity : IsArity file index constructors (held .number) arity) (r : ℕ) (is-target : IsTargetOf row arity (held .count) i r) where
     -- what the letter leads to, by the row
     by-row : (rules : ℕ) (table : List (List (List ℕ))) (rs : List Record) → Replaying file index rules constructors table rs → IsRow table constructors (held .state) (held .number) row → (t : Term) (q : ℕ) (h : Holding file cells top held t q)
         → Replay.follow (automatonOf rs) (planOf rs) (suc i) t q ≡ Replay.descend i (h .arguments) (targetsIn arity row)

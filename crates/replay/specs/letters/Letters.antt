@@ -68,7 +68,7 @@ pub record Unfolds (file index : List ℕ) (rules : ℕ) (cells cells′ : List 
       → LeadsTo file cells′ top 0 (Replay.follow (automatonOf rs) (planOf rs) 0 t q) r
 
 -- r is the target for argument i, 256 where there is none
-pub record IsTarget (row : List ℕ) (arity count i r : ℕ) : Type 0 where
+pub record IsTargetOf (row : List ℕ) (arity count i r : ℕ) : Type 0 where
   pub goes : (r ≡ 256 → ⊥) → (getD row 0 0 ≡ 255 → ⊥) × (i < count) × (i < arity) × (i < 4) × (getD row i 0 ≡ r)
   pub stops : r ≡ 256 → (ts : Terms) → countᵗ ts ≡ count → length row ≡ 4 → Replay.descend i ts (targetsIn arity row) ≡ none
 

@@ -23,7 +23,7 @@ use Rattle.casefile.proofs.Payloads.{payloads-append, arity-small}
 use Rattle.casefile.proofs.TypeTable.{count-payloads}
 use Rattle.index.specs.entries.Index.{base, Indexed}
 use Rattle.sorts.specs.codes.Sorted.{SortArrays, TreeCodes}
-use Rattle.bodies.specs.Bodies.{Setting}
+use Rattle.bodies.specs.Bodies.{BodyTables}
 use Rattle.sorts.proofs.codes.FileSorts.{sort-arrays}
 use Rattle.casefile.proofs.Cells.{cells-length}
 use Rattle.rules.specs.rules.Rules.{Filled, Filed}
@@ -250,7 +250,7 @@ module _ {file index : List ℕ} {sorts constructors nonterminals rules : ℕ} {
       let h′ : f < length (payloads nonterminal rs) = (let l = length-map (payloads nonterminal rs) (λ (p : List ℕ). word p 0) in omega arith) in
       subst (λ n. n < length (sortsOf rs)) (sym (getD-map-in (λ (p : List ℕ). word p 0) (payloads nonterminal rs) f 0 [] h′)) (sort-listed (fi .passed) f h′)
 
-  setting-at : (f : ℕ) → f < rules → Setting (sortsOf rs) (aritiesOf rs) (numbersOf rs) (ruleOf rs f) froms tos trees arities signatures (getD signatures f 0)
+  setting-at : (f : ℕ) → f < rules → BodyTables (sortsOf rs) (aritiesOf rs) (numbersOf rs) (ruleOf rs f) froms tos trees arities signatures (getD signatures f 0)
   setting-at f h =
       let h′ : f < nonterminals = (let l = fi .few-rules in omega arith) in
       record {

@@ -13,7 +13,7 @@ use Rattle.casefile.specs.Kinds.{nonterminal, rule, payloads}
 use Rattle.casefile.specs.Tables.{sortsOf, aritiesOf, signaturesOf, nodesOf, firstTerm}
 use Rattle.casefile.specs.Refusals.{wrongBody}
 use Rattle.index.specs.entries.Index.{Indexed}
-use Rattle.bodies.specs.Bodies.{Setting}
+use Rattle.bodies.specs.Bodies.{BodyTables}
 
 -- the nodes of so many bodies, four bytes a node
 unfoldable pub nodesIn : List (List ℕ) → ℕ
@@ -46,7 +46,7 @@ pub record Judged (file index froms tos trees arities signatures : List ℕ) (ru
   pub few : rules ≤ 256
   pub some-nodes : (f : ℕ) → f < rules → 4 ≤ length (ruleOf rs f)
   pub few-nodes : (f : ℕ) → f < rules → length (ruleOf rs f) ≤ 1024
-  pub setting : (f : ℕ) → f < rules → Setting (sortsOf rs) (aritiesOf rs) (numbersOf rs) (ruleOf rs f) froms tos trees arities signatures (getD signatures f 0)
+  pub setting : (f : ℕ) → f < rules → BodyTables (sortsOf rs) (aritiesOf rs) (numbersOf rs) (ruleOf rs f) froms tos trees arities signatures (getD signatures f 0)
   pub sort-is : (f : ℕ) → f < rules → getD (sortsOf rs) (getD signatures f 0) o ≡ getD (signaturesOf rs) f o
 
 -- rule f was read: r is the number of its nodes where its body is accepted, and then `after` says where each subterm ends; else r is 0

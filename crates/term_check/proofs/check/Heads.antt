@@ -32,7 +32,7 @@ use Rattle.memo.proofs.Remembering.{faithful-yes, faithful-no, faithful-learnt,
 use Rattle.arrows.specs.argument_goals.Wants.{HeadType, of-row}
 use Rattle.head_types.specs.candidates.Candidates.{headIs}
 use Rattle.term_check.specs.check.Nodes.{Placed}
-use Rattle.term_check.specs.declared.check.Front.{Front}
+use Rattle.term_check.specs.declared.check.HeadNode.{HeadNode}
 use Rattle.term_check.specs.check.Checking.{At, AllAt, Body, ns, width, Setting, hasIn, Right, Remembers, LearntOrNot, ChecksTerm, ChecksArgs}
 use Rattle.term_check.proofs.check.Places.{at-inside, at-head}
 use Rattle.term_check.proofs.check.Arguments.{keeps-all}
@@ -165,7 +165,7 @@ module _ (p : List ℕ) (i tag number : ℕ) (is-tag : tag ≡ field 1 p (i * 4)
 
 -- the head of a node that has no constructor, and the group of its bindings
 module _ (x : Body) (i : ℕ) where
-  pub placed-head : (a : Front) → (a .tag ≡ 0 → ⊥) → Placed (x .body) i a → (rs : List Record) (τ : Ty) → Setting x rs τ → headOf (cellAt (x .body) i) ≡ headIs (eqb (a .tag) 1) (a .number)
+  pub placed-head : (a : HeadNode) → (a .tag ≡ 0 → ⊥) → Placed (x .body) i a → (rs : List Record) (τ : Ty) → Setting x rs τ → headOf (cellAt (x .body) i) ≡ headIs (eqb (a .tag) 1) (a .number)
   unfolding field
   placed-head a other p rs τ s = tag-other (x .body) i (a .tag) (a .number) (p .tag-is) (p .number-is) other (let t = s .tags i (p .inside) in let e = p .tag-is in omega arith)
 

@@ -16,7 +16,7 @@ use Rattle.casefile.proofs.Cells.{cellAt, nodeAt, nodes-length, nodes-drop}
 use Rattle.records.specs.cursor.Reading.{partOf}
 use Rattle.records.proofs.cursor.Reading.{part-of, part-out}
 use Rattle.term_check.specs.check.Nodes.{Placed, IsNode}
-use Rattle.term_check.specs.declared.check.Front.{Front}
+use Rattle.term_check.specs.declared.check.HeadNode.{HeadNode}
 use Rattle.term_check.specs.check.Checking.{At, AllAt}
 
 -- a term has a node
@@ -60,7 +60,7 @@ module _ (file : List ℕ) (start len : ℕ) where
     part-get k l = ap (λ p. getD p k 0) (part-of file start len h) ∙ getD-take len (drop start file) k 0 l ∙ getD-drop start file k 0
 
     -- a node by its four bytes
-    pub placed-at : (i : ℕ) (a : Front) → i < len / 4 → a .tag ≡ getD file (start + i * 4) 0 → a .number ≡ getD file (start + i * 4 + 1) 0 + 256 * getD file (start + i * 4 + 2) 0 → a .count ≡ getD file (start + i * 4 + 3) 0 → a .count < 256 → a .first ≡ suc i
+    pub placed-at : (i : ℕ) (a : HeadNode) → i < len / 4 → a .tag ≡ getD file (start + i * 4) 0 → a .number ≡ getD file (start + i * 4 + 1) 0 + 256 * getD file (start + i * 4 + 2) 0 → a .count ≡ getD file (start + i * 4 + 3) 0 → a .count < 256 → a .first ≡ suc i
         → Placed (partOf file start len) i a
     unfolding field
     placed-at i a l is-tag is-number is-count few is-first =
@@ -83,10 +83,10 @@ module _ (file : List ℕ) (start len : ℕ) where
 pub part-far : (file : List ℕ) (start len i : ℕ) → length file < start + len → length (partOf file start len) / 4 ≤ i
 part-far file start len i h = let e : length (partOf file start len) ≡ 0 = ap length (part-out file start len h) in omega arith
 
-pub node-none : (file : List ℕ) (start len i : ℕ) (r : Front) → r .there ≡ false → length (partOf file start len) / 4 ≤ i → IsNode (partOf file start len) i r
+pub node-none : (file : List ℕ) (start len i : ℕ) (r : HeadNode) → r .there ≡ false → length (partOf file start len) / 4 ≤ i → IsNode (partOf file start len) i r
 node-none file start len i r e h = record { placed = λ y. absurd (true≢false (sym y ∙ e)); past = λ y. h }
 
-pub node-some : (file : List ℕ) (start len i : ℕ) (r : Front) → r .there ≡ true → Placed (partOf file start len) i r → IsNode (partOf file start len) i r
+pub node-some : (file : List ℕ) (start len i : ℕ) (r : HeadNode) → r .there ≡ true → Placed (partOf file start len) i r → IsNode (partOf file start len) i r
 node-some file start len i r e p = record { placed = λ y. p; past = λ y. absurd (true≢false (sym e ∙ y)) }
 
 -- the first of several terms, and the others behind it

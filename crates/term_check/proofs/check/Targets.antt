@@ -5,13 +5,13 @@ use mathlib.Core.Path.{_≡_, refl}
 use mathlib.Core.Bool.{Bool, true, false}
 use mathlib.Core.List.{List}
 use lib.ListN.{getD}
-use Rattle.arrows.specs.argument_goals.Wants.{Wants, IsTarget}
+use Rattle.arrows.specs.argument_goals.Wants.{Wants, IsTargetGoal}
 use Rattle.arrows.proofs.argument_goals.Wanting.{want-target, want-second, follow-row}
 use Rattle.term_check.specs.check.Checking.{Body, ChecksTerm, ChecksArgs}
 use Rattle.term_check.proofs.check.Arguments.{Args, args-past, args-stuck, args-next, args-lacks, args-has}
 
 module _ (x : Body) {memo₀ : List ℕ} {first count : ℕ} {row memo : List ℕ} {at k : ℕ} (w : Args x memo₀ first count true 0 row memo at k 0 0) (h : k < count) where
-  module _ (target : ℕ) (is : IsTarget (x .test .types) row k target) where
+  module _ (target : ℕ) (is : IsTargetGoal (x .test .types) row k target) where
     -- no file has so many types
     pub target-past : target ≡ 65535 → ChecksArgs x memo₀ first count true 0 row memo false
     target-past e = args-past x w h (λ rs ty a τ t. let m = is .past e in omega (arith, ty .few))

@@ -27,7 +27,7 @@ use Rattle.head_types.specs.constructors.Leading.{argsHave}
 use Rattle.memo.specs.Memo.{learnt, Under, Faithful}
 use Rattle.arrows.specs.argument_goals.Wants.{HeadType}
 use Rattle.term_check.specs.check.Nodes.{Test, Placed}
-use Rattle.term_check.specs.declared.check.Front.{Front}
+use Rattle.term_check.specs.declared.check.HeadNode.{HeadNode}
 
 -- term t stands at node i
 abbrev pub At : List Node → ℕ → Term → Type 0
@@ -97,11 +97,11 @@ pub record ChecksTerm (x : Body) (memo : List ℕ) (i goal : ℕ) (after : List 
   pub answer : (rs : List Record) (τ : Ty) → Setting x rs τ → Remembers x rs τ memo → Right x rs τ i goal r
 
 -- the same for a node with a constructor in front
-abbrev pub ChecksHead : Body → List ℕ → ℕ → Front → ℕ → List ℕ → Bool → Type 0
+abbrev pub ChecksHead : Body → List ℕ → ℕ → HeadNode → ℕ → List ℕ → Bool → Type 0
 ChecksHead x memo i a goal after r = a .tag ≡ 0 → Placed (x .body) i a → ChecksTerm x memo i goal after r
 
 -- the same for a node with a nonterminal or a parameter in front
-abbrev pub ChecksChoices : Body → List ℕ → ℕ → Front → ℕ → List ℕ → Bool → Type 0
+abbrev pub ChecksChoices : Body → List ℕ → ℕ → HeadNode → ℕ → List ℕ → Bool → Type 0
 ChecksChoices x memo i a goal after r = (a .tag ≡ 0 → ⊥) → Placed (x .body) i a → ChecksTerm x memo i goal after r
 
 -- r is the answer for the arguments from a node on, where the head's type, by a row or listed, has an arrow for each

@@ -6,10 +6,10 @@ use mathlib.Core.List.{List}
 use lib.ListN.{length, getD, drop}
 use Rattle.casefile.specs.Fields.{field}
 use Rattle.records.specs.cursor.Reading.{partOf}
-use Rattle.term_check.specs.declared.check.Front.{Front}
+use Rattle.term_check.specs.declared.check.HeadNode.{HeadNode}
 
 -- a node has this tag, this number and so many arguments, and its first argument would be the node behind it
-pub record Placed (body : List ℕ) (i : ℕ) (a : Front) : Type 0 where
+pub record Placed (body : List ℕ) (i : ℕ) (a : HeadNode) : Type 0 where
   pub inside : i < length body / 4
   pub tag-is : a .tag ≡ field 1 body (i * 4)
   pub number-is : a .number ≡ field 2 body (i * 4 + 1)
@@ -18,7 +18,7 @@ pub record Placed (body : List ℕ) (i : ℕ) (a : Front) : Type 0 where
   pub first-is : a .first ≡ suc i
 
 -- r is the node with a number, if there is one
-pub record IsNode (body : List ℕ) (i : ℕ) (r : Front) : Type 0 where
+pub record IsNode (body : List ℕ) (i : ℕ) (r : HeadNode) : Type 0 where
   pub placed : r .there ≡ true → Placed body i r
   pub past : r .there ≡ false → length body / 4 ≤ i
 

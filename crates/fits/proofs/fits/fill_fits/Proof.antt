@@ -5,13 +5,13 @@ use native.Mathlib.Omega.{arith}
 use borrow.Author.Needs.{needs}
 use Rattle.casefile.specs.Records.{Record}
 use Rattle.fits.specs.flags.Fitted.{Fitted}
-use Rattle.fits.specs.fits.Filled.{Listed}
+use Rattle.fits.specs.fits.Filled.{TypesAndSorts}
 use Rattle.fits.proofs.fits.Rows.{no-type}
 use Rattle.fits.proofs.fits.fill_fits.Statement.{statement}
 use Rattle.fits.proofs.fits.fill_fits.Tie as tie
 
 abbrev Inv-loop : tie.InvT-loop
-Inv-loop file index types sorts fit₀ froms tos t₀ fit t = (t ≤ types) × ((rs : List Record) → Listed file index types sorts rs → Fitted fit t sorts rs)
+Inv-loop file index types sorts fit₀ froms tos t₀ fit t = (t ≤ types) × ((rs : List Record) → TypesAndSorts file index types sorts rs → Fitted fit t sorts rs)
 
 abbrev μ-loop : tie.MeasureT-loop
 μ-loop file index types sorts fit₀ froms tos t₀ fit t = types - t
