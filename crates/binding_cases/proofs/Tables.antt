@@ -18,11 +18,11 @@ use Rattle.scheme.specs.Acceptance.{isStart, accepts}
 use Rattle.scheme.proofs.Lists.{or-false}
 use Rattle.scheme.proofs.Flags.{chosen-kept, keptFlags-length}
 use Rattle.casefile.specs.Records.{Record}
-use Rattle.casefile.proofs.Fields.{Bytes}
+use Rattle.casefile.specs.Promises.{Bytes, Passed}
 use Rattle.casefile.specs.Kinds.{Kind, number, ofKind, count}
 use Rattle.casefile.specs.Tables.{aritiesOf, signaturesOf, typesOf, planOf, automatonOf, bindingsOf}
 use Rattle.casefile.specs.Refusals.{Test, refuse_at_when_, wrongStart, wrongBodies, misfits, refuseWhole}
-use Rattle.casefile.proofs.Passed.{Passed, first-none}
+use Rattle.casefile.proofs.Passed.{first-none}
 use Rattle.casefile.proofs.Plans.{first-both, plan-right}
 use Rattle.index.specs.entries.Index.{base, Indexed}
 use Rattle.index.specs.entries.Tests.{IsPlace}

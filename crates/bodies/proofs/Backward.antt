@@ -23,7 +23,8 @@ use Rattle.sorts.specs.codes.Sorted.{Code}
 use Rattle.bodies.specs.Bodies.{Held, Fits, ArgumentsFit, Goods, Held-from, headsBy, BodyTables, HeadCode, Room, NodeRead, NodeTaken}
 use Rattle.bodies.specs.declared.Arguments.{Arguments}
 use Rattle.sorts.proofs.codes.Codes.{code-small}
-use Rattle.casefile.proofs.Cells.{cellAt, nodeAt, nodes-length, nodes-drop}
+use Rattle.casefile.proofs.Cells.{nodeAt, nodes-length, nodes-drop}
+use Rattle.casefile.specs.Promises.{cellAt}
 
 -- a table after a store
 module _ {before after : List ℕ} {i v r : ℕ} (s : Stored before after i v r) where

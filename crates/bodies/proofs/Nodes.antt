@@ -12,7 +12,8 @@ use Rattle.casefile.specs.Fields.{field}
 use Rattle.casefile.specs.Tables.{cellsOf, headOf}
 use Rattle.casefile.specs.Refusals.{wrongCell}
 use Rattle.sorts.specs.codes.Sorted.{Code, listed, ParameterSort}
-use Rattle.casefile.proofs.Cells.{cellAt, cells-length, cells-at, cell-range}
+use Rattle.casefile.proofs.Cells.{cells-length, cells-at, cell-range}
+use Rattle.casefile.specs.Promises.{cellAt}
 use Rattle.bodies.specs.Bodies.{headsBy, BodyTables}
 
 tag-two : (k : ℕ) → k ≤ 2 → (k ≡ 0 → ⊥) → (k ≡ 1 → ⊥) → k ≡ 2

@@ -14,7 +14,7 @@ use Rattle.scheme.specs.Prefix.{Node, takeᵗ, terms, complete, depth, deepest}
 use Rattle.casefile.specs.Fields.{field}
 use Rattle.casefile.specs.Tables.{cellsOf, headOf, nodesOf, firstTerm}
 use Rattle.casefile.specs.Refusals.{wrongCell, wrongBody}
-use Rattle.casefile.proofs.Cells.{cellAt}
+use Rattle.casefile.specs.Promises.{cellAt}
 use Rattle.sorts.specs.codes.Sorted.{Code, Coded}
 use Rattle.bodies.specs.declared.Arguments.{Arguments}
 

@@ -8,10 +8,7 @@ use lib.ListN.{length, getD, take, drop, List·getD-eq-default}
 use lib.Pow.{pow-add}
 use lib.Seq.{getD-take, getD-drop}
 use Rattle.casefile.specs.Fields.{field, IsField}
-
--- every element is a byte
-abbrev pub Bytes : List ℕ → Type 0
-Bytes s = (i : ℕ) → getD s i 0 < 256
+use Rattle.casefile.specs.Promises.{Bytes}
 
 -- the value: a field of no byte is 0, of one more a byte and 256 times the field behind it
 pub field-none : (s : List ℕ) (i : ℕ) → field 0 s i ≡ 0

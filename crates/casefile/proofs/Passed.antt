@@ -18,11 +18,7 @@ use Rattle.casefile.specs.Records.{Record, Walk, end, cut, next, records
 use Rattle.casefile.specs.Kinds.{Kind, sort, constructor, nonterminal, rule, states, transition, type, binding, path, number, kindOf, ofKind, payloads, count}
 use Rattle.casefile.specs.Refusals.{Refusal, Test, refuse_at_when_, first, tooLong, wrongLength, tooMany, tooLarge, outOfRange, misplaced, refuseAs, refuseKind, lastKind, refuseRecord, refuseWhole}
 use Rattle.casefile.specs.Cases.{Case, refusedCase, bindingCase, pathCase, unlessRefused, acceptedCase, caseFrom, caseOf}
-
--- each record passed 3 to 7 after those before it
-pub data Passed : List Record → Type 0 where
-  nothing : Passed []
-  also : {rs : List Record} (r : Record) → Passed rs → refuseRecord rs r ≡ none → Passed (rs ++ (r ∷ []))
+use Rattle.casefile.specs.Promises.{Passed, nothing, also}
 
 none-some : {A : Type 0} {a : A} {x : Option A} → x ≡ none → x ≡ some a → ⊥
 none-some e f = let z : _≡_ {A = ℕ} 0 1 = cc in omega arith

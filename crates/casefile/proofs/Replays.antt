@@ -14,7 +14,7 @@ use Rattle.scheme.proofs.Sorting.{after-each, tree-argument, put-sorted}
 use Rattle.casefile.specs.Records.{Record}
 use Rattle.casefile.specs.Tables.{aritiesOf, signaturesOf, planOf, automatonOf}
 use Rattle.casefile.specs.Refusals.{refuseWhole}
-use Rattle.casefile.proofs.Passed.{Passed}
+use Rattle.casefile.specs.Promises.{Passed}
 use Rattle.casefile.specs.Sorted.{closedSorts}
 use Rattle.casefile.proofs.Bodies.{body-sorted}
 

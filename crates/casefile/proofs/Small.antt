@@ -20,7 +20,8 @@ use Rattle.casefile.specs.Kinds.{Kind, payloads, count}
 use Rattle.casefile.specs.Tables.{grow, sortFrom, sortsOf, aritiesOf, signaturesOf}
 use Rattle.casefile.specs.Refusals.{tooMany, tooLarge, outOfRange}
 use Rattle.casefile.proofs.Growth.{sofar, grow-entry, grow-length}
-use Rattle.casefile.proofs.Passed.{Passed, Tested, entry}
+use Rattle.casefile.proofs.Passed.{Tested, entry}
+use Rattle.casefile.specs.Promises.{Passed}
 use Rattle.casefile.proofs.Payloads.{arity-small}
 use Rattle.casefile.proofs.SortTable.{sort-zero}
 use Rattle.casefile.specs.Sorted.{closedSorts}

@@ -28,7 +28,7 @@ use Rattle.demands.specs.Ground.{Line, starred, small, E}
 
 -- a line with what the definitions say in the place of what is expected; it unfolds all that an answer is made of
 pub run : Line → Line
-unfolding found any all keepIf select lastOr sameSort arguments treeSort _++ᵗ_ countᵗ termAt nodes applied put takeᵗ dropᵗ terms complete depth headSort sortOf body members same takes domains final fits has typesAt conTypes bound headTypes holds round after kept countTo rounds bit isKept chosen retested roundFlags Flags.flagsAfter keptFlags argument descend follow unless stuck arrived exceeds followed replay holdsExactly isStart accepts field whole recordAt walk recordsOf number kindOf ofKind payloads count grow sortFrom sortsOf aritiesOf signaturesOf cellsOf headOf nodesOf firstTerm bodyOf planOf stateCount transitionOf transitionsOf targetsAt automatonOf words membersAt arrowFrom typeFrom typesOf bindingsOf first tooLong wrongLength tooMany wrongCell wrongTargets sameBytes ascendsFrom ascends before follows tooLarge outOfRange repeats misplaced refuseAs refuseKind lastKind refuseRecord wrongBody wrongBodies wrongStart misfits refuseWhole unlessRefused acceptedCase caseFrom caseOf pathAnswer replayed shrunk refusal bindingOutcome pathOutcome outcomeOf answer flagsAfter
+unfolding found any all keepIf select lastOr sameSort arguments treeSort _++ᵗ_ countᵗ termAt nodes applied put takeᵗ dropᵗ terms complete depth headSort sortOf body members same takes domains final fits has typesAt conTypes bound headTypes holds round after kept countTo rounds bit isKept chosen retested roundFlags Flags.flagsAfterRounds keptFlags argument descend follow unless stuck arrived exceeds followed replay holdsExactly isStart accepts field whole recordAt walk recordsOf number kindOf ofKind payloads count grow sortFrom sortsOf aritiesOf signaturesOf cellsOf headOf nodesOf firstTerm bodyOf planOf stateCount transitionOf transitionsOf targetsAt automatonOf words membersAt arrowFrom typeFrom typesOf bindingsOf first tooLong wrongLength tooMany wrongCell wrongTargets sameBytes ascendsFrom ascends before follows tooLarge outOfRange repeats misplaced refuseAs refuseKind lastKind refuseRecord wrongBody wrongBodies wrongStart misfits refuseWhole unlessRefused acceptedCase caseFrom caseOf pathAnswer replayed shrunk refusal bindingOutcome pathOutcome outcomeOf answer flagsAfter
 run l = record { file = l .file; lent = l .lent; says = answer (l .file) (length (l .lent)) .answer; flags = flagsAfter (l .file) (l .lent) }
 
 -- E has 154 bytes

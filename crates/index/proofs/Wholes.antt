@@ -20,10 +20,11 @@ use Rattle.casefile.specs.Records.{Record}
 use Rattle.casefile.specs.Kinds.{Kind, payloads, count}
 use Rattle.casefile.specs.Tables.{aritiesOf, signaturesOf, Cell, cellsOf, nodesOf, firstTerm, bodyOf}
 use Rattle.casefile.specs.Refusals.{wrongCell, tooMany, tooLarge, outOfRange, wrongBody, refuseWhole}
-use Rattle.casefile.proofs.Passed.{Passed, entry}
+use Rattle.casefile.proofs.Passed.{entry}
+use Rattle.casefile.specs.Promises.{Passed, cellAt}
 use Rattle.casefile.proofs.TypeTable.{count-payloads}
 use Rattle.casefile.proofs.Plans.{body-passes}
-use Rattle.casefile.proofs.Cells.{cellAt, cells-length, cells-at, cell-range}
+use Rattle.casefile.proofs.Cells.{cells-length, cells-at, cell-range}
 use Rattle.index.specs.entries.Index.{Indexed}
 use Rattle.index.specs.Wholes.{Whole, Bodies}
 

@@ -9,7 +9,7 @@ ghost use lib.ListN.{length, getD};
 ghost use Rattle.scheme.specs.Lists.{any};
 ghost use Rattle.casefile.specs.Tables.{cellsOf};
 ghost use Rattle.casefile.specs.Refusals.{wrongCell};
-ghost use Rattle.record_tests.specs.rule_record.Cells.{cellAt};
+ghost use Rattle.record_tests.specs.rule_record.Cells.{cellFrom};
 ghost use Rattle.index.specs.entries.Tests.{TestsRule};
 
 // How many entries a tag's numbers have: 0 constructors, 1 nonterminals, else parameters.
@@ -33,7 +33,7 @@ fn wrong_cell(
     nonterminals: usize,
     parameters: usize,
 ) -> bool
-    ensures { λ r. ⌜ (i + 4 ≤ length (now (p .entry)) → r ≡ wrongCell constructors nonterminals parameters (cellAt (now (p .entry)) i)) ⌝ }
+    ensures { λ r. ⌜ (i + 4 ≤ length (now (p .entry)) → r ≡ wrongCell constructors nonterminals parameters (cellFrom (now (p .entry)) i)) ⌝ }
 {
     if p.len() < 4 {
         return true;

@@ -14,7 +14,7 @@ use Rattle.casefile.specs.Kinds.{Kind, count}
 use Rattle.casefile.specs.Tables.{planOf, automatonOf, bindingsOf}
 use Rattle.memo.specs.Memo.{Under}
 use Rattle.head_types.specs.candidates.Candidates.{noBinding}
-use Rattle.casefile.proofs.Passed.{Passed}
+use Rattle.casefile.specs.Promises.{Passed}
 use Rattle.index.specs.entries.Index.{Indexed}
 use Rattle.rules.specs.reading.RuleBodies.{ruleOf}
 use Rattle.binding_tests.specs.mentions.Touched.{touches}

@@ -14,7 +14,8 @@ use Rattle.scheme.specs.Terms.{Head, con, nt, par}
 use Rattle.scheme.proofs.Lists.{any-miss, any-hit, any-done, any-at, or-false, and-false}
 use Rattle.casefile.specs.Fields.{field, byte, word}
 use Rattle.casefile.specs.Tables.{cellsOf, headOf}
-use Rattle.casefile.proofs.Cells.{cellAt, cells-length, cells-at}
+use Rattle.casefile.proofs.Cells.{cells-length, cells-at}
+use Rattle.casefile.specs.Promises.{cellAt}
 use Rattle.binding_tests.specs.mentions.Touched.{flagged, names, touches}
 
 module _ (flags body : List ℕ) where

@@ -23,10 +23,11 @@ use Rattle.casefile.specs.Records.{Record}
 use Rattle.casefile.specs.Kinds.{Kind, number, payloads, count}
 use Rattle.casefile.specs.Tables.{Cell, cellsOf, headOf, nodesOf, firstTerm, bodyOf, aritiesOf, signaturesOf, typesOf, planOf, automatonOf, bindingsOf}
 use Rattle.casefile.specs.Refusals.{wrongCell, outOfRange}
-use Rattle.casefile.proofs.Passed.{Passed, entry}
+use Rattle.casefile.proofs.Passed.{entry}
+use Rattle.casefile.specs.Promises.{Passed, cellAt}
 use Rattle.casefile.proofs.Payloads.{arity-small}
 use Rattle.casefile.proofs.TypeTable.{count-payloads}
-use Rattle.casefile.proofs.Cells.{cellAt, cells-length, cells-at, cell-range}
+use Rattle.casefile.proofs.Cells.{cells-length, cells-at, cell-range}
 use Rattle.records.specs.cursor.Reading.{partOf}
 use Rattle.index.specs.entries.Index.{Indexed}
 use Rattle.index.specs.lookup.Lookup.{entryOf}

@@ -8,10 +8,9 @@ use Rattle.scheme.specs.Flags.{chosen}
 use Rattle.scheme.specs.Acceptance.{holdsExactly}
 use Rattle.casefile.specs.Fields.{word}
 use Rattle.casefile.specs.Records.{Record}
-use Rattle.casefile.proofs.Fields.{Bytes}
+use Rattle.casefile.specs.Promises.{Bytes, Passed}
 use Rattle.casefile.specs.Kinds.{Kind, payloads, count}
 use Rattle.casefile.specs.Tables.{planOf, automatonOf, bindingsOf}
-use Rattle.casefile.proofs.Passed.{Passed}
 use Rattle.index.specs.entries.Index.{Indexed}
 use Rattle.index.specs.entries.Known.{Known}
 use Rattle.rules.specs.reading.RuleBodies.{ruleOf, firstNode}

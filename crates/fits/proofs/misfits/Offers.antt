@@ -18,7 +18,8 @@ use Rattle.casefile.specs.Kinds.{Kind, sort, nonterminal, type, binding, number
 use Rattle.casefile.specs.Tables.{sortFrom, sortsOf}
 use Rattle.casefile.specs.Refusals.{wrongLength, outOfRange}
 use Rattle.casefile.proofs.Growth.{grow-length}
-use Rattle.casefile.proofs.Passed.{Passed, nothing, also, Tested, passed-tested, payloads-more, payloads-other}
+use Rattle.casefile.proofs.Passed.{Tested, passed-tested, payloads-more, payloads-other}
+use Rattle.casefile.specs.Promises.{Passed, nothing, also}
 use Rattle.casefile.proofs.TypeTable.{count-payloads}
 use Rattle.index.specs.entries.Index.{Indexed}
 use Rattle.fits.specs.flags.Fitted.{Fitted}

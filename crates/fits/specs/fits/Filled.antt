@@ -10,10 +10,9 @@ use Rattle.scheme.specs.Lists.{all}
 use Rattle.scheme.specs.Flags.{bit, isKept}
 use Rattle.casefile.specs.Fields.{word}
 use Rattle.casefile.specs.Records.{Record}
-use Rattle.casefile.proofs.Fields.{Bytes}
+use Rattle.casefile.specs.Promises.{Bytes, Passed}
 use Rattle.casefile.specs.Kinds.{sort, type, payloads}
 use Rattle.casefile.specs.Tables.{words}
-use Rattle.casefile.proofs.Passed.{Passed}
 use Rattle.index.specs.entries.Index.{Indexed}
 use Rattle.fits.specs.flags.Fitted.{flag, Fitted}
 

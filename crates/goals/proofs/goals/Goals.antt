@@ -16,7 +16,8 @@ use Rattle.casefile.specs.Records.{Record}
 use Rattle.casefile.specs.Kinds.{Kind, number, ofKind, payloads, count}
 use Rattle.casefile.specs.Refusals.{wrongLength, outOfRange}
 use Rattle.casefile.specs.Tables.{words, membersAt, arrowFrom, typeFrom, typesOf}
-use Rattle.casefile.proofs.Passed.{Passed, entry}
+use Rattle.casefile.proofs.Passed.{entry}
+use Rattle.casefile.specs.Promises.{Passed}
 use Rattle.casefile.proofs.Repeats.{getD-mem}
 use Rattle.casefile.proofs.Steps.{words-step, words-done}
 use Rattle.casefile.proofs.TypeNumbers.{Shape, a-state, an-arrow}

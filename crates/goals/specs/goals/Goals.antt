@@ -5,11 +5,10 @@ use mathlib.Core.List.{List, []}
 use lib.ListN.{length, getD}
 use Rattle.scheme.specs.Types.{Ty, state, arrow, Tys, members}
 use Rattle.casefile.specs.Records.{Record}
-use Rattle.casefile.proofs.Fields.{Bytes}
+use Rattle.casefile.specs.Promises.{Bytes, Passed}
 use Rattle.casefile.specs.Fields.{word}
 use Rattle.casefile.specs.Kinds.{Kind, payloads, count}
 use Rattle.casefile.specs.Tables.{typesOf}
-use Rattle.casefile.proofs.Passed.{Passed}
 use Rattle.index.specs.entries.Index.{Indexed}
 
 -- of n types, the number g stands for a type as a goal: an arrow that is listed by its number, a state by its number behind those of the types

@@ -10,11 +10,10 @@ use lib.Dec.{ltb}
 use lib.ListN.{length, getD}
 use Rattle.scheme.proofs.Lists.{and-no}
 use Rattle.casefile.specs.Records.{Record}
-use Rattle.casefile.proofs.Fields.{Bytes}
+use Rattle.casefile.specs.Promises.{Bytes, Passed}
 use Rattle.casefile.specs.Kinds.{sort, nonterminal, type, binding, path, number, ofKind, payloads, count, placeOf}
 use Rattle.casefile.specs.Tables.{signaturesOf, bindingsOf}
 use Rattle.casefile.specs.Refusals.{first, misfits}
-use Rattle.casefile.proofs.Passed.{Passed}
 use Rattle.casefile.proofs.TypeTable.{count-payloads}
 use Rattle.index.specs.entries.Index.{Indexed}
 use Rattle.fits.specs.fits.Filled.{Fills}

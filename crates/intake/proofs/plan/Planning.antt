@@ -12,10 +12,9 @@ use lib.ListN.{length, getD}
 use Rattle.scheme.proofs.Lists.{or-false}
 use Rattle.casefile.specs.Fields.{word}
 use Rattle.casefile.specs.Records.{Record}
-use Rattle.casefile.proofs.Fields.{Bytes}
+use Rattle.casefile.specs.Promises.{Bytes, Passed}
 use Rattle.casefile.specs.Kinds.{sort, constructor, nonterminal, rule, states, number, ofKind, payloads, count, placeOf}
 use Rattle.casefile.specs.Refusals.{first, wrongLength, wrongStart}
-use Rattle.casefile.proofs.Passed.{Passed}
 use Rattle.index.specs.entries.Index.{Indexed}
 use Rattle.rules.specs.reading.RuleBodies.{nodesIn}
 use Rattle.rules.specs.rules.Rules.{Filed, FindsWrongBody, BodiesRead}

@@ -10,7 +10,7 @@ use Rattle.casefile.specs.Refusals.{refuseWhole}
 use Rattle.index.specs.entries.Index.{Indexed}
 use Rattle.fits.specs.misfits.Misfits.{FirstMisfit}
 use Rattle.rules.specs.reading.RuleBodies.{nodesIn}
-use Rattle.casefile.proofs.Passed.{Passed}
+use Rattle.casefile.specs.Promises.{Passed}
 use Rattle.index.specs.entries.Known.{Known}
 use Rattle.intake.specs.declared.evidence.Case.{Case}
 use Rattle.intake.specs.declared.evidence.Case.the-variants.{Refused, Bindings, Path}

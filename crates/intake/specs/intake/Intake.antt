@@ -7,7 +7,7 @@ use Rattle.casefile.specs.Records.{recordsOf, listed}
 use Rattle.casefile.specs.Kinds.{Kind, payloads, count}
 use Rattle.casefile.specs.Cases.{refusedCase, bindingCase, pathCase, caseOf}
 use Rattle.casefile.specs.Cases
-use Rattle.casefile.proofs.Passed.{Passed}
+use Rattle.casefile.specs.Promises.{Passed}
 use Rattle.index.specs.entries.Known.{Known}
 use Rattle.intake.specs.plan.PlanTests.{EndsAre}
 use Rattle.intake.specs.declared.evidence.Case.{Case}

@@ -11,7 +11,7 @@ use Rattle.casefile.specs.Kinds.{Kind, ofKind, payloads, count}
 use Rattle.casefile.specs.Tables.{aritiesOf, signaturesOf}
 use Rattle.casefile.specs.Refusals.{first, wrongStart, wrongBodies, refuseWhole}
 use Rattle.rules.specs.reading.RuleBodies.{nodesIn, ruleOf, firstNode, endAt}
-use Rattle.casefile.proofs.Passed.{Passed}
+use Rattle.casefile.specs.Promises.{Passed}
 use Rattle.index.specs.entries.Known.{Known}
 use Rattle.intake.specs.declared.plan.Plan.{Plan}
 use Rattle.intake.specs.declared.plan.Plan.the-variants.{Fine, Refused as Wrong}

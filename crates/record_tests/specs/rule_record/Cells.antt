@@ -5,5 +5,5 @@ use Rattle.casefile.specs.Fields.{byte, word}
 use Rattle.casefile.specs.Tables.{Cell}
 
 -- the node of a body at byte i of its payload
-abbrev pub cellAt : List ℕ → ℕ → Cell
-cellAt p i = record { tag = byte p i; number = word p (i + 1); count = byte p (i + 3) }
+abbrev pub cellFrom : List ℕ → ℕ → Cell
+cellFrom p i = record { tag = byte p i; number = word p (i + 1); count = byte p (i + 3) }

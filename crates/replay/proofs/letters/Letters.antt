@@ -16,7 +16,7 @@ use Rattle.scheme.specs.Replay
 use Rattle.scheme.specs.Replay.{exceeds}
 use Rattle.casefile.specs.Records.{Record}
 use Rattle.casefile.specs.Tables.{headOf, transitionsOf, targetsAt, planOf, automatonOf}
-use Rattle.casefile.proofs.Passed.{Passed}
+use Rattle.casefile.specs.Promises.{Passed}
 use Rattle.casefile.specs.Sorted.{closedSorts}
 use Rattle.casefile.proofs.Small.{few-arguments}
 use Rattle.casefile.proofs.Replays.{follow-sorted}

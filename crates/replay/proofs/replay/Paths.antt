@@ -11,7 +11,8 @@ use Rattle.casefile.specs.Records.{Record}
 use Rattle.casefile.specs.Kinds.{Kind, number, payloads, count}
 use Rattle.casefile.specs.Tables.{planOf, automatonOf}
 use Rattle.casefile.specs.Refusals.{tooMany, tooLarge}
-use Rattle.casefile.proofs.Passed.{Passed, entry}
+use Rattle.casefile.proofs.Passed.{entry}
+use Rattle.casefile.specs.Promises.{Passed}
 use Rattle.casefile.proofs.TypeTable.{count-payloads}
 use Rattle.index.specs.entries.Index.{Indexed}
 use Rattle.index.specs.lookup.Lookup.{entryOf}

@@ -12,7 +12,7 @@ use Rattle.casefile.specs.Records.{Record}
 use Rattle.casefile.specs.Kinds.{Kind, payloads, count}
 use Rattle.casefile.specs.Tables.{planOf, automatonOf}
 use Rattle.casefile.specs.Refusals.{refuseWhole}
-use Rattle.casefile.proofs.Passed.{Passed}
+use Rattle.casefile.specs.Promises.{Passed}
 use Rattle.index.specs.entries.Known.{Known}
 use Rattle.index.specs.lookup.Lookup.{entryOf}
 use Rattle.replay.specs.letters.Letters.{Replaying, Holding}

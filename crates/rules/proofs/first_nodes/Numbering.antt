@@ -10,7 +10,7 @@ use lib.Seq.{getD-set-same, getD-set-other}
 use Rattle.casefile.specs.Fields.{word}
 use Rattle.casefile.specs.Records.{Record}
 use Rattle.casefile.specs.Kinds.{Kind, payloads}
-use Rattle.casefile.proofs.Passed.{Passed}
+use Rattle.casefile.specs.Promises.{Passed}
 use Rattle.casefile.proofs.TypeTable.{count-payloads}
 use Rattle.index.specs.entries.Index.{Indexed}
 use Rattle.rules.specs.reading.RuleBodies.{nodesIn, ruleOf, firstNode}

@@ -18,7 +18,8 @@ use Rattle.casefile.specs.Kinds.{Kind, sort, constructor, nonterminal, rule, nu
 use Rattle.casefile.specs.Tables.{grow, sortFrom, sortsOf, aritiesOf, signaturesOf, Cell, cellsOf}
 use Rattle.casefile.specs.Refusals.{wrongLength, tooMany, tooLarge, outOfRange, wrongCell}
 use Rattle.casefile.proofs.Growth.{grow-append, grow-grown, grown}
-use Rattle.casefile.proofs.Passed.{Passed, entry}
+use Rattle.casefile.proofs.Passed.{entry}
+use Rattle.casefile.specs.Promises.{Passed}
 use Rattle.casefile.proofs.Payloads.{payloads-append, arity-small}
 use Rattle.casefile.proofs.TypeTable.{count-payloads}
 use Rattle.index.specs.entries.Index.{base, Indexed}

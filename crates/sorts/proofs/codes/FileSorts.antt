@@ -8,11 +8,10 @@ use lib.ListN.{length, getD}
 use Rattle.scheme.specs.Sorts.{o, _⇒_}
 use Rattle.casefile.specs.Fields.{word}
 use Rattle.casefile.specs.Records.{Record}
-use Rattle.casefile.proofs.Fields.{Bytes}
+use Rattle.casefile.specs.Promises.{Bytes, Passed}
 use Rattle.casefile.specs.Kinds.{sort, payloads}
 use Rattle.casefile.specs.Tables.{sortFrom, sortsOf}
 use Rattle.casefile.proofs.Growth.{grow-length}
-use Rattle.casefile.proofs.Passed.{Passed}
 use Rattle.casefile.proofs.SortTable.{sort-zero, sort-below, sort-made, sorts-distinct}
 use Rattle.sorts.specs.codes.Sorted.{SortArrays}
 

@@ -18,7 +18,7 @@ use Rattle.casefile.specs.Kinds.{Kind}
 use Rattle.casefile.specs.Kinds as kinds
 use Rattle.goals.specs.groups.Groups.{HasGroup}
 use Rattle.casefile.specs.Tables.{headOf, automatonOf, bindingsOf}
-use Rattle.casefile.proofs.Cells.{cellAt}
+use Rattle.casefile.specs.Promises.{cellAt}
 use Rattle.goals.specs.goals.Goals.{Goal}
 use Rattle.arrows.specs.arrows.Arrows.{off}
 use Rattle.head_types.proofs.constructors.Leading.{restIs, leads-is, leads-not}

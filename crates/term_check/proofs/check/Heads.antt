@@ -19,7 +19,7 @@ use Rattle.casefile.specs.Records.{Record}
 use Rattle.casefile.specs.Kinds.{count}
 use Rattle.goals.specs.groups.Groups.{HasGroup}
 use Rattle.casefile.specs.Tables.{headOf, stateCount, transitionsOf, targetsAt, automatonOf, bindingsOf}
-use Rattle.casefile.proofs.Cells.{cellAt}
+use Rattle.casefile.specs.Promises.{cellAt}
 use Rattle.goals.specs.goals.Goals.{Goal}
 use Rattle.arrows.specs.arrows.Arrows.{off}
 use Rattle.transitions.specs.table.Moves.{fourAt}

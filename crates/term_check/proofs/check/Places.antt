@@ -12,7 +12,8 @@ use Rattle.scheme.specs.Prefix.{Node, flat, flats, terms}
 use Rattle.scheme.proofs.Prefix.{terms-flat, length-flat}
 use Rattle.casefile.specs.Fields.{field}
 use Rattle.casefile.specs.Tables.{headOf, nodesOf, firstTerm}
-use Rattle.casefile.proofs.Cells.{cellAt, nodeAt, nodes-length, nodes-drop}
+use Rattle.casefile.proofs.Cells.{nodeAt, nodes-length, nodes-drop}
+use Rattle.casefile.specs.Promises.{cellAt}
 use Rattle.records.specs.cursor.Reading.{partOf}
 use Rattle.records.proofs.cursor.Reading.{part-of, part-out}
 use Rattle.term_check.specs.check.Nodes.{Placed, IsNode}

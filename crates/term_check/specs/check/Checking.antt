@@ -16,7 +16,7 @@ use Rattle.casefile.specs.Fields.{byte}
 use Rattle.casefile.specs.Records.{Record}
 use Rattle.casefile.specs.Kinds.{Kind, payloads, count}
 use Rattle.casefile.specs.Tables.{headOf, nodesOf, firstTerm, automatonOf, bindingsOf}
-use Rattle.casefile.proofs.Cells.{cellAt}
+use Rattle.casefile.specs.Promises.{cellAt}
 use Rattle.index.specs.entries.Index.{Indexed}
 use Rattle.goals.specs.groups.Groups.{Grouped}
 use Rattle.transitions.specs.places.RowPlaces.{RowsFor}

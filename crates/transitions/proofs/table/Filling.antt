@@ -16,7 +16,8 @@ use Rattle.casefile.specs.Fields.{byte}
 use Rattle.casefile.specs.Records.{Record}
 use Rattle.casefile.specs.Kinds.{Kind, payloads}
 use Rattle.casefile.specs.Refusals.{wrongLength}
-use Rattle.casefile.proofs.Passed.{Passed, entry}
+use Rattle.casefile.proofs.Passed.{entry}
+use Rattle.casefile.specs.Promises.{Passed}
 use Rattle.casefile.proofs.TypeTable.{count-payloads}
 use Rattle.index.specs.entries.Index.{Indexed}
 use Rattle.transitions.specs.table.Moves.{rowAt, fourAt, rowFor, Shaped, Sofar}

@@ -16,7 +16,8 @@ use Rattle.casefile.specs.Records.{Record}
 use Rattle.casefile.specs.Kinds.{Kind, number, ofKind, payloads}
 use Rattle.casefile.specs.Tables.{aritiesOf, stateCount, transitionOf, transitionsOf, targetsAt}
 use Rattle.casefile.specs.Refusals.{wrongTargets, outOfRange}
-use Rattle.casefile.proofs.Passed.{Passed, nothing, also, entry, passed-tested, payloads-more, payloads-other}
+use Rattle.casefile.proofs.Passed.{entry, passed-tested, payloads-more, payloads-other}
+use Rattle.casefile.specs.Promises.{Passed, nothing, also}
 use Rattle.transitions.specs.table.Moves.{rowAt, fourAt, rowFor, targetsIn, Sofar, Holds}
 use Rattle.transitions.proofs.table.Filling.{six}
 

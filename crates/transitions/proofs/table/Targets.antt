@@ -19,7 +19,8 @@ use Rattle.casefile.specs.Records.{Record}
 use Rattle.casefile.specs.Kinds.{Kind, payloads}
 use Rattle.casefile.specs.Tables.{aritiesOf, stateCount, transitionOf, transitionsOf, targetsAt}
 use Rattle.casefile.specs.Refusals.{wrongTargets, outOfRange}
-use Rattle.casefile.proofs.Passed.{Passed, entry}
+use Rattle.casefile.proofs.Passed.{entry}
+use Rattle.casefile.specs.Promises.{Passed}
 use Rattle.casefile.proofs.Payloads.{payloads-append, arity-small}
 use Rattle.transitions.proofs.table.Filling.{six}
 use Rattle.transitions.proofs.table.Meaning.{states-few}

@@ -9,7 +9,7 @@ use Rattle.scheme.specs.Lists.{if_then_else_}
 use Rattle.casefile.specs.Records.{Record}
 use Rattle.casefile.specs.Kinds.{Kind}
 use Rattle.casefile.specs.Tables.{aritiesOf, transitionsOf, targetsAt}
-use Rattle.casefile.proofs.Passed.{Passed}
+use Rattle.casefile.specs.Promises.{Passed}
 use Rattle.index.specs.entries.Index.{Indexed}
 use Rattle.transitions.specs.table.Moves.{fourAt}
 

@@ -6,7 +6,7 @@ use lib.ListN.{length, getD}
 use Rattle.casefile.specs.Records.{Record}
 use Rattle.casefile.specs.Kinds.{Kind}
 use Rattle.casefile.specs.Tables.{aritiesOf, transitionsOf, targetsAt}
-use Rattle.casefile.proofs.Passed.{Passed}
+use Rattle.casefile.specs.Promises.{Passed}
 use Rattle.index.specs.entries.Index.{Indexed}
 use Rattle.transitions.specs.table.Moves.{targetsIn, TableFor}
 

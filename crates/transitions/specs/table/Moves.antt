@@ -11,7 +11,7 @@ use Rattle.casefile.specs.Fields.{byte}
 use Rattle.casefile.specs.Records.{Record}
 use Rattle.casefile.specs.Kinds.{Kind, payloads}
 use Rattle.casefile.specs.Tables.{aritiesOf, transitionsOf, targetsAt}
-use Rattle.casefile.proofs.Passed.{Passed}
+use Rattle.casefile.specs.Promises.{Passed}
 use Rattle.index.specs.entries.Index.{Indexed}
 
 -- the row of a state and a constructor

@@ -14,7 +14,8 @@ use Rattle.casefile.specs.Records.{Record}
 use Rattle.casefile.specs.Kinds.{Kind, sort, constructor, nonterminal, rule, states, transition, type, binding, number, kindOf, ofKind, payloads, count}
 use Rattle.casefile.specs.Tables.{sortsOf, sortFrom, stateCount}
 use Rattle.casefile.specs.Refusals.{wrongLength, outOfRange}
-use Rattle.casefile.proofs.Passed.{Passed, entry, kindOf-number}
+use Rattle.casefile.proofs.Passed.{entry, kindOf-number}
+use Rattle.casefile.specs.Promises.{Passed}
 use Rattle.casefile.proofs.Growth.{grow-length}
 use Rattle.casefile.proofs.TypeTable.{count-payloads}
 use Rattle.index.specs.entries.Codes.{codeFor}

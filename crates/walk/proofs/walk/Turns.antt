@@ -29,7 +29,8 @@ use Rattle.casefile.specs.Kinds.{Kind, sort, constructor, nonterminal, rule, st
 use Rattle.casefile.specs.Tables.{grow, sortsOf, signaturesOf}
 use Rattle.casefile.specs.Refusals.{Refusal, first, wrongLength, tooMany, tooLarge, outOfRange, misplaced, refuseAs, refuseKind, lastKind, refuseRecord, refuseWhole}
 use Rattle.casefile.specs.Cases.{refusedCase, unlessRefused, acceptedCase, caseFrom}
-use Rattle.casefile.proofs.Passed.{Passed, nothing, also, Tested, passed-tested}
+use Rattle.casefile.proofs.Passed.{Tested, passed-tested}
+use Rattle.casefile.specs.Promises.{Passed, nothing, also}
 use Rattle.casefile.proofs.Plans.{signatures-length}
 use Rattle.walk.proofs.kinds.Dispatch.{sorts-length}
 use Rattle.scheme.proofs.Lists.{or-false, and-false}

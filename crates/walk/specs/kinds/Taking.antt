@@ -5,7 +5,7 @@ use mathlib.Core.List.{List}
 use lib.ListN.{getD}
 use Rattle.casefile.specs.Records.{Record}
 use Rattle.casefile.specs.Kinds.{Kind, number, kindOf}
-use Rattle.casefile.proofs.Passed.{Passed}
+use Rattle.casefile.specs.Promises.{Passed}
 use Rattle.index.specs.entries.Index.{base}
 use Rattle.index.specs.enter.Entering.{stored, lensAfter, chainsAfter}
 use Rattle.index.specs.entries.Known.{Known}
