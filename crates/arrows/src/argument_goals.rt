@@ -1,5 +1,9 @@
 // What the arguments of a head must have.
 use goals::parts::member_of;
+use index::layout::LAST_MEMBER;
+use index::layout::MAX_ARITY;
+use index::layout::MAX_TYPES;
+use index::layout::NONE;
 use records::fields::byte_at;
 ghost use mathlib.Core.Bool.{false};
 ghost use mathlib.Core.List.{List};
@@ -13,11 +17,11 @@ ghost use Rattle.arrows.specs.argument_goals.Wants.{Wants, IsTargetGoal}
 pub fn wanted(file: &[u8], index: &[u16], types: usize, head: usize, many: usize, j: usize) -> usize
     ensures { λ r. ⌜ (CountsMembers (now (file .entry)) (now (index .entry)) types head many → (row : List ℕ) (i : ℕ) → Wants (now (file .entry)) (now (index .entry)) types false head row i j r) ⌝ }
 {
-    if 15 < j {
-        return 65535;
+    if LAST_MEMBER < j {
+        return NONE;
     }
     if many <= j {
-        return 65535;
+        return NONE;
     }
     member_of(file, index, types, head, j)
 }
@@ -27,11 +31,11 @@ pub fn wanted(file: &[u8], index: &[u16], types: usize, head: usize, many: usize
 pub fn target_of(file: &[u8], types: usize, place: usize, i: usize) -> usize
     ensures { λ r. ⌜ (place < 65536 → (row : List ℕ) → RowAt (now (file .entry)) place row → IsTargetGoal types row i r) ⌝ }
 {
-    if 1024 < types {
-        return 65535;
+    if MAX_TYPES < types {
+        return NONE;
     }
     if 65535 < place {
         return types;
     }
-    types + byte_at(file, place + 2 + i % 4)
+    types + byte_at(file, place + 2 + i % MAX_ARITY)
 }

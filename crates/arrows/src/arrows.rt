@@ -2,6 +2,7 @@
 use goals::parts::member_of;
 use goals::parts::members_of;
 use goals::parts::result_of;
+use index::layout::NONE;
 use records::fields::byte_at;
 ghost use mathlib.Core.List.{List};
 ghost use Prim.Native.Nat.{ℕ, _<_};
@@ -15,7 +16,7 @@ pub fn off(index: &[u16], types: usize, goal: usize, k: usize) -> usize
     let mut i: usize = 0;
     while i < k {
         if types <= g {
-            return 65535;
+            return NONE;
         }
         g = result_of(index, types, g);
         i = i + 1;

@@ -4,6 +4,17 @@ use goals::goals::fill_owns;
 use goals::groups::fill_groups;
 use goals::parts::own_of;
 use index::entries::place_at;
+use index::layout::BINDING;
+use index::layout::Counts;
+use index::layout::Ends;
+use index::layout::Fits;
+use index::layout::Index;
+use index::layout::MAX_BINDINGS;
+use index::layout::NONTERMINAL;
+use index::layout::RULE;
+use index::layout::Rows;
+use index::layout::TRANSITION;
+use index::layout::TYPE;
 use rounds::shrink;
 use rules::first_nodes::fill_firsts;
 use transitions::places::fill_rows;
@@ -25,7 +36,7 @@ fn starts_at(index: &[u16], types: usize, b: usize, flag: u8) -> bool
     if flag == 0 {
         return false;
     }
-    if 1024 <= b {
+    if MAX_BINDINGS <= b {
         return false;
     }
     own_of(index, b) == types
@@ -35,7 +46,7 @@ fn starts_at(index: &[u16], types: usize, b: usize, flag: u8) -> bool
 fn start_kept(index: &[u16], counts: &[u16], groups: &[u16], flags: &[u8]) -> bool
     ensures { λ r. ⌜ FindsStart (now (index .entry)) (now (counts .entry)) (now (groups .entry)) (now (flags .entry)) r ⌝ }
 {
-    let types = place_at(counts, 7);
+    let types = place_at(counts, TYPE);
     let last = place_at(groups, 1);
     if flags.len() < last {
         return false;
@@ -57,24 +68,24 @@ fn start_kept(index: &[u16], counts: &[u16], groups: &[u16], flags: &[u8]) -> bo
 // What these and the memo held before does not matter.
 pub fn judge_bindings(
     file: &[u8],
-    index: &mut [u16; 8034],
-    counts: &[u16; 10],
-    ends: &[u16; 15000],
-    groups: &mut [u16; 257],
-    firsts: &mut [u16; 257],
-    old: &mut [u8; 66560],
+    index: &mut Index,
+    counts: &Counts,
+    ends: &Ends,
+    groups: &mut Rows,
+    firsts: &mut Rows,
+    old: &mut Fits,
     flags: &mut [u8],
     memo: &mut [u8],
 ) -> Shrunken
     ensures { λ r. ⌜ JudgesBindings (now (file .entry)) (now (index .entry)) (now (counts .entry)) (now (ends .entry)) (now (flags .entry)) (now (flags .exit)) (r .accepted) (r .kept) (r .total) (r .rounds) ⌝ }
 {
-    let total = place_at(counts, 8);
-    let types = place_at(counts, 7);
+    let total = place_at(counts, BINDING);
+    let types = place_at(counts, TYPE);
     fill_goals(file, index, types);
     fill_owns(file, index, types, total);
-    fill_rows(file, index, place_at(counts, 6));
-    fill_groups(file, index, total, place_at(counts, 3), groups);
-    fill_firsts(file, index, place_at(counts, 4), firsts);
+    fill_rows(file, index, place_at(counts, TRANSITION));
+    fill_groups(file, index, total, place_at(counts, NONTERMINAL), groups);
+    fill_firsts(file, index, place_at(counts, RULE), firsts);
     let ended = shrink(file, index, counts, groups, firsts, ends, memo, old, flags);
     let accepted = start_kept(index, counts, groups, flags);
     Shrunken {

@@ -2,6 +2,12 @@
 use index::entries::larger;
 use index::entries::narrow;
 use index::entries::place_at;
+use index::layout::MAX_ARGUMENTS;
+use index::layout::MAX_DEPTH;
+use index::layout::MAX_NODES;
+use index::layout::NO_SORT;
+use index::layout::NODE;
+use index::layout::Rows;
 use sorts::steps::apply;
 use sorts::steps::parameter;
 use sorts::steps::parameter_sorts;
@@ -83,7 +89,7 @@ fn arguments_fit(
         return misfit();
     }
     let mut sort = apply(froms, tos, trees, head, next.sort);
-    if sort == 2000 {
+    if sort == NO_SORT {
         return misfit();
     }
     let mut end = next.end;
@@ -94,7 +100,7 @@ fn arguments_fit(
             return misfit();
         }
         sort = apply(froms, tos, trees, sort, place_at(codes, end));
-        if sort == 2000 {
+        if sort == NO_SORT {
             return misfit();
         }
         deep = larger(deep, place_at(depths, end));
@@ -143,7 +149,7 @@ fn head_code(
     if tag == 1 {
         return place_at(signatures, number);
     }
-    if number < 8 {
+    if number < MAX_ARGUMENTS {
         return place_at(params, number);
     }
     parameter(froms, tos, own, number)
@@ -169,8 +175,8 @@ fn read_node(
     requires { ⌜ (i < length (now p) / 4) × Room (now p) (now ends) (now codes) (now depths) × ParameterSorts (now froms) (now tos) own (now params) × HeldAs (now ends) (now codes) (now depths) (length (now p) / 4) (i + 1) next ⌝ }
     ensures { λ r. ⌜ NodeTaken (now (p .entry)) (now (froms .entry)) (now (tos .entry)) (now (trees .entry)) (now (arities .entry)) (now (signatures .entry)) own i (now (ends .entry)) (now (codes .entry)) (now (depths .entry)) (now (ends .exit)) (now (codes .exit)) (now (depths .exit)) r ⌝ }
 {
-    let n = p.len() / 4;
-    let at = i * 4;
+    let n = p.len() / NODE;
+    let at = i * NODE;
     let tag = byte_in(p, at);
     let number = word_in(p, at + 1);
     let k = byte_in(p, at + 3);
@@ -201,7 +207,7 @@ fn read_node(
     if !a.fit {
         return misfit();
     }
-    if 64 <= a.deep {
+    if MAX_DEPTH <= a.deep {
         return misfit();
     }
     let end = put(ends, i, a.end);
@@ -227,7 +233,7 @@ fn scan(
     requires { ⌜ Room (now p) (now ends) (now codes) (now depths) × ParameterSorts (now froms) (now tos) own (now params) ⌝ }
     ensures { λ r. ⌜ Scanned (now (p .entry)) (now (froms .entry)) (now (tos .entry)) (now (trees .entry)) (now (arities .entry)) (now (signatures .entry)) own (now (ends .entry)) (now (ends .exit)) (now (codes .exit)) (now (depths .exit)) r ⌝ }
 {
-    let mut i = p.len() / 4;
+    let mut i = p.len() / NODE;
     let mut next = misfit();
     while 0 < i {
         i -= 1;
@@ -275,13 +281,13 @@ pub fn body_fits(
     signatures: &[u16],
     own: usize,
     ends: &mut [u16],
-    codes: &mut [u16; 257],
-    depths: &mut [u16; 257],
+    codes: &mut Rows,
+    depths: &mut Rows,
 ) -> bool
     ensures { λ r. ⌜ BodyDecided (now (p .entry)) (now (froms .entry)) (now (tos .entry)) (now (trees .entry)) (now (arities .entry)) (now (signatures .entry)) own (now (ends .entry)) (now (ends .exit)) r ⌝ }
 {
-    let n = p.len() / 4;
-    if 256 < n {
+    let n = p.len() / NODE;
+    if MAX_NODES < n {
         return false;
     }
     if n == 0 {

@@ -1,4 +1,9 @@
 // The judge for programs in other languages.
+use index::layout::Ends;
+use index::layout::Fits;
+use index::layout::Index;
+use index::layout::Memo;
+use index::layout::Rows;
 use plan_check::Verdict;
 use plan_check::judge;
 use plan_check::judge_with;
@@ -47,12 +52,12 @@ pub extern "C" fn plan_judge_with(
     file: &[u8],
     flags: &mut [u8],
     out: &mut [u64; 4],
-    index: &mut [u16; 8034],
-    ends: &mut [u16; 15000],
-    groups: &mut [u16; 257],
-    firsts: &mut [u16; 257],
-    fit: &mut [u8; 66560],
-    memo: &mut [u8; 266240],
+    index: &mut Index,
+    ends: &mut Ends,
+    groups: &mut Rows,
+    firsts: &mut Rows,
+    fit: &mut Fits,
+    memo: &mut Memo,
 ) -> u64
     ensures { λ r. ⌜ Judges (now (file .entry)) (now (flags .entry)) (now (flags .exit)) (now (out .exit)) r ⌝ }
 {

@@ -1,4 +1,10 @@
 // Closures: a term is a node of a body in the file, with closures for its parameters in a block of eight cells.
+use index::layout::BLOCK;
+use index::layout::BLOCK_UNITS;
+use index::layout::COUNT_UNITS;
+use index::layout::MAX_TERM;
+use index::layout::NODE_UNITS;
+use index::layout::PLACE_UNITS;
 use records::fields::byte_at;
 use records::fields::word_at;
 ghost use mathlib.Core.Path.{_≡_};
@@ -26,23 +32,23 @@ fn cell_at(cells: &[u64], slot: usize) -> usize
 pub fn closure_at(cells: &[u64], block: usize, count: usize, i: usize) -> usize
     ensures { λ r. ⌜ IsClosureAt (now (cells .entry)) block count i r ⌝ }
 {
-    if 1048576 <= block {
+    if BLOCK_UNITS <= block {
         return 0;
     }
-    if 8 < count {
+    if BLOCK < count {
         return 0;
     }
     if count <= i {
         return 0;
     }
-    cell_at(cells, block * 8 + 8 - count + i)
+    cell_at(cells, block * BLOCK + BLOCK - count + i)
 }
 
 // How many nodes a node of a body counts with a frame: a parameter those of its closure, any other head one.
 fn weigh(file: &[u8], cells: &[u64], at: usize, block: usize, count: usize) -> usize
     ensures { λ r. ⌜ Weighs (now (file .entry)) (now (cells .entry)) at block count r ⌝ }
 {
-    if 131072 <= at {
+    if PLACE_UNITS <= at {
         return 1;
     }
     if byte_at(file, at) < 2 {
@@ -52,7 +58,7 @@ fn weigh(file: &[u8], cells: &[u64], at: usize, block: usize, count: usize) -> u
     if count <= number {
         return 1;
     }
-    closure_at(cells, block, count, number) % 8192
+    closure_at(cells, block, count, number) % NODE_UNITS
 }
 
 // The end of the term at a place of the file, and its nodes with a frame.
@@ -63,7 +69,7 @@ fn measure(file: &[u8], cells: &[u64], at: usize, block: usize, count: usize) ->
     let mut need: usize = 1;
     let mut nodes: usize = 0;
     while 0 < need {
-        if 131072 <= next {
+        if PLACE_UNITS <= next {
             return Measured { next, nodes };
         }
         nodes = nodes + weigh(file, cells, next, block, count);
@@ -77,7 +83,7 @@ fn measure(file: &[u8], cells: &[u64], at: usize, block: usize, count: usize) ->
 fn measure_term(file: &[u8], cells: &[u64], at: usize, block: usize, count: usize) -> Measured
     ensures { λ r. ⌜ Measures (now (file .entry)) (now (cells .entry)) at block count r ⌝ }
 {
-    if 131072 <= at {
+    if PLACE_UNITS <= at {
         return Measured { next: at, nodes: 0 };
     }
     if byte_at(file, at + 3) == 0 {
@@ -94,10 +100,10 @@ fn measure_term(file: &[u8], cells: &[u64], at: usize, block: usize, count: usiz
 pub fn capped(a: usize, b: usize) -> usize
     ensures { λ r. ⌜ Adds a b r ⌝ }
 {
-    if 4096 < a {
+    if MAX_TERM < a {
         return a;
     }
-    if 4096 < b {
+    if MAX_TERM < b {
         return b;
     }
     a + b
@@ -107,7 +113,9 @@ pub fn capped(a: usize, b: usize) -> usize
 fn pack(at: usize, block: usize, count: usize, size: usize) -> usize
     ensures { λ r. ⌜ Packs at block count size r ⌝ }
 {
-    ((block % 1048576 * 16 + count % 16) * 131072 + at % 131072) * 8192 + size % 8192
+    ((block % BLOCK_UNITS * COUNT_UNITS + count % COUNT_UNITS) * PLACE_UNITS + at % PLACE_UNITS)
+        * NODE_UNITS
+        + size % NODE_UNITS
 }
 
 // The closure of the term at a place of the file with a frame; for a parameter alone it is the parameter's own.
@@ -122,7 +130,7 @@ fn closure_of(
     ensures { λ r. ⌜ Closes (now (file .entry)) (now (cells .entry)) at block count size r ⌝ }
 {
     let packed = pack(at, block, count, size);
-    if 131072 <= at {
+    if PLACE_UNITS <= at {
         return packed;
     }
     if byte_at(file, at) < 2 {

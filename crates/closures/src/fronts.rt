@@ -2,6 +2,14 @@
 use crate::closures::capped;
 use crate::closures::closure_at;
 use crate::closures::spread;
+use index::layout::BLOCK;
+use index::layout::BLOCK_UNIT;
+use index::layout::BLOCK_UNITS;
+use index::layout::COUNT_UNIT;
+use index::layout::COUNT_UNITS;
+use index::layout::NODE;
+use index::layout::NODE_UNITS;
+use index::layout::PLACE_UNITS;
 use records::fields::byte_at;
 use records::fields::word_at;
 ghost use Rattle.closures.specs.fronts.Fronts.{IsHead, Gathers};
@@ -18,7 +26,7 @@ pub struct Front {
 fn head_at(file: &[u8], at: usize, count: usize, nodes: usize) -> Front
     ensures { λ r. ⌜ IsHead (now (file .entry)) at count nodes r ⌝ }
 {
-    if 131072 <= at {
+    if PLACE_UNITS <= at {
         return Front {
             tag: 0,
             number: 0,
@@ -48,23 +56,31 @@ pub fn gather(
 ) -> Front
     ensures { λ r. ⌜ Gathers (now (file .entry)) (now (cells .entry)) (now (cells .exit)) at block count top r ⌝ }
 {
-    if 1048576 <= top {
+    if BLOCK_UNITS <= top {
         return head_at(file, at, 0, 0);
     }
-    let mut free: usize = 8;
+    let mut free: usize = BLOCK;
     let mut place = at;
     let mut under = block;
     let mut known = count;
     let mut total: usize = 1;
-    while place < 131072 {
+    while place < PLACE_UNITS {
         let m = byte_at(file, place + 3);
         if free < m {
             return head_at(file, place, 0, 0);
         }
         free = free - m;
-        let own = spread(file, cells, place + 4, m, under, known, top * 8 + free);
+        let own = spread(
+            file,
+            cells,
+            place + NODE,
+            m,
+            under,
+            known,
+            top * BLOCK + free,
+        );
         total = capped(total, own);
-        let head = head_at(file, place, 8 - free, total);
+        let head = head_at(file, place, BLOCK - free, total);
         if head.tag < 2 {
             return head;
         }
@@ -72,12 +88,12 @@ pub fn gather(
             return head;
         }
         let closure = closure_at(cells, under, known, head.number);
-        if under <= closure / 17179869184 {
+        if under <= closure / BLOCK_UNIT {
             return head;
         }
-        place = closure / 8192 % 131072;
-        known = closure / 1073741824 % 16;
-        under = closure / 17179869184;
+        place = closure / NODE_UNITS % PLACE_UNITS;
+        known = closure / COUNT_UNIT % COUNT_UNITS;
+        under = closure / BLOCK_UNIT;
     }
     head_at(file, place, 0, 0)
 }

@@ -1,5 +1,11 @@
 // The fit of types to sorts.
 use index::entries::place_at;
+use index::layout::ALL_SORTS;
+use index::layout::Fits;
+use index::layout::MAX_SORTS;
+use index::layout::MAX_TYPES;
+use index::layout::SortNumbers;
+use index::layout::TYPES_AT;
 use records::fields::word_at;
 ghost use mathlib.Core.Path.{_≡_};
 ghost use Prim.Native.Nat.{_<_, _≤_};
@@ -17,7 +23,7 @@ fn wide(number: u8) -> usize
 fn small(number: usize) -> u8
     ensures { λ r. ⌜ (r ≤ 64) × (number ≤ 64 → r ≡ number) ⌝ }
 {
-    if 64 < number {
+    if MAX_SORTS < number {
         return 0;
     }
     number as u8
@@ -45,17 +51,17 @@ fn fill_state(sorts: usize, t: usize, fit: &mut [u8])
 {
     let mut s: usize = sorts;
     while 0 < s {
-        fit[t * 65 + s] = 0;
+        fit[t * ALL_SORTS + s] = 0;
         s = s - 1;
     }
-    fit[t * 65] = 1;
+    fit[t * ALL_SORTS] = 1;
 }
 
 // Writes for each sort s whether type a fits the sort at s of one table and type b that of another, as the flag of type t.
 fn write_row(
-    ones: &[u8; 65],
+    ones: &SortNumbers,
     a: usize,
-    others: &[u8; 65],
+    others: &SortNumbers,
     b: usize,
     sorts: usize,
     t: usize,
@@ -66,9 +72,9 @@ fn write_row(
 {
     let mut s: usize = sorts;
     while 0 < s {
-        let one = fit[a * 65 + wide(ones[s])];
-        let other = fit[b * 65 + wide(others[s])];
-        fit[t * 65 + s] = one & other;
+        let one = fit[a * ALL_SORTS + wide(ones[s])];
+        let other = fit[b * ALL_SORTS + wide(others[s])];
+        fit[t * ALL_SORTS + s] = one & other;
         s = s - 1;
     }
 }
@@ -85,7 +91,7 @@ fn members_fit(file: &[u8], place: usize, len: usize, s: usize, t: usize, fit: &
         if t <= member {
             return 0;
         }
-        if fit[member * 65 + s] == 0 {
+        if fit[member * ALL_SORTS + s] == 0 {
             return 0;
         }
         i = i + 2;
@@ -97,7 +103,7 @@ fn members_fit(file: &[u8], place: usize, len: usize, s: usize, t: usize, fit: &
 // looked at.
 fn meet_members(
     file: &[u8],
-    froms: &[u8; 65],
+    froms: &SortNumbers,
     place: usize,
     len: usize,
     sorts: usize,
@@ -109,8 +115,8 @@ fn meet_members(
 {
     let mut s: usize = sorts;
     while 0 < s {
-        if fit[t * 65 + s] != 0 {
-            fit[t * 65 + s] = members_fit(file, place, len, wide(froms[s]), t, fit);
+        if fit[t * ALL_SORTS + s] != 0 {
+            fit[t * ALL_SORTS + s] = members_fit(file, place, len, wide(froms[s]), t, fit);
         }
         s = s - 1;
     }
@@ -119,8 +125,8 @@ fn meet_members(
 // Writes the row of type t, an arrow whose payload is the len bytes at place: where its result and each member fit.
 fn fill_arrow(
     file: &[u8],
-    froms: &[u8; 65],
-    tos: &[u8; 65],
+    froms: &SortNumbers,
+    tos: &SortNumbers,
     sorts: usize,
     t: usize,
     place: usize,
@@ -134,7 +140,7 @@ fn fill_arrow(
     if t <= result {
         return;
     }
-    fit[t * 65] = 0;
+    fit[t * ALL_SORTS] = 0;
     if len < 4 {
         write_row(tos, result, tos, result, sorts, t, fit);
         return;
@@ -154,16 +160,16 @@ fn fill_arrow(
 fn fill_row(
     file: &[u8],
     index: &[u16],
-    froms: &[u8; 65],
-    tos: &[u8; 65],
+    froms: &SortNumbers,
+    tos: &SortNumbers,
     sorts: usize,
     t: usize,
-    fit: &mut [u8; 66560],
+    fit: &mut Fits,
 )
     requires { ⌜ (t < 1024) × (sorts ≤ 64) × Small sorts (now froms) × Small sorts (now tos) ⌝ }
     ensures { λ _. ⌜ ReadsRow (now (file .entry)) (now (index .entry)) (now (froms .entry)) (now (tos .entry)) sorts t (now (fit .entry)) (now (fit .exit)) ⌝ }
 {
-    let place = place_at(index, 1120 + t);
+    let place = place_at(index, TYPES_AT + t);
     if place < 4 {
         return;
     }
@@ -176,20 +182,20 @@ fn fill_row(
 }
 
 // Writes the table of so many types: 1 where a type fits a sort, else 0. A file of fewer than four bytes has no type.
-pub fn fill_fits(file: &[u8], index: &[u16], types: usize, sorts: usize, fit: &mut [u8; 66560])
+pub fn fill_fits(file: &[u8], index: &[u16], types: usize, sorts: usize, fit: &mut Fits)
     ensures { λ _. ⌜ Fills (now (file .entry)) (now (index .entry)) types sorts (now (fit .exit)) ⌝ }
 {
-    if 1024 < types {
+    if MAX_TYPES < types {
         return;
     }
-    if 64 < sorts {
+    if MAX_SORTS < sorts {
         return;
     }
     if file.len() < 4 {
         return;
     }
-    let mut froms = [0u8; 65];
-    let mut tos = [0u8; 65];
+    let mut froms = [0u8; ALL_SORTS];
+    let mut tos = [0u8; ALL_SORTS];
     read_sorts(file, index, sorts, &mut froms, &mut tos);
     let mut t: usize = 0;
     while t < types {

@@ -1,4 +1,5 @@
 // The flags of a table of fits.
+use index::layout::ALL_SORTS;
 ghost use mathlib.Core.Path.{_≡_};
 ghost use Rattle.fits.specs.flags.Fitted.{flag};
 
@@ -9,8 +10,8 @@ pub fn flag_at(fit: &[u8], t: usize, s: usize) -> u8
     if fit.len() <= s {
         return 0;
     }
-    if (fit.len() - s - 1) / 65 < t {
+    if (fit.len() - s - 1) / ALL_SORTS < t {
         return 0;
     }
-    fit[t * 65 + s]
+    fit[t * ALL_SORTS + s]
 }

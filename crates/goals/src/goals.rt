@@ -3,6 +3,13 @@
 // result of each arrow from 5,474 on, and the type of each binding from 6,498 on.
 use index::enter::store;
 use index::entries::place_at;
+use index::layout::BINDINGS_AT;
+use index::layout::GOALS_AT;
+use index::layout::MAX_BINDINGS;
+use index::layout::MAX_TYPES;
+use index::layout::OWN_TYPES_AT;
+use index::layout::RESULTS_AT;
+use index::layout::TYPES_AT;
 use records::fields::byte_at;
 use records::fields::word_at;
 ghost use Prim.Native.Nat.{_<_};
@@ -12,13 +19,13 @@ ghost use Rattle.goals.specs.goals.Goals.{ReadsGoal, ReadsEntered, Fills
 fn goal_at(file: &[u8], index: &[u16], types: usize, t: usize) -> usize
     ensures { λ r. ⌜ ReadsGoal (now (file .entry)) (now (index .entry)) types t r ⌝ }
 {
-    if 1024 < types {
+    if MAX_TYPES < types {
         return t;
     }
     if types <= t {
         return t;
     }
-    let start = place_at(index, 1120 + t);
+    let start = place_at(index, TYPES_AT + t);
     if start < 4 {
         return t;
     }
@@ -34,7 +41,7 @@ fn goal_so_far(file: &[u8], index: &[u16], types: usize, entered: usize, t: usiz
     ensures { λ r. ⌜ ReadsEntered (now (file .entry)) (now (index .entry)) types entered t r ⌝ }
 {
     if t < entered {
-        return place_at(index, 4450 + t);
+        return place_at(index, GOALS_AT + t);
     }
     goal_at(file, index, types, t)
 }
@@ -43,16 +50,16 @@ fn goal_so_far(file: &[u8], index: &[u16], types: usize, entered: usize, t: usiz
 pub fn fill_goals(file: &[u8], index: &mut [u16], types: usize)
     ensures { λ _. ⌜ FillsGoals (now (file .entry)) (now (index .entry)) types (now (index .exit)) ⌝ }
 {
-    if 1024 < types {
+    if MAX_TYPES < types {
         return;
     }
     let mut t: usize = 0;
     while t < types {
         let goal = goal_at(file, index, types, t);
-        let payload = place_at(index, 1120 + t);
+        let payload = place_at(index, TYPES_AT + t);
         let result = goal_so_far(file, index, types, t, word_at(file, payload));
-        store(index, 4450 + t, goal);
-        store(index, 5474 + t, result);
+        store(index, GOALS_AT + t, goal);
+        store(index, RESULTS_AT + t, result);
         t = t + 1;
     }
 }
@@ -61,14 +68,14 @@ pub fn fill_goals(file: &[u8], index: &mut [u16], types: usize)
 pub fn fill_owns(file: &[u8], index: &mut [u16], types: usize, bindings: usize)
     ensures { λ _. ⌜ FillsOwns (now (file .entry)) (now (index .entry)) types bindings (now (index .exit)) ⌝ }
 {
-    if 1024 < bindings {
+    if MAX_BINDINGS < bindings {
         return;
     }
     let mut b: usize = 0;
     while b < bindings {
-        let place = place_at(index, 2144 + b);
+        let place = place_at(index, BINDINGS_AT + b);
         let own = goal_so_far(file, index, types, types, word_at(file, place + 2));
-        store(index, 6498 + b, own);
+        store(index, OWN_TYPES_AT + b, own);
         b = b + 1;
     }
 }

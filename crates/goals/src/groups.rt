@@ -1,5 +1,7 @@
 // The bindings of a file, grouped by nonterminal.
 use index::entries::place_at;
+use index::layout::BINDINGS_AT;
+use index::layout::MAX_BINDINGS;
 use records::fields::word_at;
 ghost use Rattle.goals.specs.groups.Groups.{Seeks, Fills};
 
@@ -7,12 +9,12 @@ ghost use Rattle.goals.specs.groups.Groups.{Seeks, Fills};
 fn first_from(file: &[u8], index: &[u16], n: usize, from: usize, f: usize) -> usize
     ensures { λ r. ⌜ Seeks (now (file .entry)) (now (index .entry)) n from f r ⌝ }
 {
-    if 1024 < n {
+    if MAX_BINDINGS < n {
         return 0;
     }
     let mut i = from;
     while i < n {
-        if f <= word_at(file, place_at(index, 2144 + i)) {
+        if f <= word_at(file, place_at(index, BINDINGS_AT + i)) {
             return i;
         }
         i = i + 1;
@@ -26,7 +28,7 @@ fn first_from(file: &[u8], index: &[u16], n: usize, from: usize, f: usize) -> us
 pub fn fill_groups(file: &[u8], index: &[u16], n: usize, last: usize, groups: &mut [u16])
     ensures { λ _. ⌜ Fills (now (file .entry)) (now (index .entry)) n last (now (groups .entry)) (now (groups .exit)) ⌝ }
 {
-    if 1024 < n {
+    if MAX_BINDINGS < n {
         return;
     }
     if groups.len() <= last {

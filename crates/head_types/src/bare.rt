@@ -1,15 +1,19 @@
 // A nonterminal or a parameter that stands alone, against a goal.
 use crate::candidates::candidate;
 use crate::candidates::span_of;
+use index::layout::Fits;
+use index::layout::Index;
+use index::layout::NONE;
+use index::layout::Rows;
 ghost use Rattle.head_types.specs.bare.Bare.{HasBare};
 
 // Whether a goal is among the types of a head that has no arguments.
 pub fn bare_has(
     file: &[u8],
-    index: &[u16; 8034],
+    index: &Index,
     types: usize,
-    groups: &[u16; 257],
-    kept: &[u8; 66560],
+    groups: &Rows,
+    kept: &Fits,
     own: usize,
     nonterminal: bool,
     number: usize,
@@ -22,7 +26,7 @@ pub fn bare_has(
     let mut j = span.low;
     while j < span.high {
         let t = candidate(file, index, types, kept, nonterminal, given, j, 0, goal);
-        if t != 65535 {
+        if t != NONE {
             return true;
         }
         j = j + 1;

@@ -4,6 +4,8 @@ use goals::parts::member_of;
 use goals::parts::members_of;
 use goals::parts::own_of;
 use index::entries::place_at;
+use index::layout::LAST_BINDING;
+use index::layout::NONE;
 use records::fields::byte_at;
 ghost use Rattle.head_types.specs.candidates.Candidates.{IsGroup, CountsFirst, IsMembers, Spans, IsKeptTy, Leads, Candidates};
 
@@ -23,7 +25,7 @@ fn group_span(groups: &[u16], number: usize) -> Span
         return Span {
             low: 0,
             high: 0,
-            given: 65535,
+            given: NONE,
         };
     }
     let low = place_at(groups, number);
@@ -31,7 +33,7 @@ fn group_span(groups: &[u16], number: usize) -> Span
     Span {
         low: low,
         high: high,
-        given: 65535,
+        given: NONE,
     }
 }
 
@@ -80,11 +82,11 @@ pub fn span_of(
 fn kept_type(index: &[u16], types: usize, kept: &[u8], j: usize) -> usize
     ensures { λ r. ⌜ IsKeptTy (now (index .entry)) types (now (kept .entry)) j r ⌝ }
 {
-    if 1023 < j {
-        return 65535;
+    if LAST_BINDING < j {
+        return NONE;
     }
     if byte_at(kept, j) == 0 {
-        return 65535;
+        return NONE;
     }
     own_of(index, j)
 }
@@ -93,11 +95,11 @@ fn kept_type(index: &[u16], types: usize, kept: &[u8], j: usize) -> usize
 fn if_leads(index: &[u16], types: usize, t: usize, count: usize, goal: usize) -> usize
     ensures { λ r. ⌜ Leads (now (index .entry)) types t count goal r ⌝ }
 {
-    if t == 65535 {
-        return 65535;
+    if t == NONE {
+        return NONE;
     }
     if off(index, types, t, count) != goal {
-        return 65535;
+        return NONE;
     }
     t
 }

@@ -1,6 +1,7 @@
 // The types of a constructor against a goal.
 use arrows::arrows::off;
 use arrows::arrows::row_matches;
+use index::layout::NONE;
 use transitions::places::place_in;
 use transitions::rows::arity_of;
 ghost use Prim.Native.Nat.{ℕ};
@@ -19,14 +20,14 @@ fn state_at(
     ensures { λ r. ⌜ ((constructors c : ℕ) → IsArity (now (file .entry)) (now (index .entry)) constructors c arity → EndsIn (now (file .entry)) (now (index .entry)) types constructors c count goal r) ⌝ }
 {
     if arity < count {
-        return 65535;
+        return NONE;
     }
     let end = off(index, types, goal, arity - count);
     if end < types {
-        return 65535;
+        return NONE;
     }
-    if end == 65535 {
-        return 65535;
+    if end == NONE {
+        return NONE;
     }
     end - types
 }

@@ -1,5 +1,9 @@
 // Types by the hash of their payloads, test 7.
 use crate::entries::place_at;
+use crate::layout::HASHES_AT;
+use crate::layout::LAST_HASH;
+use crate::layout::LINKS_AT;
+use crate::layout::TYPES_AT;
 use crate::repeats::same_payload;
 use records::fields::byte_at;
 use records::fields::word_at;
@@ -34,17 +38,17 @@ pub fn hash_of(p: &[u8]) -> usize
 pub fn listed(file: &[u8], index: &[u16], h: usize, p: &[u8]) -> bool
     ensures { λ r. ⌜ (h ≡ hashOf (now (p .entry)) → Listed (now (file .entry)) (now (index .entry)) (now (p .entry)) r) ⌝ }
 {
-    if 255 < h {
+    if LAST_HASH < h {
         return false;
     }
-    let mut last = place_at(index, 3170 + h);
+    let mut last = place_at(index, HASHES_AT + h);
     while 0 < last {
         let i = last - 1;
-        let at = place_at(index, 1120 + i);
+        let at = place_at(index, TYPES_AT + i);
         if same_payload(file, at, p) {
             return true;
         }
-        let before = place_at(index, 3426 + i);
+        let before = place_at(index, LINKS_AT + i);
         // A chain only falls.
         if i < before {
             return false;

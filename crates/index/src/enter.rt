@@ -1,5 +1,8 @@
 // The tables of the walk with one record more: stores, the argument counts of the sorts, the chains of the types.
 use crate::entries::place_at;
+use crate::layout::HASHES_AT;
+use crate::layout::LAST_HASH;
+use crate::layout::LINKS_AT;
 use records::fields::word_at;
 ghost use mathlib.Core.Path.{_≡_};
 ghost use mathlib.Core.List.{List};
@@ -38,11 +41,11 @@ pub fn enter_type(index: &mut [u16], n: usize, h: usize)
     if 65535 < n {
         return;
     }
-    if 255 < h {
+    if LAST_HASH < h {
         return;
     }
-    let head = 3170 + h;
+    let head = HASHES_AT + h;
     let last = place_at(index, head);
-    store(index, 3426 + n, last);
+    store(index, LINKS_AT + n, last);
     store(index, head, n + 1);
 }

@@ -1,5 +1,6 @@
 // Looking for a payload among the earlier ones of its kind, test 7.
 use crate::entries::place_at;
+use crate::layout::MAX_TYPES;
 use records::fields::byte_at;
 use records::fields::word_at;
 ghost use mathlib.Core.Path.{_≡_};
@@ -47,7 +48,7 @@ pub fn repeats(file: &[u8], index: &[u16], base: usize, n: usize, p: &[u8]) -> b
     if 4096 < base {
         return false;
     }
-    if 1024 < n {
+    if MAX_TYPES < n {
         return false;
     }
     let mut i: usize = 0;

@@ -5,6 +5,13 @@ use fits::fits::fill_fits;
 use fits::misfits::first_misfit;
 use index::entries::place_at;
 use index::entries::place_of;
+use index::layout::BINDING;
+use index::layout::BINDINGS_AT;
+use index::layout::Fits;
+use index::layout::PATH;
+use index::layout::Rows;
+use index::layout::SORT;
+use index::layout::TYPE;
 ghost use Rattle.intake.specs.evidence.Whole.{TestsEvidence, FindsFirst, TestsWhole};
 
 // What a file is.
@@ -21,7 +28,7 @@ fn misfit(
     types: usize,
     sorts: usize,
     bindings: usize,
-    fit: &mut [u8; 66560],
+    fit: &mut Fits,
 ) -> usize
     ensures { λ r. ⌜ FindsFirst (now (file .entry)) (now (index .entry)) types sorts bindings r ⌝ }
 {
@@ -30,19 +37,13 @@ fn misfit(
 }
 
 // The tests of the evidence, 10 to 12, for so many lent flags.
-fn test_evidence(
-    file: &[u8],
-    index: &[u16],
-    counts: &[u16],
-    flags: usize,
-    fit: &mut [u8; 66560],
-) -> Case
+fn test_evidence(file: &[u8], index: &[u16], counts: &[u16], flags: usize, fit: &mut Fits) -> Case
     ensures { λ r. ⌜ TestsEvidence (now (file .entry)) (now (index .entry)) (now (counts .entry)) flags r ⌝ }
 {
-    let sorts = place_at(counts, 1);
-    let types = place_at(counts, 7);
-    let bindings = place_at(counts, 8);
-    let paths = place_at(counts, 9);
+    let sorts = place_at(counts, SORT);
+    let types = place_at(counts, TYPE);
+    let bindings = place_at(counts, BINDING);
+    let paths = place_at(counts, PATH);
     if 0 < paths {
         if 0 < types + bindings {
             return Case::Refused {
@@ -54,7 +55,7 @@ fn test_evidence(
     }
     let b = misfit(file, index, types, sorts, bindings, fit);
     if b < bindings {
-        let place = place_of(index, 2144 + b);
+        let place = place_of(index, BINDINGS_AT + b);
         return Case::Refused { number: 11, place };
     }
     if flags < bindings {
@@ -74,9 +75,9 @@ pub fn test_whole(
     counts: &[u16],
     flags: usize,
     ends: &mut [u16],
-    fit: &mut [u8; 66560],
-    codes: &mut [u16; 257],
-    depths: &mut [u16; 257],
+    fit: &mut Fits,
+    codes: &mut Rows,
+    depths: &mut Rows,
 ) -> Case
     ensures { λ r. ⌜ TestsWhole (now (file .entry)) (now (index .entry)) (now (counts .entry)) flags (now (ends .entry)) (now (ends .exit)) r ⌝ }
 {

@@ -1,6 +1,19 @@
 // The intake of a file: it is refused by 1 to 12, or it is a binding case or a path case.
 use crate::evidence::Case;
 use crate::evidence::test_whole;
+use index::layout::ALL_SORTS;
+use index::layout::Counts;
+use index::layout::ENDS;
+use index::layout::Ends;
+use index::layout::FITS;
+use index::layout::Fits;
+use index::layout::INDEX;
+use index::layout::Index;
+use index::layout::KINDS;
+use index::layout::MAX_FILE;
+use index::layout::ROWS;
+use index::layout::Rows;
+use index::layout::SortTable;
 use walk::walk::Walked;
 ghost use mathlib.Core.Path.{_≡_};
 ghost use lib.ListN.{length};
@@ -13,17 +26,17 @@ ghost use Rattle.casefile.specs.Cases.{caseOf};
 pub fn examine(
     file: &[u8],
     flags: usize,
-    index: &mut [u16; 8034],
-    lens: &mut [u16; 65],
-    counts: &mut [u16; 10],
-    ends: &mut [u16; 15000],
-    fit: &mut [u8; 66560],
-    codes: &mut [u16; 257],
-    depths: &mut [u16; 257],
+    index: &mut Index,
+    lens: &mut SortTable,
+    counts: &mut Counts,
+    ends: &mut Ends,
+    fit: &mut Fits,
+    codes: &mut Rows,
+    depths: &mut Rows,
 ) -> Case
     ensures { λ r. ⌜ Examined (now (file .entry)) flags (now (index .exit)) (now (lens .exit)) (now (counts .exit)) (now (ends .exit)) r ⌝ }
 {
-    if 60000 < file.len() {
+    if MAX_FILE < file.len() {
         return Case::Refused {
             number: 1,
             place: 0,
@@ -41,13 +54,13 @@ pub fn case_of(file: &[u8], flags: &mut [u8]) -> Case
     ensures case { λ r. ⌜ caseAs (now (file .entry)) r ≡ caseOf (now (file .entry)) (length (now (flags .entry))) ⌝ }
     ensures flags { λ _. ⌜ now (flags .exit) ≡ now (flags .entry) ⌝ }
 {
-    let mut index = [0u16; 8034];
-    let mut lens = [0u16; 65];
-    let mut counts = [0u16; 10];
-    let mut ends = [0u16; 15000];
-    let mut fit = [0u8; 66560];
-    let mut codes = [0u16; 257];
-    let mut depths = [0u16; 257];
+    let mut index = [0u16; INDEX];
+    let mut lens = [0u16; ALL_SORTS];
+    let mut counts = [0u16; KINDS];
+    let mut ends = [0u16; ENDS];
+    let mut fit = [0u8; FITS];
+    let mut codes = [0u16; ROWS];
+    let mut depths = [0u16; ROWS];
     examine(
         file,
         flags.len(),

@@ -1,6 +1,14 @@
 // The tests of the plan over the whole file, 8 and 9.
 use index::entries::place_at;
 use index::entries::place_of;
+use index::layout::CONSTRUCTOR;
+use index::layout::NONTERMINAL;
+use index::layout::NONTERMINALS_AT;
+use index::layout::RULE;
+use index::layout::RULES_AT;
+use index::layout::Rows;
+use index::layout::SORT;
+use index::layout::STATES;
 use records::fields::word_at;
 use rules::rules::first_wrong_body;
 ghost use mathlib.Core.Path.{_≡_};
@@ -23,9 +31,9 @@ pub enum Plan {
 fn counts_wrong(counts: &[u16]) -> bool
     ensures { λ r. ⌜ ((file index lens : List ℕ) (rs : List Record) → Known file index lens (now (counts .entry)) rs → r ≡ (eqb (count Kind.states rs) 0 || eqb (count Kind.nonterminal rs) 0 || not (eqb (count Kind.rule rs) (count Kind.nonterminal rs)))) ⌝ }
 {
-    let states = place_at(counts, 5);
-    let nonterminals = place_at(counts, 3);
-    let rules = place_at(counts, 4);
+    let states = place_at(counts, STATES);
+    let nonterminals = place_at(counts, NONTERMINAL);
+    let rules = place_at(counts, RULE);
     if states == 0 {
         return true;
     }
@@ -42,8 +50,8 @@ pub fn test_plan(
     index: &[u16],
     counts: &[u16],
     ends: &mut [u16],
-    codes: &mut [u16; 257],
-    depths: &mut [u16; 257],
+    codes: &mut Rows,
+    depths: &mut Rows,
 ) -> Plan
     ensures { λ r. ⌜ TestsPlan (now (file .entry)) (now (index .entry)) (now (counts .entry)) (now (ends .entry)) (now (ends .exit)) r ⌝ }
 {
@@ -53,14 +61,14 @@ pub fn test_plan(
             place: 0,
         };
     }
-    let start = place_at(index, 96);
+    let start = place_at(index, NONTERMINALS_AT);
     if word_at(file, start) != 0 {
-        let place = place_of(index, 96);
+        let place = place_of(index, NONTERMINALS_AT);
         return Plan::Refused { number: 9, place };
     }
-    let sorts = place_at(counts, 1);
-    let constructors = place_at(counts, 2);
-    let rules = place_at(counts, 4);
+    let sorts = place_at(counts, SORT);
+    let constructors = place_at(counts, CONSTRUCTOR);
+    let rules = place_at(counts, RULE);
     let f = first_wrong_body(
         file,
         index,
@@ -73,7 +81,7 @@ pub fn test_plan(
         depths,
     );
     if f < rules {
-        let place = place_of(index, 352 + f);
+        let place = place_of(index, RULES_AT + f);
         return Plan::Refused { number: 9, place };
     }
     Plan::Fine

@@ -1,4 +1,7 @@
 // Answers remembered for a node and a goal, in a table that is lent.
+use index::layout::LAST_STAMP;
+use index::layout::MAX_GOALS;
+use index::layout::MAX_NODES;
 use records::fields::byte_at;
 ghost use mathlib.Core.Path.{_≡_};
 ghost use Rattle.memo.specs.Memo.{recalled, learnt, nextStamp, readied};
@@ -7,10 +10,10 @@ ghost use Rattle.memo.specs.Memo.{recalled, learnt, nextStamp, readied};
 pub fn known(memo: &[u8], width: usize, stamp: usize, at: usize, goal: usize) -> usize
     ensures { λ r. ⌜ r ≡ recalled (now (memo .entry)) width stamp at goal ⌝ }
 {
-    if 256 <= at {
+    if MAX_NODES <= at {
         return 0;
     }
-    if 1040 < width {
+    if MAX_GOALS < width {
         return 0;
     }
     if width <= goal {
@@ -27,16 +30,16 @@ pub fn known(memo: &[u8], width: usize, stamp: usize, at: usize, goal: usize) ->
 pub fn learn(memo: &mut [u8], width: usize, stamp: usize, at: usize, goal: usize, yes: bool)
     ensures { λ _. ⌜ now (memo .exit) ≡ learnt (now (memo .entry)) width stamp at goal yes ⌝ }
 {
-    if 256 <= at {
+    if MAX_NODES <= at {
         return;
     }
-    if 1040 < width {
+    if MAX_GOALS < width {
         return;
     }
     if width <= goal {
         return;
     }
-    if 127 < stamp {
+    if LAST_STAMP < stamp {
         return;
     }
     let key = at * width + goal;
@@ -56,7 +59,7 @@ pub fn ready(memo: &mut [u8], n: usize, stamp: usize) -> usize
     ensures stamp { λ r. ⌜ r ≡ nextStamp stamp ⌝ }
     ensures memo { λ _. ⌜ now (memo .exit) ≡ readied (now (memo .entry)) n stamp ⌝ }
 {
-    if stamp < 127 {
+    if stamp < LAST_STAMP {
         return stamp + 1;
     }
     let mut i: usize = 0;

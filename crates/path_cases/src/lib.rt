@@ -1,4 +1,10 @@
 // A case file with a path: refused by 1 to 15, or refuted. A binding case is named and not judged.
+use index::layout::ALL_SORTS;
+use index::layout::ENDS;
+use index::layout::FITS;
+use index::layout::INDEX;
+use index::layout::KINDS;
+use index::layout::ROWS;
 use intake::evidence::Case;
 use intake::intake::examine;
 use replay::replay::Replayed;
@@ -48,13 +54,13 @@ pub fn path_case(file: &[u8], flags: &mut [u8]) -> Answer
     ensures refuted { λ r. ⌜ RefutedExactly (now (file .entry)) (length (now (flags .entry))) r ⌝ }
     ensures flags { λ _. ⌜ now (flags .exit) ≡ now (flags .entry) ⌝ }
 {
-    let mut index = [0u16; 8034];
-    let mut lens = [0u16; 65];
-    let mut counts = [0u16; 10];
-    let mut ends = [0u16; 15000];
-    let mut fit = [0u8; 66560];
-    let mut codes = [0u16; 257];
-    let mut depths = [0u16; 257];
+    let mut index = [0u16; INDEX];
+    let mut lens = [0u16; ALL_SORTS];
+    let mut counts = [0u16; KINDS];
+    let mut ends = [0u16; ENDS];
+    let mut fit = [0u8; FITS];
+    let mut codes = [0u16; ROWS];
+    let mut depths = [0u16; ROWS];
     let case = examine(
         file,
         flags.len(),

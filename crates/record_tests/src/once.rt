@@ -1,4 +1,6 @@
 // The tests of records that a file has once at most, 4 to 7: states and paths.
+use index::layout::MAX_LETTERS;
+use index::layout::MAX_STATES;
 use records::fields::byte_at;
 ghost use Rattle.casefile.specs.Kinds.{Kind};
 ghost use Rattle.index.specs.entries.Tests.{Tests};
@@ -14,7 +16,7 @@ pub fn test_states(n: usize, p: &[u8]) -> usize
         return 5;
     }
     let count = byte_at(p, 0);
-    if count == 0 || 16 < count {
+    if count == 0 || MAX_STATES < count {
         return 6;
     }
     0
@@ -24,7 +26,7 @@ pub fn test_states(n: usize, p: &[u8]) -> usize
 pub fn test_path(n: usize, p: &[u8]) -> usize
     ensures { λ r. ⌜ Tests Kind.path n (now (p .entry)) r ⌝ }
 {
-    if 1 <= n || 4096 < p.len() {
+    if 1 <= n || MAX_LETTERS < p.len() {
         return 5;
     }
     0

@@ -1,5 +1,10 @@
 // The tests of records that stand in order by pairs, 4 to 7: transitions and bindings.
 use index::entries::place_at;
+use index::layout::BINDINGS_AT;
+use index::layout::CONSTRUCTORS_AT;
+use index::layout::MAX_BINDINGS;
+use index::layout::MAX_TRANSITIONS;
+use index::layout::TRANSITIONS_AT;
 use records::fields::byte_at;
 use records::fields::word_at;
 ghost use mathlib.Core.Path.{_≡_};
@@ -28,7 +33,7 @@ pub fn test_binding(
     if p.len() != 4 {
         return 4;
     }
-    if 1024 <= n {
+    if MAX_BINDINGS <= n {
         return 5;
     }
     let f = word_at(p, 0);
@@ -39,7 +44,7 @@ pub fn test_binding(
     if n == 0 {
         return 0;
     }
-    let last = place_at(index, 2144 + (n - 1));
+    let last = place_at(index, BINDINGS_AT + (n - 1));
     let g = word_at(file, last);
     let u = word_at(file, last + 2);
     if precedes(g, u, f, t) { 0 } else { 7 }
@@ -74,7 +79,7 @@ pub fn test_transition(
     if p.len() != 6 {
         return 4;
     }
-    if 512 <= n {
+    if MAX_TRANSITIONS <= n {
         return 5;
     }
     let q = byte_at(p, 0);
@@ -82,14 +87,14 @@ pub fn test_transition(
     if states <= q || constructors <= a {
         return 6;
     }
-    let arity = byte_at(file, place_at(index, 64 + a));
+    let arity = byte_at(file, place_at(index, CONSTRUCTORS_AT + a));
     if wrong_targets(states, arity, p) {
         return 6;
     }
     if n == 0 {
         return 0;
     }
-    let last = place_at(index, 608 + (n - 1));
+    let last = place_at(index, TRANSITIONS_AT + (n - 1));
     let r = byte_at(file, last);
     let b = byte_at(file, last + 1);
     if precedes(r, b, q, a) { 0 } else { 7 }

@@ -1,5 +1,10 @@
 // The test of a rule record, 4 to 7.
 use index::entries::place_at;
+use index::layout::MAX_ARGUMENTS;
+use index::layout::MAX_BODY;
+use index::layout::MAX_NONTERMINALS;
+use index::layout::NODE;
+use index::layout::NONTERMINALS_AT;
 use records::fields::byte_at;
 use records::fields::word_at;
 ghost use mathlib.Core.Path.{_≡_};
@@ -35,10 +40,10 @@ fn wrong_cell(
 ) -> bool
     ensures { λ r. ⌜ (i + 4 ≤ length (now (p .entry)) → r ≡ wrongCell constructors nonterminals parameters (cellFrom (now (p .entry)) i)) ⌝ }
 {
-    if p.len() < 4 {
+    if p.len() < NODE {
         return true;
     }
-    if p.len() - 4 < i {
+    if p.len() - NODE < i {
         return true;
     }
     let tag = byte_at(p, i);
@@ -48,7 +53,7 @@ fn wrong_cell(
         return true;
     }
     let entries = entries_for(tag, constructors, nonterminals, parameters);
-    entries <= number || 8 < count
+    entries <= number || MAX_ARGUMENTS < count
 }
 
 // Whether a node of a body is out of range.
@@ -56,11 +61,11 @@ fn wrong_cells(p: &[u8], constructors: usize, nonterminals: usize, parameters: u
     ensures { λ r. ⌜ r ≡ any (wrongCell constructors nonterminals parameters) (cellsOf (now (p .entry))) ⌝ }
 {
     let mut i: usize = 0;
-    while 4 <= p.len() - i {
+    while NODE <= p.len() - i {
         if wrong_cell(p, i, constructors, nonterminals, parameters) {
             return true;
         }
-        i = i + 4;
+        i = i + NODE;
     }
     false
 }
@@ -77,22 +82,22 @@ pub fn test_rule(
 ) -> usize
     ensures { λ r. ⌜ ((sorts : ℕ) → TestsRule (now (file .entry)) (now (index .entry)) (now (lens .entry)) n sorts constructors nonterminals (now (p .entry)) r) ⌝ }
 {
-    if p.len() < 4 {
+    if p.len() < NODE {
         return 4;
     }
-    if p.len() % 4 != 0 {
+    if p.len() % NODE != 0 {
         return 4;
     }
-    if 1024 < p.len() {
+    if MAX_BODY < p.len() {
         return 5;
     }
     if nonterminals <= n {
         return 6;
     }
-    if 256 <= n {
+    if MAX_NONTERMINALS <= n {
         return 6;
     }
-    let s = word_at(file, place_at(index, 96 + n));
+    let s = word_at(file, place_at(index, NONTERMINALS_AT + n));
     let parameters = place_at(lens, s);
     if wrong_cells(p, constructors, nonterminals, parameters) {
         return 6;

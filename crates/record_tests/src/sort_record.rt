@@ -1,5 +1,8 @@
 // The test of a sort record, 4 to 7.
 use index::entries::place_at;
+use index::layout::MAX_ARGUMENTS;
+use index::layout::MAX_SORTS;
+use index::layout::SORTS_AT;
 use index::repeats::repeats;
 use records::fields::word_at;
 ghost use mathlib.Core.Path.{_≡_};
@@ -25,12 +28,12 @@ pub fn test_sort(file: &[u8], index: &[u16], lens: &[u16], n: usize, p: &[u8]) -
     if p.len() != 4 {
         return 4;
     }
-    if 64 <= n {
+    if MAX_SORTS <= n {
         return 5;
     }
     let from = word_at(p, 0);
     let to = word_at(p, 2);
-    if 8 <= arguments_of(lens, n, to) {
+    if MAX_ARGUMENTS <= arguments_of(lens, n, to) {
         return 5;
     }
     if n < from {
@@ -39,7 +42,7 @@ pub fn test_sort(file: &[u8], index: &[u16], lens: &[u16], n: usize, p: &[u8]) -
     if n < to {
         return 6;
     }
-    if repeats(file, index, 0, n, p) {
+    if repeats(file, index, SORTS_AT, n, p) {
         return 7;
     }
     0

@@ -1,4 +1,7 @@
 // The tests of records that need only counts, 4 to 7: constructors and nonterminals.
+use index::layout::MAX_ARITY;
+use index::layout::MAX_CONSTRUCTORS;
+use index::layout::MAX_NONTERMINALS;
 use records::fields::byte_at;
 use records::fields::word_at;
 ghost use Rattle.casefile.specs.Kinds.{Kind};
@@ -12,10 +15,10 @@ pub fn test_constructor(n: usize, p: &[u8]) -> usize
         return 4;
     }
     let arity = byte_at(p, 0);
-    if 32 <= n {
+    if MAX_CONSTRUCTORS <= n {
         return 5;
     }
-    if 4 < arity {
+    if MAX_ARITY < arity {
         return 6;
     }
     0
@@ -28,7 +31,7 @@ pub fn test_nonterminal(sorts: usize, n: usize, p: &[u8]) -> usize
     if p.len() != 2 {
         return 4;
     }
-    if 256 <= n {
+    if MAX_NONTERMINALS <= n {
         return 5;
     }
     if sorts <= word_at(p, 0) {

@@ -1,5 +1,7 @@
 // The test of a type record, 4 to 7.
 use index::chains::listed;
+use index::layout::MAX_TYPE;
+use index::layout::MAX_TYPES;
 use records::fields::byte_at;
 use records::fields::word_at;
 ghost use mathlib.Core.Path.{_≡_};
@@ -52,7 +54,7 @@ fn members_ascend(p: &[u8]) -> bool
 fn state_code(n: usize, states: usize, p: &[u8]) -> usize
     ensures { λ r. ⌜ (length (now (p .entry)) ≡ 1 → CodesAlone n states (now (p .entry)) r) ⌝ }
 {
-    if 1024 <= n {
+    if MAX_TYPES <= n {
         return 5;
     }
     if states <= byte_at(p, 0) {
@@ -71,13 +73,13 @@ fn own_code(n: usize, states: usize, p: &[u8]) -> usize
     if p.len() < 2 {
         return 4;
     }
-    if 34 < p.len() {
+    if MAX_TYPE < p.len() {
         return 4;
     }
     if p.len() % 2 != 0 {
         return 4;
     }
-    if 1024 <= n {
+    if MAX_TYPES <= n {
         return 5;
     }
     if names_later(p, n) {

@@ -2,6 +2,19 @@
 use closures::closures::closure_at;
 use closures::fronts::gather;
 use index::entries::place_at;
+use index::layout::BLOCK_UNIT;
+use index::layout::COUNT_UNIT;
+use index::layout::COUNT_UNITS;
+use index::layout::Lost;
+use index::layout::MAX_ARITY;
+use index::layout::MAX_NONTERMINALS;
+use index::layout::MAX_TERM;
+use index::layout::NO_STATE;
+use index::layout::NO_TARGET;
+use index::layout::NODE_UNITS;
+use index::layout::PLACE_UNITS;
+use index::layout::RULES_AT;
+use index::layout::Row;
 use transitions::rows::arity_of;
 ghost use mathlib.Core.Path.{_≡_};
 ghost use Prim.Native.Nat.{_<_};
@@ -44,12 +57,12 @@ fn unfold_held(
         itself.count = 0;
         return Step::At { held: itself };
     }
-    if 256 <= number {
+    if MAX_NONTERMINALS <= number {
         return Step::Lost;
     }
-    let at = place_at(index, 352 + number);
+    let at = place_at(index, RULES_AT + number);
     let front = gather(file, cells, at, block, held.count, top);
-    if 4096 < front.nodes {
+    if MAX_TERM < front.nodes {
         return Step::TooLarge;
     }
     Step::At {
@@ -72,20 +85,20 @@ fn wide(x: u8) -> usize
 
 // The target for argument i of a constructor, by the row of the table, its argument count and the arguments held; 256
 // where there is no such argument, no such target or no transition.
-fn target_for(row: [u8; 4], arity: usize, count: usize, i: usize) -> usize
+fn target_for(row: Row, arity: usize, count: usize, i: usize) -> usize
     ensures { λ r. ⌜ IsTargetOf row arity count i r ⌝ }
 {
-    if row[0] == 255 {
-        return 256;
+    if row[0] == NO_TARGET {
+        return NO_STATE;
     }
     if count <= i {
-        return 256;
+        return NO_STATE;
     }
     if arity <= i {
-        return 256;
+        return NO_STATE;
     }
-    if 4 <= i {
-        return 256;
+    if MAX_ARITY <= i {
+        return NO_STATE;
     }
     wide(row[i])
 }
@@ -95,7 +108,7 @@ fn descend_held(
     file: &[u8],
     index: &[u16],
     constructors: usize,
-    row: [u8; 4],
+    row: Row,
     cells: &mut [u64],
     held: Held,
     i: usize,
@@ -109,13 +122,13 @@ fn descend_held(
     }
     let arity = arity_of(file, index, constructors, c);
     let state = target_for(row, arity, held.count, i);
-    if state == 256 {
+    if state == NO_STATE {
         return Step::Lost;
     }
     let closure = closure_at(cells, held.block, held.count, i);
-    let at = closure / 8192 % 131072;
-    let block = closure / 17179869184;
-    let count = closure / 1073741824 % 16;
+    let at = closure / NODE_UNITS % PLACE_UNITS;
+    let block = closure / BLOCK_UNIT;
+    let count = closure / COUNT_UNIT % COUNT_UNITS;
     let front = gather(file, cells, at, block, count, top);
     Step::At {
         held: Held {
@@ -134,7 +147,7 @@ pub fn follow(
     index: &[u16],
     rules: usize,
     constructors: usize,
-    row: [u8; 4],
+    row: Row,
     cells: &mut [u64],
     held: Held,
     letter: usize,

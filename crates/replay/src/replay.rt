@@ -3,6 +3,24 @@ use crate::letters::Held;
 use crate::letters::Step;
 use crate::letters::follow;
 use index::entries::place_at;
+use index::layout::ALL_CELLS;
+use index::layout::CONSTRUCTOR;
+use index::layout::Counts;
+use index::layout::Index;
+use index::layout::LONG_CELLS;
+use index::layout::LONG_PATH;
+use index::layout::MAX_ARITY;
+use index::layout::MAX_CONSTRUCTORS;
+use index::layout::MAX_STATES;
+use index::layout::NO_TARGET;
+use index::layout::PATH_AT;
+use index::layout::RULE;
+use index::layout::SHORT_CELLS;
+use index::layout::SHORT_PATH;
+use index::layout::TINY_CELLS;
+use index::layout::TINY_PATH;
+use index::layout::TRANSITION;
+use index::layout::Transitions;
 use index::lookup::entry;
 use records::fields::byte_at;
 use transitions::rows::row_of;
@@ -44,7 +62,7 @@ fn stopped(step: Step, letter: usize) -> Replayed
 }
 
 // What the path comes to behind its last letter, on the term held.
-fn arrive(table: [[[u8; 4]; 32]; 16], constructors: usize, held: Held, letters: usize) -> Replayed
+fn arrive(table: Transitions, constructors: usize, held: Held, letters: usize) -> Replayed
     ensures { λ r. ⌜ Arrives table constructors held letters r ⌝ }
 {
     let elsewhere = Replayed::Refused {
@@ -57,7 +75,7 @@ fn arrive(table: [[[u8; 4]; 32]; 16], constructors: usize, held: Held, letters: 
     let state = held.state;
     let constructor = held.number;
     let row = row_of(table, constructors, state, constructor);
-    if row[0] != 255 {
+    if row[0] != NO_TARGET {
         return elsewhere;
     }
     Replayed::Refuted {
@@ -73,7 +91,7 @@ fn run(
     index: &[u16],
     rules: usize,
     constructors: usize,
-    table: [[[u8; 4]; 32]; 16],
+    table: Transitions,
     path: &[u8],
     cells: &mut [u64],
 ) -> Replayed
@@ -93,9 +111,9 @@ fn run(
         let letter = byte_at(path, place);
         let state = held.state;
         let c = held.number;
-        let mut row = [255u8; 4];
-        if state < 16 {
-            if c < 32 {
+        let mut row = [NO_TARGET; MAX_ARITY];
+        if state < MAX_STATES {
+            if c < MAX_CONSTRUCTORS {
                 row = table[state][c];
             }
         }
@@ -119,42 +137,42 @@ fn run(
 }
 
 // Whether the path of a file has at most 64 letters: then `replay_short` says what it comes to.
-pub fn is_short(file: &[u8], index: &[u16; 8034]) -> bool
+pub fn is_short(file: &[u8], index: &Index) -> bool
     ensures { λ r. ⌜ r ≡ isShort (now (file .entry)) (now (index .entry)) ⌝ }
 {
-    let letters = entry(file, index, 3169);
-    letters.len() <= 64
+    let letters = entry(file, index, PATH_AT);
+    letters.len() <= SHORT_PATH
 }
 
 // What a path of at most 64 letters comes to, by the tables of its file; of other paths nothing is said. It stands apart
 // from `replay_long` so that a short path needs no large frame.
-pub fn replay_short(file: &[u8], index: &[u16; 8034], counts: &[u16; 10]) -> Replayed
+pub fn replay_short(file: &[u8], index: &Index, counts: &Counts) -> Replayed
     ensures { λ r. ⌜ ReplaysShort (now (file .entry)) (now (index .entry)) (now (counts .entry)) r ⌝ }
 {
-    let table = moves(file, index, place_at(counts, 6));
-    let path = entry(file, index, 3169);
-    let rules = place_at(counts, 4);
-    let constructors = place_at(counts, 2);
-    if path.len() <= 16 {
-        let mut cells = [0u64; 136];
+    let table = moves(file, index, place_at(counts, TRANSITION));
+    let path = entry(file, index, PATH_AT);
+    let rules = place_at(counts, RULE);
+    let constructors = place_at(counts, CONSTRUCTOR);
+    if path.len() <= TINY_PATH {
+        let mut cells = [0u64; TINY_CELLS];
         return run(file, index, rules, constructors, table, path, &mut cells);
     }
-    let mut cells = [0u64; 520];
+    let mut cells = [0u64; SHORT_CELLS];
     run(file, index, rules, constructors, table, path, &mut cells)
 }
 
 // What a path comes to, by the tables of its file. The cells of up to 4,096 letters take 262 KB of stack.
-pub fn replay_long(file: &[u8], index: &[u16; 8034], counts: &[u16; 10]) -> Replayed
+pub fn replay_long(file: &[u8], index: &Index, counts: &Counts) -> Replayed
     ensures { λ r. ⌜ ReplaysPath (now (file .entry)) (now (index .entry)) (now (counts .entry)) r ⌝ }
 {
-    let table = moves(file, index, place_at(counts, 6));
-    let path = entry(file, index, 3169);
-    let rules = place_at(counts, 4);
-    let constructors = place_at(counts, 2);
-    if path.len() <= 512 {
-        let mut cells = [0u64; 4104];
+    let table = moves(file, index, place_at(counts, TRANSITION));
+    let path = entry(file, index, PATH_AT);
+    let rules = place_at(counts, RULE);
+    let constructors = place_at(counts, CONSTRUCTOR);
+    if path.len() <= LONG_PATH {
+        let mut cells = [0u64; LONG_CELLS];
         return run(file, index, rules, constructors, table, path, &mut cells);
     }
-    let mut cells = [0u64; 32776];
+    let mut cells = [0u64; ALL_CELLS];
     run(file, index, rules, constructors, table, path, &mut cells)
 }

@@ -5,6 +5,19 @@ use binding_tests::mentions::touched;
 use binding_tests::test::holds;
 use binding_tests::test::symbol_of;
 use index::entries::place_at;
+use index::layout::BINDING;
+use index::layout::Ends;
+use index::layout::Fits;
+use index::layout::Index;
+use index::layout::LAST_STAMP;
+use index::layout::Lost;
+use index::layout::MAX_BINDINGS;
+use index::layout::MAX_STATES;
+use index::layout::MOST_NODES_AT;
+use index::layout::RULES_AT;
+use index::layout::Rows;
+use index::layout::SHARED;
+use index::layout::TYPE;
 use index::lookup::entry;
 use memo::ready;
 ghost use Rattle.rounds.specs.Shrinking.{Retests, Marks, Turns, Copies, KeepsAll, ShrinksByRounds};
@@ -32,13 +45,13 @@ pub struct Ended {
 // round.
 fn retest(
     file: &[u8],
-    index: &[u16; 8034],
+    index: &Index,
     counts: &[u16],
-    groups: &[u16; 257],
+    groups: &Rows,
     firsts: &[u16],
-    ends: &[u16; 15000],
-    old: &[u8; 66560],
-    lost: &[u8; 65],
+    ends: &Ends,
+    old: &Fits,
+    lost: &Lost,
     memo: &mut [u8],
     stamp: usize,
     b: usize,
@@ -49,14 +62,14 @@ fn retest(
     if was == 0 {
         return Tested { flag: 0, stamp };
     }
-    if lost[64] == 0 {
+    if lost[SHARED] == 0 {
         let f = symbol_of(file, index, b);
-        if !touched(lost, entry(file, index, 352 + f)) {
+        if !touched(lost, entry(file, index, RULES_AT + f)) {
             return Tested { flag: 1, stamp };
         }
     }
-    let nodes = place_at(firsts, 256);
-    let fresh = ready(memo, nodes * (place_at(counts, 7) + 16), stamp);
+    let nodes = place_at(firsts, MOST_NODES_AT);
+    let fresh = ready(memo, nodes * (place_at(counts, TYPE) + MAX_STATES), stamp);
     let kept = holds(
         file,
         index,
@@ -74,7 +87,7 @@ fn retest(
 }
 
 // Marks the nonterminal of binding b, which was kept or not, where its new flag says dropped: by its number modulo 64.
-fn mark(file: &[u8], index: &[u16], lost: &mut [u8; 65], b: usize, was: u8, flag: usize)
+fn mark(file: &[u8], index: &[u16], lost: &mut Lost, b: usize, was: u8, flag: usize)
     ensures { λ _. ⌜ Marks (now (file .entry)) (now (index .entry)) (now (lost .entry)) b was flag (now (lost .exit)) ⌝ }
 {
     if was == 0 {
@@ -84,7 +97,7 @@ fn mark(file: &[u8], index: &[u16], lost: &mut [u8; 65], b: usize, was: u8, flag
         return;
     }
     let f = symbol_of(file, index, b);
-    let at = f % 64;
+    let at = f % SHARED;
     lost[at] = 1;
 }
 
@@ -92,22 +105,22 @@ fn mark(file: &[u8], index: &[u16], lost: &mut [u8; 65], b: usize, was: u8, flag
 // marked. Nothing is written where there are too few flags.
 fn round(
     file: &[u8],
-    index: &[u16; 8034],
+    index: &Index,
     counts: &[u16],
-    groups: &[u16; 257],
+    groups: &Rows,
     firsts: &[u16],
-    ends: &[u16; 15000],
-    old: &[u8; 66560],
-    gone: &[u8; 65],
+    ends: &Ends,
+    old: &Fits,
+    gone: &Lost,
     flags: &mut [u8],
-    lost: &mut [u8; 65],
+    lost: &mut Lost,
     memo: &mut [u8],
     stamp: usize,
 ) -> Turn
     ensures { λ r. ⌜ Turns (now (file .entry)) (now (index .entry)) (now (counts .entry)) (now (groups .entry)) (now (firsts .entry)) (now (ends .entry)) (now (old .entry)) (now (gone .entry)) (now (memo .entry)) (now (flags .entry)) (now (lost .entry)) stamp (now (memo .exit)) (now (flags .exit)) (now (lost .exit)) (r .kept) (r .stamp) ⌝ }
 {
-    let bindings = place_at(counts, 8);
-    if 1024 < bindings {
+    let bindings = place_at(counts, BINDING);
+    if MAX_BINDINGS < bindings {
         return Turn { kept: 0, stamp };
     }
     if flags.len() < bindings {
@@ -142,10 +155,10 @@ fn round(
 }
 
 // Takes over the first n flags.
-fn copy(from: &[u8], n: usize, to: &mut [u8; 66560])
+fn copy(from: &[u8], n: usize, to: &mut Fits)
     ensures { λ _. ⌜ Copies (now (from .entry)) n (now (to .entry)) (now (to .exit)) ⌝ }
 {
-    if 1024 < n {
+    if MAX_BINDINGS < n {
         return;
     }
     if from.len() < n {
@@ -177,25 +190,25 @@ fn all_kept(flags: &mut [u8], n: usize)
 // drops nothing, and what it wrote stands. What the flags, `old` and the memo held before does not matter.
 pub fn shrink(
     file: &[u8],
-    index: &[u16; 8034],
+    index: &Index,
     counts: &[u16],
-    groups: &[u16; 257],
+    groups: &Rows,
     firsts: &[u16],
-    ends: &[u16; 15000],
+    ends: &Ends,
     memo: &mut [u8],
-    old: &mut [u8; 66560],
+    old: &mut Fits,
     flags: &mut [u8],
 ) -> Ended
     ensures { λ r. ⌜ ShrinksByRounds (now (file .entry)) (now (index .entry)) (now (counts .entry)) (now (groups .entry)) (now (firsts .entry)) (now (ends .entry)) (now (flags .entry)) (now (flags .exit)) (r .kept) (r .rounds) ⌝ }
 {
-    let total = place_at(counts, 8);
+    let total = place_at(counts, BINDING);
     all_kept(old, total);
-    let mut gone = [1u8; 65];
+    let mut gone = [1u8; SHARED + 1];
     let mut kept = total;
     let mut rounds: usize = 0;
-    let mut stamp: usize = 127;
+    let mut stamp: usize = LAST_STAMP;
     loop {
-        let mut lost = [0u8; 65];
+        let mut lost = [0u8; SHARED + 1];
         let turn = round(
             file,
             index,

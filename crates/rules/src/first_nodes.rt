@@ -1,6 +1,13 @@
 // Where the nodes of each rule begin, where the nodes of all rules are numbered one after another.
 use index::entries::larger;
 use index::entries::place_at;
+use index::layout::LAST_NONTERMINAL;
+use index::layout::MAX_BODY;
+use index::layout::MAX_NONTERMINALS;
+use index::layout::MOST_NODES_AT;
+use index::layout::NODE;
+use index::layout::ROWS;
+use index::layout::RULES_AT;
 use records::fields::word_at;
 ghost use Rattle.rules.specs.first_nodes.FirstNodes.{CountsNodes, FillsFirsts};
 
@@ -8,18 +15,18 @@ ghost use Rattle.rules.specs.first_nodes.FirstNodes.{CountsNodes, FillsF
 fn nodes_of(file: &[u8], index: &[u16], f: usize) -> usize
     ensures { λ r. ⌜ CountsNodes (now (file .entry)) (now (index .entry)) f r ⌝ }
 {
-    if 255 < f {
+    if LAST_NONTERMINAL < f {
         return 0;
     }
-    let place = place_at(index, 352 + f);
+    let place = place_at(index, RULES_AT + f);
     if place < 4 {
         return 0;
     }
     let len = word_at(file, place - 4);
-    if 1024 < len {
+    if MAX_BODY < len {
         return 0;
     }
-    len / 4
+    len / NODE
 }
 
 // Fills a table: entry f gets the number of the first node of rule f, entry 256 how many nodes the largest rule has. The
@@ -27,10 +34,10 @@ fn nodes_of(file: &[u8], index: &[u16], f: usize) -> usize
 pub fn fill_firsts(file: &[u8], index: &[u16], rules: usize, firsts: &mut [u16])
     ensures { λ _. ⌜ FillsFirsts (now (file .entry)) (now (index .entry)) rules (now (firsts .entry)) (now (firsts .exit)) ⌝ }
 {
-    if 256 < rules {
+    if MAX_NONTERMINALS < rules {
         return;
     }
-    if firsts.len() < 257 {
+    if firsts.len() < ROWS {
         return;
     }
     let mut at: usize = 0;
@@ -43,5 +50,5 @@ pub fn fill_firsts(file: &[u8], index: &[u16], rules: usize, firsts: &mut [u16])
         most = larger(most, n);
         f = f + 1;
     }
-    firsts[256] = most as u16;
+    firsts[MOST_NODES_AT] = most as u16;
 }

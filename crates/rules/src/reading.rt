@@ -1,6 +1,11 @@
 // The bodies of rules one after another: the first that does not fit, and the ends of subterms.
 use bodies::body_fits;
 use index::entries::place_at;
+use index::layout::LAST_NONTERMINAL;
+use index::layout::MAX_BODY;
+use index::layout::NODE;
+use index::layout::RULES_AT;
+use index::layout::Rows;
 use records::cursor::payload;
 use records::fields::word_at;
 ghost use Rattle.rules.specs.reading.RuleBodies.{RuleRead, ReadsRules};
@@ -17,23 +22,23 @@ fn read_rule(
     signatures: &[u16],
     f: usize,
     ends: &mut [u16],
-    codes: &mut [u16; 257],
-    depths: &mut [u16; 257],
+    codes: &mut Rows,
+    depths: &mut Rows,
 ) -> usize
     ensures { λ r. ⌜ RuleRead (now (file .entry)) (now (index .entry)) (now (froms .entry)) (now (tos .entry)) (now (trees .entry)) (now (arities .entry)) (now (signatures .entry)) f (now (ends .entry)) (now (ends .exit)) r ⌝ }
 {
-    if 255 < f {
+    if LAST_NONTERMINAL < f {
         return 0;
     }
-    let place = place_at(index, 352 + f);
+    let place = place_at(index, RULES_AT + f);
     if place < 4 {
         return 0;
     }
     let len = word_at(file, place - 4);
-    if 1024 < len {
+    if MAX_BODY < len {
         return 0;
     }
-    if ends.len() < len / 4 {
+    if ends.len() < len / NODE {
         return 0;
     }
     let p = payload(file, place, len);
@@ -52,7 +57,7 @@ fn read_rule(
     ) {
         return 0;
     }
-    len / 4
+    len / NODE
 }
 
 // The number of the first rule whose body does not fit, or of rules where all fit; `ends` gets the ends of subterms, rule after rule.
@@ -67,8 +72,8 @@ pub fn read_rules(
     signatures: &[u16],
     rules: usize,
     ends: &mut [u16],
-    codes: &mut [u16; 257],
-    depths: &mut [u16; 257],
+    codes: &mut Rows,
+    depths: &mut Rows,
 ) -> usize
     ensures { λ r. ⌜ ReadsRules (now (file .entry)) (now (index .entry)) (now (froms .entry)) (now (tos .entry)) (now (trees .entry)) (now (arities .entry)) (now (signatures .entry)) rules (now (ends .entry)) (now (ends .exit)) r ⌝ }
 {

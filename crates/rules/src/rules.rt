@@ -1,6 +1,14 @@
 // The bodies of all rules of a file: the first that is no single term of sort o within 64 levels, and the ends of subterms.
 use crate::reading::read_rules;
 use index::entries::place_at;
+use index::layout::ALL_SORTS;
+use index::layout::CONSTRUCTORS_AT;
+use index::layout::MAX_CONSTRUCTORS;
+use index::layout::MAX_NONTERMINALS;
+use index::layout::MAX_SORTS;
+use index::layout::NONTERMINALS_AT;
+use index::layout::Rows;
+use index::layout::SORTS_AT;
 use records::fields::byte_at;
 use records::fields::word_at;
 use sorts::codes::tree_codes;
@@ -57,13 +65,13 @@ fn fill(
 fn within_limits(sorts: usize, constructors: usize, nonterminals: usize, rules: usize) -> bool
     ensures { λ r. ⌜ WithinLimits sorts constructors nonterminals rules r ⌝ }
 {
-    if 64 < sorts {
+    if MAX_SORTS < sorts {
         return false;
     }
-    if 32 < constructors {
+    if MAX_CONSTRUCTORS < constructors {
         return false;
     }
-    if 256 < nonterminals {
+    if MAX_NONTERMINALS < nonterminals {
         return false;
     }
     rules <= nonterminals
@@ -79,22 +87,40 @@ pub fn first_wrong_body(
     nonterminals: usize,
     rules: usize,
     ends: &mut [u16],
-    codes: &mut [u16; 257],
-    depths: &mut [u16; 257],
+    codes: &mut Rows,
+    depths: &mut Rows,
 ) -> usize
     ensures { λ r. ⌜ FindsWrongBody (now (file .entry)) (now (index .entry)) sorts constructors nonterminals rules (now (ends .entry)) (now (ends .exit)) r ⌝ }
 {
     if !within_limits(sorts, constructors, nonterminals, rules) {
         return 0;
     }
-    let mut froms = [0u16; 65];
-    let mut tos = [0u16; 65];
-    let mut arities = [0u16; 32];
-    let mut signatures = [0u16; 256];
-    fill(file, index, 2, 0, 0, sorts, 1, &mut froms);
-    fill(file, index, 2, 0, 2, sorts, 1, &mut tos);
-    fill(file, index, 1, 64, 0, constructors, 0, &mut arities);
-    fill(file, index, 2, 96, 0, nonterminals, 0, &mut signatures);
+    let mut froms = [0u16; ALL_SORTS];
+    let mut tos = [0u16; ALL_SORTS];
+    let mut arities = [0u16; MAX_CONSTRUCTORS];
+    let mut signatures = [0u16; MAX_NONTERMINALS];
+    fill(file, index, 2, SORTS_AT, 0, sorts, 1, &mut froms);
+    fill(file, index, 2, SORTS_AT, 2, sorts, 1, &mut tos);
+    fill(
+        file,
+        index,
+        1,
+        CONSTRUCTORS_AT,
+        0,
+        constructors,
+        0,
+        &mut arities,
+    );
+    fill(
+        file,
+        index,
+        2,
+        NONTERMINALS_AT,
+        0,
+        nonterminals,
+        0,
+        &mut signatures,
+    );
     let trees = tree_codes(&froms, &tos, sorts + 1);
     read_rules(
         file,

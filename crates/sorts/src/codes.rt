@@ -1,6 +1,7 @@
 // The codes of sorts: of the sorts that a file lists, and of those of constructors.
 use index::entries::narrow;
 use index::entries::place_at;
+use index::layout::MAX_ARITY;
 ghost use mathlib.Core.Path.{_≡_};
 ghost use mathlib.Core.Bool.{_&&_};
 ghost use lib.Dec.{eqb};
@@ -45,7 +46,7 @@ fn next_tree(froms: &[u16], tos: &[u16], n: usize, code: u16, other: u16) -> u16
 }
 
 // The codes of the sorts of constructors with 0 to 4 arguments.
-pub fn tree_codes(froms: &[u16], tos: &[u16], n: usize) -> [u16; 5]
+pub fn tree_codes(froms: &[u16], tos: &[u16], n: usize) -> [u16; MAX_ARITY + 1]
     ensures { λ r. ⌜ ((sorts : List Sort) → SortArrays sorts n (now (froms .entry)) (now (tos .entry)) → TreeCodes sorts r) ⌝ }
 {
     let one = next_tree(froms, tos, n, 0, 1001);

@@ -9,6 +9,22 @@ use head_types::candidates::candidate;
 use head_types::candidates::span_of;
 use head_types::constructors::place_for;
 use index::entries::place_at;
+use index::layout::Ends;
+use index::layout::Fits;
+use index::layout::Index;
+use index::layout::MAX_STATES;
+use index::layout::MAX_TYPES;
+use index::layout::NODE;
+use index::layout::NONE;
+use index::layout::Rows;
+use index::layout::TEST_BYTES;
+use index::layout::TEST_CONSTRUCTORS;
+use index::layout::TEST_FIRST;
+use index::layout::TEST_GOAL;
+use index::layout::TEST_STAMP;
+use index::layout::TEST_START;
+use index::layout::TEST_TYPES;
+use index::layout::Test;
 use memo::known;
 use memo::learn;
 ghost use mathlib.Core.Bool.{false};
@@ -54,10 +70,10 @@ fn node_at(file: &[u8], start: usize, len: usize, at: usize) -> HeadNode
     if file.len() - start < len {
         return nothing();
     }
-    if len / 4 <= at {
+    if len / NODE <= at {
         return nothing();
     }
-    let place = start + at * 4;
+    let place = start + at * NODE;
     let tag = file[place] as usize;
     let low = file[place + 1] as usize;
     let high = file[place + 2] as usize;
@@ -90,10 +106,10 @@ fn known_part(memo: &[u8], types: usize, stamp: usize, at: usize, goal: usize, s
     if size < 8 {
         return 0;
     }
-    if 1024 < types {
+    if MAX_TYPES < types {
         return 0;
     }
-    known(memo, types + 16, stamp, at, goal)
+    known(memo, types + MAX_STATES, stamp, at, goal)
 }
 
 // Remembers what was found of such an argument.
@@ -111,10 +127,10 @@ fn learn_part(
     if size < 8 {
         return;
     }
-    if 1024 < types {
+    if MAX_TYPES < types {
         return;
     }
-    learn(memo, types + 16, stamp, at, goal, yes);
+    learn(memo, types + MAX_STATES, stamp, at, goal, yes);
 }
 
 // Whether the term at a node has a type, a goal by its number. The numbers of the test are how many types and constructors
@@ -122,22 +138,22 @@ fn learn_part(
 // the number of its first node.
 pub fn check_term(
     file: &[u8],
-    index: &[u16; 8034],
-    groups: &[u16; 257],
-    kept: &[u8; 66560],
-    ends: &[u16; 15000],
-    test: &[usize; 7],
+    index: &Index,
+    groups: &Rows,
+    kept: &Fits,
+    ends: &Ends,
+    test: &Test,
     memo: &mut [u8],
     at: usize,
     goal: usize,
 ) -> bool
     ensures { λ r. ⌜ ChecksTerm (record { file = now (file .entry); index = now (index .entry); groups = now (groups .entry); kept = now (kept .entry); ends = endsBy (now (ends .entry)) (now (test .entry)); body = bodyBy (now (file .entry)) (now (test .entry)); test = testBy (now (test .entry)) }) (now (memo .entry)) at goal (now (memo .exit)) r ⌝ }
 {
-    let types = test[0];
-    if 1024 < types {
+    let types = test[TEST_TYPES];
+    if MAX_TYPES < types {
         return false;
     }
-    let front = node_at(file, test[4], test[5], at);
+    let front = node_at(file, test[TEST_START], test[TEST_BYTES], at);
     if !front.there {
         return false;
     }
@@ -145,7 +161,7 @@ pub fn check_term(
         return check_head(file, index, groups, kept, ends, test, memo, at, front, goal);
     }
     if front.count == 0 {
-        let own = test[2];
+        let own = test[TEST_GOAL];
         let nonterminal = front.tag == 1;
         return bare_has(
             file,
@@ -166,11 +182,11 @@ pub fn check_term(
 // state in which the goal ends, give the goal, and each argument has its target.
 fn check_head(
     file: &[u8],
-    index: &[u16; 8034],
-    groups: &[u16; 257],
-    kept: &[u8; 66560],
-    ends: &[u16; 15000],
-    test: &[usize; 7],
+    index: &Index,
+    groups: &Rows,
+    kept: &Fits,
+    ends: &Ends,
+    test: &Test,
     memo: &mut [u8],
     at: usize,
     front: HeadNode,
@@ -178,8 +194,8 @@ fn check_head(
 ) -> bool
     ensures { λ r. ⌜ ChecksHead (record { file = now (file .entry); index = now (index .entry); groups = now (groups .entry); kept = now (kept .entry); ends = endsBy (now (ends .entry)) (now (test .entry)); body = bodyBy (now (file .entry)) (now (test .entry)); test = testBy (now (test .entry)) }) (now (memo .entry)) at front goal (now (memo .exit)) r ⌝ }
 {
-    let types = test[0];
-    if 1024 < types {
+    let types = test[TEST_TYPES];
+    if MAX_TYPES < types {
         return false;
     }
     let count = front.count;
@@ -190,29 +206,37 @@ fn check_head(
     if next <= at {
         return false;
     }
-    let place = place_for(file, index, types, test[1], front.number, count, goal);
+    let place = place_for(
+        file,
+        index,
+        types,
+        test[TEST_CONSTRUCTORS],
+        front.number,
+        count,
+        goal,
+    );
     if place == 0 {
         return false;
     }
     let mut i: usize = 0;
     while i < count {
         let target = target_of(file, types, place, i);
-        if target == 65535 {
+        if target == NONE {
             return false;
         }
-        let end = end_of(ends, test[6], next);
+        let end = end_of(ends, test[TEST_FIRST], next);
         if end <= next {
             return false;
         }
         i = i + 1;
         let size = end - next;
-        let old = known_part(memo, types, test[3], next, target, size);
+        let old = known_part(memo, types, test[TEST_STAMP], next, target, size);
         if old == 1 {
             return false;
         }
         if old != 2 {
             let yes = check_term(file, index, groups, kept, ends, test, memo, next, target);
-            learn_part(memo, types, test[3], next, target, size, yes);
+            learn_part(memo, types, test[TEST_STAMP], next, target, size, yes);
             if !yes {
                 return false;
             }
@@ -226,11 +250,11 @@ fn check_head(
 // asks for.
 fn check_choices(
     file: &[u8],
-    index: &[u16; 8034],
-    groups: &[u16; 257],
-    kept: &[u8; 66560],
-    ends: &[u16; 15000],
-    test: &[usize; 7],
+    index: &Index,
+    groups: &Rows,
+    kept: &Fits,
+    ends: &Ends,
+    test: &Test,
     memo: &mut [u8],
     at: usize,
     front: HeadNode,
@@ -245,14 +269,22 @@ fn check_choices(
     let nonterminal = front.tag == 1;
     let number = front.number;
     let count = front.count;
-    let types = test[0];
-    let span = span_of(file, index, types, groups, test[2], nonterminal, number);
+    let types = test[TEST_TYPES];
+    let span = span_of(
+        file,
+        index,
+        types,
+        groups,
+        test[TEST_GOAL],
+        nonterminal,
+        number,
+    );
     let given = span.given;
     let mut j = span.low;
     while j < span.high {
         let head = candidate(file, index, types, kept, nonterminal, given, j, count, goal);
         j = j + 1;
-        if head != 65535 {
+        if head != NONE {
             if check_args(
                 file,
                 index,
@@ -276,11 +308,11 @@ fn check_choices(
 // is remembered, for another type of the head may ask for the same.
 fn check_args(
     file: &[u8],
-    index: &[u16; 8034],
-    groups: &[u16; 257],
-    kept: &[u8; 66560],
-    ends: &[u16; 15000],
-    test: &[usize; 7],
+    index: &Index,
+    groups: &Rows,
+    kept: &Fits,
+    ends: &Ends,
+    test: &Test,
     memo: &mut [u8],
     first: usize,
     count: usize,
@@ -288,8 +320,8 @@ fn check_args(
 ) -> bool
     ensures { λ r. ⌜ ChecksArgs (record { file = now (file .entry); index = now (index .entry); groups = now (groups .entry); kept = now (kept .entry); ends = endsBy (now (ends .entry)) (now (test .entry)); body = bodyBy (now (file .entry)) (now (test .entry)); test = testBy (now (test .entry)) }) (now (memo .entry)) first count false head [] (now (memo .exit)) r ⌝ }
 {
-    let types = test[0];
-    if 1024 < types {
+    let types = test[TEST_TYPES];
+    if MAX_TYPES < types {
         return false;
     }
     let mut at = first;
@@ -299,8 +331,8 @@ fn check_args(
     let mut many = members_of(file, index, types, head);
     while i < count {
         let member = wanted(file, index, types, asked, many, j);
-        if member == 65535 {
-            let next = end_of(ends, test[6], at);
+        if member == NONE {
+            let next = end_of(ends, test[TEST_FIRST], at);
             if next <= at {
                 return false;
             }
@@ -311,15 +343,25 @@ fn check_args(
             j = 0;
         } else {
             j = j + 1;
-            let old = known(memo, types + 16, test[3], at, member);
+            let old = known(memo, types + MAX_STATES, test[TEST_STAMP], at, member);
             if old == 1 {
                 return false;
             }
             if old == 2 {
-                j = known_until(file, index, memo, types, test[3], at, asked, many, j);
+                j = known_until(
+                    file,
+                    index,
+                    memo,
+                    types,
+                    test[TEST_STAMP],
+                    at,
+                    asked,
+                    many,
+                    j,
+                );
             } else {
                 let yes = check_term(file, index, groups, kept, ends, test, memo, at, member);
-                learn(memo, types + 16, test[3], at, member, yes);
+                learn(memo, types + MAX_STATES, test[TEST_STAMP], at, member, yes);
                 if !yes {
                     return false;
                 }

@@ -1,5 +1,7 @@
 // The members of an arrow that are remembered to hold of a node, one after another.
 use arrows::argument_goals::wanted;
+use index::layout::MAX_STATES;
+use index::layout::MAX_TYPES;
 use memo::known;
 ghost use Rattle.term_check.specs.known.Runs.{RunsTo};
 
@@ -17,13 +19,13 @@ pub fn known_until(
 ) -> usize
     ensures { λ r. ⌜ RunsTo (now (file .entry)) (now (index .entry)) (now (memo .entry)) types stamp at head many from r ⌝ }
 {
-    if 1024 < types {
+    if MAX_TYPES < types {
         return from;
     }
     let mut j = from;
     while j < many {
         let member = wanted(file, index, types, head, many, j);
-        if known(memo, types + 16, stamp, at, member) != 2 {
+        if known(memo, types + MAX_STATES, stamp, at, member) != 2 {
             return j;
         }
         j = j + 1;

@@ -2,6 +2,12 @@
 // lies in the file, 32 for each state; 0 where there is none.
 use index::enter::store;
 use index::entries::place_at;
+use index::layout::INDEX;
+use index::layout::MAX_CONSTRUCTORS;
+use index::layout::MAX_STATES;
+use index::layout::MAX_TRANSITIONS;
+use index::layout::PLACES_AT;
+use index::layout::TRANSITIONS_AT;
 use records::fields::byte_at;
 ghost use Rattle.transitions.specs.places.RowPlaces.{IsPlaceIn, Emptied, FillsRows};
 
@@ -9,25 +15,25 @@ ghost use Rattle.transitions.specs.places.RowPlaces.{IsPlaceIn, Emptied,
 pub fn place_in(index: &[u16], q: usize, c: usize) -> usize
     ensures { λ r. ⌜ IsPlaceIn (now (index .entry)) q c r ⌝ }
 {
-    if 16 <= q {
+    if MAX_STATES <= q {
         return 0;
     }
-    if 32 <= c {
+    if MAX_CONSTRUCTORS <= c {
         return 0;
     }
-    place_at(index, 7522 + (q * 32 + c))
+    place_at(index, PLACES_AT + (q * MAX_CONSTRUCTORS + c))
 }
 
 // Sets the place for each state and constructor to 0.
 fn empty_rows(index: &mut [u16])
     ensures { λ _. ⌜ Emptied (now (index .entry)) (now (index .exit)) ⌝ }
 {
-    if index.len() < 8034 {
+    if index.len() < INDEX {
         return;
     }
     let mut i: usize = 0;
-    while i < 512 {
-        index[7522 + i] = 0;
+    while i < MAX_TRANSITIONS {
+        index[PLACES_AT + i] = 0;
         i = i + 1;
     }
 }
@@ -36,19 +42,19 @@ fn empty_rows(index: &mut [u16])
 pub fn fill_rows(file: &[u8], index: &mut [u16], n: usize)
     ensures { λ _. ⌜ FillsRows (now (file .entry)) (now (index .entry)) n (now (index .exit)) ⌝ }
 {
-    if 512 < n {
+    if MAX_TRANSITIONS < n {
         return;
     }
     empty_rows(index);
     let mut k = n;
     while 0 < k {
         k = k - 1;
-        let at = place_at(index, 608 + k);
+        let at = place_at(index, TRANSITIONS_AT + k);
         let q = byte_at(file, at);
         let c = byte_at(file, at + 1);
-        if q < 16 {
-            if c < 32 {
-                store(index, 7522 + (q * 32 + c), at);
+        if q < MAX_STATES {
+            if c < MAX_CONSTRUCTORS {
+                store(index, PLACES_AT + (q * MAX_CONSTRUCTORS + c), at);
             }
         }
     }

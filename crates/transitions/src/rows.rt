@@ -1,20 +1,27 @@
 // The row of the transition table for a state and a constructor, and a constructor's argument count.
 use index::entries::place_at;
+use index::layout::CONSTRUCTORS_AT;
+use index::layout::MAX_ARITY;
+use index::layout::MAX_CONSTRUCTORS;
+use index::layout::MAX_STATES;
+use index::layout::NO_TARGET;
+use index::layout::Row;
+use index::layout::Transitions;
 use records::fields::byte_at;
 ghost use Rattle.transitions.specs.rows.Rows.{IsRow, IsArity};
 
 // The row of the table for a state and a constructor; 255 where there is no transition.
-pub fn row_of(table: [[[u8; 4]; 32]; 16], constructors: usize, state: usize, c: usize) -> [u8; 4]
+pub fn row_of(table: Transitions, constructors: usize, state: usize, c: usize) -> Row
     ensures { λ r. ⌜ IsRow table constructors state c r ⌝ }
 {
-    if 16 <= state {
-        return [255; 4];
+    if MAX_STATES <= state {
+        return [NO_TARGET; MAX_ARITY];
     }
     if constructors <= c {
-        return [255; 4];
+        return [NO_TARGET; MAX_ARITY];
     }
-    if 32 <= c {
-        return [255; 4];
+    if MAX_CONSTRUCTORS <= c {
+        return [NO_TARGET; MAX_ARITY];
     }
     table[state][c]
 }
@@ -26,8 +33,8 @@ pub fn arity_of(file: &[u8], index: &[u16], constructors: usize, c: usize) -> us
     if constructors <= c {
         return 0;
     }
-    if 32 <= c {
+    if MAX_CONSTRUCTORS <= c {
         return 0;
     }
-    byte_at(file, place_at(index, 64 + c))
+    byte_at(file, place_at(index, CONSTRUCTORS_AT + c))
 }

@@ -4,6 +4,23 @@ use index::enter::enter_sort;
 use index::enter::enter_type;
 use index::enter::store;
 use index::entries::place_at;
+use index::layout::BINDING;
+use index::layout::BINDINGS_AT;
+use index::layout::CONSTRUCTOR;
+use index::layout::CONSTRUCTORS_AT;
+use index::layout::NONTERMINAL;
+use index::layout::NONTERMINALS_AT;
+use index::layout::PATH;
+use index::layout::PATH_AT;
+use index::layout::RULE;
+use index::layout::RULES_AT;
+use index::layout::SORT;
+use index::layout::STATES;
+use index::layout::STATES_AT;
+use index::layout::TRANSITION;
+use index::layout::TRANSITIONS_AT;
+use index::layout::TYPE;
+use index::layout::TYPES_AT;
 use record_tests::once::test_path;
 use record_tests::once::test_states;
 use record_tests::ordered::test_binding;
@@ -31,7 +48,7 @@ fn state_count(file: &[u8], index: &[u16], n: usize) -> usize
     if n == 0 {
         return 0;
     }
-    byte_at(file, place_at(index, 3168))
+    byte_at(file, place_at(index, STATES_AT))
 }
 
 // A record of a kind, here a sort, with the payload p, which begins at start: its code, 0 or the number of the first of 4 to 7
@@ -46,14 +63,14 @@ fn take_sort(
 ) -> usize
     ensures { λ r. ⌜ Taken (now (file .entry)) (now (index .entry)) (now (lens .entry)) (now (counts .entry)) (number Kind.sort) start (now (p .entry)) (now (index .exit)) (now (lens .exit)) (now (counts .exit)) r ⌝ }
 {
-    let n = place_at(counts, 1);
+    let n = place_at(counts, SORT);
     let number = test_sort(file, index, lens, n, p);
     if number != 0 {
         return number;
     }
     store(index, n, start);
     enter_sort(lens, n, p);
-    store(counts, 1, n + 1);
+    store(counts, SORT, n + 1);
     0
 }
 
@@ -61,13 +78,13 @@ fn take_sort(
 fn take_constructor(index: &mut [u16], counts: &mut [u16], start: usize, p: &[u8]) -> usize
     ensures { λ r. ⌜ ((file lens : List ℕ) → Taken file (now (index .entry)) lens (now (counts .entry)) (number Kind.constructor) start (now (p .entry)) (now (index .exit)) lens (now (counts .exit)) r) ⌝ }
 {
-    let n = place_at(counts, 2);
+    let n = place_at(counts, CONSTRUCTOR);
     let number = test_constructor(n, p);
     if number != 0 {
         return number;
     }
-    store(index, 64 + n, start);
-    store(counts, 2, n + 1);
+    store(index, CONSTRUCTORS_AT + n, start);
+    store(counts, CONSTRUCTOR, n + 1);
     0
 }
 
@@ -75,13 +92,13 @@ fn take_constructor(index: &mut [u16], counts: &mut [u16], start: usize, p: &[u8
 fn take_nonterminal(index: &mut [u16], counts: &mut [u16], start: usize, p: &[u8]) -> usize
     ensures { λ r. ⌜ ((file lens : List ℕ) → Taken file (now (index .entry)) lens (now (counts .entry)) (number Kind.nonterminal) start (now (p .entry)) (now (index .exit)) lens (now (counts .exit)) r) ⌝ }
 {
-    let n = place_at(counts, 3);
-    let number = test_nonterminal(place_at(counts, 1) + 1, n, p);
+    let n = place_at(counts, NONTERMINAL);
+    let number = test_nonterminal(place_at(counts, SORT) + 1, n, p);
     if number != 0 {
         return number;
     }
-    store(index, 96 + n, start);
-    store(counts, 3, n + 1);
+    store(index, NONTERMINALS_AT + n, start);
+    store(counts, NONTERMINAL, n + 1);
     0
 }
 
@@ -96,15 +113,15 @@ fn take_rule(
 ) -> usize
     ensures { λ r. ⌜ Taken (now (file .entry)) (now (index .entry)) (now (lens .entry)) (now (counts .entry)) (number Kind.rule) start (now (p .entry)) (now (index .exit)) (now (lens .entry)) (now (counts .exit)) r ⌝ }
 {
-    let n = place_at(counts, 4);
-    let constructors = place_at(counts, 2);
-    let nonterminals = place_at(counts, 3);
+    let n = place_at(counts, RULE);
+    let constructors = place_at(counts, CONSTRUCTOR);
+    let nonterminals = place_at(counts, NONTERMINAL);
     let number = test_rule(file, index, lens, n, constructors, nonterminals, p);
     if number != 0 {
         return number;
     }
-    store(index, 352 + n, start);
-    store(counts, 4, n + 1);
+    store(index, RULES_AT + n, start);
+    store(counts, RULE, n + 1);
     0
 }
 
@@ -112,13 +129,13 @@ fn take_rule(
 fn take_states(index: &mut [u16], counts: &mut [u16], start: usize, p: &[u8]) -> usize
     ensures { λ r. ⌜ ((file lens : List ℕ) → Taken file (now (index .entry)) lens (now (counts .entry)) (number Kind.states) start (now (p .entry)) (now (index .exit)) lens (now (counts .exit)) r) ⌝ }
 {
-    let n = place_at(counts, 5);
+    let n = place_at(counts, STATES);
     let number = test_states(n, p);
     if number != 0 {
         return number;
     }
-    store(index, 3168 + n, start);
-    store(counts, 5, n + 1);
+    store(index, STATES_AT + n, start);
+    store(counts, STATES, n + 1);
     0
 }
 
@@ -132,14 +149,14 @@ fn take_transition(
 ) -> usize
     ensures { λ r. ⌜ ((lens : List ℕ) → Taken (now (file .entry)) (now (index .entry)) lens (now (counts .entry)) (number Kind.transition) start (now (p .entry)) (now (index .exit)) lens (now (counts .exit)) r) ⌝ }
 {
-    let n = place_at(counts, 6);
-    let states = state_count(file, index, place_at(counts, 5));
-    let number = test_transition(file, index, n, states, place_at(counts, 2), p);
+    let n = place_at(counts, TRANSITION);
+    let states = state_count(file, index, place_at(counts, STATES));
+    let number = test_transition(file, index, n, states, place_at(counts, CONSTRUCTOR), p);
     if number != 0 {
         return number;
     }
-    store(index, 608 + n, start);
-    store(counts, 6, n + 1);
+    store(index, TRANSITIONS_AT + n, start);
+    store(counts, TRANSITION, n + 1);
     0
 }
 
@@ -147,16 +164,16 @@ fn take_transition(
 fn take_type(file: &[u8], index: &mut [u16], counts: &mut [u16], start: usize, p: &[u8]) -> usize
     ensures { λ r. ⌜ ((lens : List ℕ) → Taken (now (file .entry)) (now (index .entry)) lens (now (counts .entry)) (number Kind.type) start (now (p .entry)) (now (index .exit)) lens (now (counts .exit)) r) ⌝ }
 {
-    let n = place_at(counts, 7);
-    let states = state_count(file, index, place_at(counts, 5));
+    let n = place_at(counts, TYPE);
+    let states = state_count(file, index, place_at(counts, STATES));
     let h = hash_of(p);
     let number = test_type(file, index, n, states, h, p);
     if number != 0 {
         return number;
     }
-    store(index, 1120 + n, start);
+    store(index, TYPES_AT + n, start);
     enter_type(index, n, h);
-    store(counts, 7, n + 1);
+    store(counts, TYPE, n + 1);
     0
 }
 
@@ -164,15 +181,15 @@ fn take_type(file: &[u8], index: &mut [u16], counts: &mut [u16], start: usize, p
 fn take_binding(file: &[u8], index: &mut [u16], counts: &mut [u16], start: usize, p: &[u8]) -> usize
     ensures { λ r. ⌜ ((lens : List ℕ) → Taken (now (file .entry)) (now (index .entry)) lens (now (counts .entry)) (number Kind.binding) start (now (p .entry)) (now (index .exit)) lens (now (counts .exit)) r) ⌝ }
 {
-    let n = place_at(counts, 8);
-    let nonterminals = place_at(counts, 3);
-    let types = place_at(counts, 7);
+    let n = place_at(counts, BINDING);
+    let nonterminals = place_at(counts, NONTERMINAL);
+    let types = place_at(counts, TYPE);
     let number = test_binding(file, index, n, nonterminals, types, p);
     if number != 0 {
         return number;
     }
-    store(index, 2144 + n, start);
-    store(counts, 8, n + 1);
+    store(index, BINDINGS_AT + n, start);
+    store(counts, BINDING, n + 1);
     0
 }
 
@@ -180,13 +197,13 @@ fn take_binding(file: &[u8], index: &mut [u16], counts: &mut [u16], start: usize
 fn take_path(index: &mut [u16], counts: &mut [u16], start: usize, p: &[u8]) -> usize
     ensures { λ r. ⌜ ((file lens : List ℕ) → Taken file (now (index .entry)) lens (now (counts .entry)) (number Kind.path) start (now (p .entry)) (now (index .exit)) lens (now (counts .exit)) r) ⌝ }
 {
-    let n = place_at(counts, 9);
+    let n = place_at(counts, PATH);
     let number = test_path(n, p);
     if number != 0 {
         return number;
     }
-    store(index, 3169 + n, start);
-    store(counts, 9, n + 1);
+    store(index, PATH_AT + n, start);
+    store(counts, PATH, n + 1);
     0
 }
 

@@ -1,6 +1,9 @@
 // The walk over a file: one pass over its records, which fills the index or finds the first refusal by 2 to 7.
 use crate::kinds::take;
 use index::enter::store;
+use index::layout::HASHES;
+use index::layout::HASHES_AT;
+use index::layout::LINKS_AT;
 use records::cursor::Read;
 use records::reader::Reader;
 ghost use mathlib.Core.Path.{_≡_};
@@ -36,12 +39,12 @@ fn clear(a: &mut [u16])
 fn empty_chains(index: &mut [u16])
     ensures { λ _. ⌜ Emptied (now (index .entry)) (now (index .exit)) ⌝ }
 {
-    if index.len() < 3426 {
+    if index.len() < LINKS_AT {
         return;
     }
     let mut h: usize = 0;
-    while h < 256 {
-        index[3170 + h] = 0;
+    while h < HASHES {
+        index[HASHES_AT + h] = 0;
         h = h + 1;
     }
 }
