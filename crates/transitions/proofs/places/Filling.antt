@@ -1,4 +1,4 @@
--- The places of the transitions, emptied, and then entered from the last transition to the first.
+-- The places of the transitions, cleared, and then entered from the last transition to the first.
 use Prim.Native.Nat.{ℕ, zero, suc, _+_, _-_, _*_, _<_, _≤_}
 use native.Mathlib.Nat.{add-zero}
 use native.Mathlib.Omega.{arith}
@@ -9,8 +9,7 @@ use mathlib.Core.List.{List, [], _∷_, map}
 use mathlib.Core.Option.{Option, none, some}
 use borrow.Author.Tests.{eq-eqb, ne-eqb, eqb-false}
 use lib.Dec.{eqb}
-use lib.ListN.{length, getD, set, take, drop, length-set}
-use lib.Seq.{getD-set-same, getD-set-other}
+use lib.ListN.{length, getD, take, drop}
 use Rattle.scheme.specs.Lists.{if_then_else_}
 use Rattle.scheme.proofs.Lists.{and-no}
 use Rattle.casefile.specs.Fields.{byte}
@@ -22,42 +21,13 @@ use Rattle.casefile.proofs.TypeTable.{count-payloads}
 use Rattle.index.specs.entries.Index.{Indexed}
 use Rattle.index.specs.entries.Tests.{IsPlace}
 use Rattle.index.proofs.entries.Stays.{indexed-same}
-use Rattle.index.specs.enter.Entering.{stored}
+use Rattle.index.specs.enter.Entering.{stored, Clears}
 use Rattle.index.proofs.enter.Storing.{stored-length, stored-here, stored-other}
 use Rattle.transitions.specs.table.Moves.{fourAt, rowFor, targetsIn}
 use Rattle.transitions.proofs.table.Filling.{no-row, six, none-behind, row-back, other-state, other-constructor}
 use Rattle.transitions.proofs.table.Meaning.{row-means}
-use Rattle.transitions.specs.places.RowPlaces.{rowBase, placeIn, targetsFrom, Emptied, FillsRows}
+use Rattle.transitions.specs.places.RowPlaces.{rowBase, placeIn, targetsFrom, FillsRows}
 use Rattle.transitions.proofs.places.Rows.{rowFrom, rowIn, row-none, row-some}
-
--- The first i places are 0.
-pub record Zeros (before after : List ℕ) (i : ℕ) : Type 0 where
-  pub few : i ≤ 512
-  pub long : length after ≡ length before
-  pub stays : (j : ℕ) → j < rowBase → getD after j 0 ≡ getD before j 0
-  pub zeros : (j : ℕ) → j < i → getD after (rowBase + j) 0 ≡ 0
-
-pub short : (a : List ℕ) → length a < 8034 → Emptied a a
-short a h = record { long = refl; stays = λ j l. refl; none = λ room. absurd (omega arith) }
-
-pub zeros-none : (a : List ℕ) → Zeros a a 0
-zeros-none a = record { few = omega arith; long = refl; stays = λ j l. refl; zeros = λ j l. absurd (omega arith) }
-
-pub zeros-one : (b a : List ℕ) (i : ℕ) → 8034 ≤ length b → i < 512 → Zeros b a i → Zeros b (set a (rowBase + i) 0) (i + 1)
-zeros-one b a i room l z =
-    record {
-      few = omega arith;
-      long = length-set a (rowBase + i) 0 ∙ z .long;
-      stays = λ j h. getD-set-other a (rowBase + i) j 0 0 (λ e. omega arith) ∙ z .stays j h;
-      zeros = λ j h. go j h (ℕ-discrete j i);
-    }
-  where
-    go : (j : ℕ) → j < i + 1 → Dec (j ≡ i) → getD (set a (rowBase + i) 0) (rowBase + j) 0 ≡ 0
-    go j h (yes e) = rw e (getD-set-same a (rowBase + i) 0 0 (let g = z .long in omega arith))
-    go j h (no ne) = getD-set-other a (rowBase + i) (rowBase + j) 0 0 (λ f. ne (omega arith)) ∙ z .zeros j (omega arith)
-
-pub zeros-all : (b a : List ℕ) (i : ℕ) → 512 ≤ i → Zeros b a i → Emptied b a
-zeros-all b a i l z = record { long = z .long; stays = z .stays; none = λ room j h. z .zeros j (omega arith) }
 
 -- The row of each state and constructor after a place was stored for one of them.
 module _ (file index : List ℕ) (q c at : ℕ) (lq : q < 16) (lc : c < 32) (long : 8034 ≤ length index) (small : at < 65536) (some-place : 4 ≤ at) where
@@ -131,15 +101,15 @@ module _ {file before : List ℕ} {n : ℕ} where
   pub rows-many : 512 < n → FillsRows file before n before
   rows-many h = record { long = refl; stays = λ i l. refl; rows = λ rs ok ix few l. absurd (omega arith) }
 
-  pub sofar-none : {index : List ℕ} → n ≤ 512 → Emptied before index → Sofar file index n n index
+  pub sofar-none : {index : List ℕ} → n ≤ 512 → Clears before rowBase 512 index → Sofar file index n n index
   sofar-none {index} h e =
       record {
         count = omega arith;
         few = h;
         long = refl;
         stays = λ i l. refl;
-        rows = λ rs ok ix l q c hq hc. sym (row-none file (getD index (rowBase + (q * 32 + c)) 0) (e .none (omega (arith, e .long)) (q * 32 + c) (omega arith))) ∙ sym (none-behind file index n ix q c);
-        there = λ l q c hq hc ne. absurd (ne (e .none (omega (arith, e .long)) (q * 32 + c) (omega arith)));
+        rows = λ rs ok ix l q c hq hc. sym (row-none file (getD index (rowBase + (q * 32 + c)) 0) (e .zeros (omega (arith, e .long)) (q * 32 + c) (omega arith))) ∙ sym (none-behind file index n ix q c);
+        there = λ l q c hq hc ne. absurd (ne (e .zeros (omega (arith, e .long)) (q * 32 + c) (omega arith)));
       }
 
   module _ {k : ℕ} {index : List ℕ} (so : Sofar file before n k index) (h : 0 < k) (at : ℕ) (is : IsPlace index (608 + (k - 1)) at) (q c : ℕ) (hq : q ≡ byte file at) (hc : c ≡ byte file (at + 1)) where
@@ -198,15 +168,15 @@ module _ {file before : List ℕ} {n : ℕ} where
           there = so .there;
         }
 
-  -- the index before it was emptied has the same transitions
-  pub all-rows : {k : ℕ} {emptied index : List ℕ} → Emptied before emptied → Sofar file emptied n k index → k ≤ 0 → FillsRows file before n index
-  all-rows {k} {emptied} {index} e so h =
+  -- the index before it was cleared has the same transitions
+  pub all-rows : {k : ℕ} {cleared index : List ℕ} → Clears before rowBase 512 cleared → Sofar file cleared n k index → k ≤ 0 → FillsRows file before n index
+  all-rows {k} {cleared} {index} e so h =
       let none-left : k ≡ 0 = omega arith in
       record {
         long = so .long ∙ e .long;
-        stays = λ i l. so .stays i l ∙ e .stays i l;
+        stays = λ i l. so .stays i l ∙ e .below i l;
         rows = λ rs ok ix few l.
-            let ix′ : Indexed file emptied Kind.transition n rs = indexed-same (λ i j. e .stays (608 + i) (omega arith)) ix in
+            let ix′ : Indexed file cleared Kind.transition n rs = indexed-same (λ i j. e .below (608 + i) (omega arith)) ix in
             record {
               targets = λ q c hq hc.
                   let row = so .rows rs ok ix′ (omega (arith, e .long)) q c hq hc ∙ ap (λ m. rowFor (drop m (payloads Kind.transition rs)) q c) none-left in

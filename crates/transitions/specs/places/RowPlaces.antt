@@ -35,12 +35,6 @@ pub record IsPlaceIn (index : List ℕ) (q c r : ℕ) : Type 0 where
   pub inside : (r ≡ 0 → ⊥) → (q < 16) × (c < 32)
   pub bound : r < 65536
 
--- the index with no transition at any state and constructor
-pub record Emptied (before after : List ℕ) : Type 0 where
-  pub long : length after ≡ length before
-  pub stays : (i : ℕ) → i < rowBase → getD after i 0 ≡ getD before i 0
-  pub none : 8034 ≤ length before → (i : ℕ) → i < 512 → getD after (rowBase + i) 0 ≡ 0
-
 -- the index after the places of n transitions were entered: all up to them is as it was
 pub record FillsRows (file before : List ℕ) (n : ℕ) (after : List ℕ) : Type 0 where
   pub long : length after ≡ length before

@@ -1,6 +1,7 @@
 -- The walk under way: how it starts, what a record does to it, how it ends, and what a turn comes to.
 use Prim.Native.Nat.{ℕ, zero, suc, _+_, _-_, _<_, _≤_, _^_}
 use native.Mathlib.Omega.{arith}
+use native.Mathlib.Nat.{zero-add}
 use mathlib.Core.Path.{_≡_, refl, sym, ap, ap₂, subst, _∙_}
 use mathlib.Core.Logic.{⊎-elim}
 use mathlib.Core.Bool.{Bool, true, false, not, _||_}
@@ -13,7 +14,7 @@ use denote.Enum.Declared.{tagOf}
 use mathlib.Core.WellFounded.{WellFounded, InvImage·wf}
 use lib.WfN.{Nat·lt-wfRel}
 use lib.Dec.{T, ltb, leb, eqb}
-use lib.ListN.{length, getD, set, replicate, length-set, getD-replicate}
+use lib.ListN.{length, getD, set, length-set}
 use lib.Seq.{getD-set-same}
 use Rattle.scheme.specs.Lists.{if_then_else_, lastOr, select}
 use Rattle.scheme.specs.Sorts.{o, arguments}
@@ -44,9 +45,9 @@ use Rattle.walk.specs.declared.walk.Walked.the-variants as walked
 use Rattle.index.specs.entries.Known.{room, Known}
 use Rattle.walk.specs.kinds.Codes.{codeAs}
 use Rattle.walk.specs.kinds.Taking.{Taken}
-use Rattle.index.specs.enter.Entering.{stored, lensAfter, chainsAfter}
+use Rattle.index.specs.enter.Entering.{Clears, stored, lensAfter, chainsAfter}
 use Rattle.walk.specs.declared.walk.Turned.{Turned}
-use Rattle.walk.specs.walk.Walking.{Emptied, Walking, WalkEnds, endOf, ended, GoesOn, endsOr, TurnsTo, PassesTo, WalksTo}
+use Rattle.walk.specs.walk.Walking.{Walking, WalkEnds, endOf, ended, GoesOn, endsOr, TurnsTo, PassesTo, WalksTo}
 use Rattle.walk.proofs.walk.Chains.{chained-none}
 use Rattle.walk.proofs.walk.Known.{known-more, known-sort, known-type, chained-before, number-few}
 use Rattle.index.proofs.enter.Storing.{number-inj, stored-set, lens-length, lens-other, chains-other, chains-set, chains-length}
@@ -64,25 +65,26 @@ none-indexed file index k n e =
       field-there = λ i h w a l. absurd (omega arith);
     }
 
-zero-count : (k : ℕ) → k < 10 → (counts : List ℕ) → counts ≡ replicate 10 0 → getD counts k 0 ≡ 0
-zero-count k h counts e = ap (λ z. getD z k 0) e ∙ getD-replicate 10 k 0 0 h
+-- the counts of the kinds when all are cleared
+zero-count : (counts counts′ : List ℕ) → length counts ≡ 10 → Clears counts 0 10 counts′ → (k : ℕ) → k < 10 → getD counts′ k 0 ≡ 0
+zero-count counts counts′ ten c k h = ap (λ j. getD counts′ j 0) (sym (zero-add k)) ∙ c .zeros (omega arith) k h
 
-pub starts : (file index lens lens′ counts counts′ : List ℕ) → 4450 ≤ length index → ((h : ℕ) → h < 256 → getD index (3170 + h) 0 ≡ 0) → length lens ≡ 65 → length counts ≡ 10 → counts′ ≡ replicate (length counts) 0 → lens′ ≡ stored lens 0 0
+pub starts : (file index lens lens′ counts counts′ : List ℕ) → 4450 ≤ length index → ((h : ℕ) → h < 256 → getD index (3170 + h) 0 ≡ 0) → length lens ≡ 65 → length counts ≡ 10 → Clears counts 0 10 counts′ → lens′ ≡ stored lens 0 0
     → Walking file index lens′ counts′ 0 0
 unfolding lastKind lastOr recordsOf sortsOf payloads ofKind select grow arguments
 starts file index lens lens′ counts counts′ hi hz hl hc ec el =
-    let ten : counts′ ≡ replicate 10 0 = ec ∙ ap (λ n. replicate n 0) hc in
+    let none : (k : ℕ) → k < 10 → getD counts′ k 0 ≡ 0 = zero-count counts counts′ hc ec in
     let is : lens′ ≡ set lens 0 0 = el ∙ stored-set lens 0 0 (omega arith) in
     record {
       rs = [];
       known = record {
-        entries = λ k. none-indexed file index k (getD counts′ (number k) 0) (zero-count (number k) (number-few k) counts′ ten);
-        fits = λ k. let z = zero-count (number k) (number-few k) counts′ ten in omega arith;
+        entries = λ k. none-indexed file index k (getD counts′ (number k) 0) (none (number k) (number-few k));
+        fits = λ k. let z = none (number k) (number-few k) in omega arith;
         sort-lens = λ i h.
-            let none-there = zero-count 1 (omega arith) counts′ ten in
+            let none-there = none 1 (omega arith) in
             let first : i ≡ 0 = omega arith in
             rw first (ap (λ z. getD z 0 0) is ∙ getD-set-same lens 0 0 0 (omega arith));
-        chained = rw (zero-count 7 (omega arith) counts′ ten) (chained-none index hz);
+        chained = rw (none 7 (omega arith)) (chained-none index hz);
       };
       passed = nothing;
       lastly = refl;
@@ -93,7 +95,7 @@ starts file index lens lens′ counts counts′ hi hz hl hc ec el =
       all = refl;
       index-long = hi;
       lens-long = ap length is ∙ length-set lens 0 0 ∙ hl;
-      counts-long = ap length ten;
+      counts-long = ec .long ∙ hc;
     }
 
 -- The code of a record is its refusal.
@@ -493,7 +495,7 @@ module _ {file index₀ lens₀ counts₀ : List ℕ} (c : Carried file index₀
   carried-less y = still-on y .less
 
 -- The walk, from what its functions promise.
-pub whole-walk : (file index index′ lens lens′ counts counts′ index″ lens″ counts″ : List ℕ) (t : Turned) → counts′ ≡ replicate (length counts) 0 → lens′ ≡ stored lens 0 0 → Emptied index index′
+pub whole-walk : (file index index′ lens lens′ counts counts′ index″ lens″ counts″ : List ℕ) (t : Turned) → Clears counts 0 10 counts′ → lens′ ≡ stored lens 0 0 → Clears index 3170 256 index′
     → PassesTo file index′ lens′ counts′ index″ lens″ counts″ t → WalksTo file index lens counts index″ lens″ counts″ (t .walked)
 whole-walk file index index′ lens lens′ counts counts′ index″ lens″ counts″ t ec el empty passes = λ hi hl hc few.
-    passes few (starts file index′ lens lens′ counts counts′ (subst (λ z. 4450 ≤ z) (sym (empty .long)) hi) (empty .none (omega arith)) hl hc ec el)
+    passes few (starts file index′ lens lens′ counts counts′ (subst (λ z. 4450 ≤ z) (sym (empty .long)) hi) (empty .zeros (omega arith)) hl hc ec el)

@@ -16,11 +16,6 @@ use Rattle.walk.specs.declared.walk.Walked.{Walked}
 use Rattle.walk.specs.declared.walk.Walked.the-variants.{Refused, Read}
 use Rattle.walk.specs.declared.walk.Turned.{Turned}
 
--- no type is chained: the heads of all hashes are 0
-pub record Emptied (index index′ : List ℕ) : Type 0 where
-  pub long : length index′ ≡ length index
-  pub none : 3426 ≤ length index → (h : ℕ) → h < 256 → getD index′ (3170 + h) 0 ≡ 0
-
 -- the walk is under way: the tables hold the records before `at`, whose last kind is `last`, and what is left of the file decides
 pub record Walking (file index lens counts : List ℕ) (at last : ℕ) : Type 0 where
   pub rs : List Record
