@@ -31,7 +31,7 @@ use Rattle.casefile.proofs.Cells.{cells-length, cells-at, cell-range}
 use Rattle.records.specs.cursor.Reading.{partOf}
 use Rattle.index.specs.entries.Index.{Indexed}
 use Rattle.index.specs.lookup.Lookup.{entryOf}
-use Rattle.index.proofs.lookup.Found.{entry-none, entry-some, entry-there}
+use Rattle.index.proofs.lookup.Found.{entry-there}
 use Rattle.rules.specs.reading.RuleBodies.{ruleOf}
 use Rattle.goals.specs.goals.Goals.{Goal, Typed, typeOfBinding, IsOwn}
 use Rattle.goals.proofs.goals.Goals.{fewer, binding-there}
@@ -75,23 +75,6 @@ named-known {rs} ok f h =
     let r : d .number < getD (x ∷ length sigs ∷ []) (d .tag) z = subst (λ (c : Cell). c .number < getD (x ∷ length sigs ∷ []) (c .tag) z) (cells-at p i d k) (cell-range x (length sigs) z (getD (cellsOf p) i d) w .1) in
     let b = head-nonterminal d g x (length sigs) z q r in
     omega arith)
-
--- no bytes are a part of any file
-part-empty : (file : List ℕ) (start : ℕ) → partOf file start 0 ≡ []
-unfolding partOf
-part-empty file start = go (leb (start + 0) (length file))
-  where
-    go : (b : Bool) → (if b then take 0 (drop start file) else []) ≡ []
-    go true = refl
-    go false = refl
-
--- the body of a rule by its place and its length
-pub entry-part : (file index : List ℕ) (i start len : ℕ) → start ≡ getD index i 0 → (4 ≤ start → len ≡ word file (start - 4)) × (start < 4 → len ≡ 0) → partOf file start len ≡ entryOf file index i
-entry-part file index i start len e (there, none-there) = go (decLe 4 start)
-  where
-    go : Dec (4 ≤ start) → partOf file start len ≡ entryOf file index i
-    go (yes h) = ap (partOf file start) (there h) ∙ sym (entry-some file index i start e h)
-    go (no h) = ap (partOf file start) (none-there (omega arith)) ∙ part-empty file start ∙ sym (entry-none file index i start e (omega arith))
 
 -- the nonterminal of a binding
 pub symbol-far : {file index : List ℕ} {b : ℕ} → 1023 < b → IsSymbol file index b 0

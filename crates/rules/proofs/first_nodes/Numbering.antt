@@ -7,11 +7,11 @@ use mathlib.Core.Path.{_≡_, refl, sym, ap, _∙_}
 use mathlib.Core.List.{List}
 use lib.ListN.{length, getD, set, length-set}
 use lib.Seq.{getD-set-same, getD-set-other}
-use Rattle.casefile.specs.Fields.{word}
 use Rattle.casefile.specs.Records.{Record}
 use Rattle.casefile.specs.Kinds.{Kind, payloads}
 use Rattle.casefile.specs.Promises.{Passed}
 use Rattle.casefile.proofs.TypeTable.{count-payloads}
+use Rattle.records.specs.fields.Promises.{HasLength}
 use Rattle.index.specs.entries.Index.{Indexed}
 use Rattle.rules.specs.reading.RuleBodies.{nodesIn, ruleOf, firstNode}
 use Rattle.rules.proofs.reading.AllRules.{nodes-more}
@@ -30,15 +30,12 @@ module _ {file index : List ℕ} {f : ℕ} where
   nodes-none x = nodes-not (λ rules rs ok ix l h. omega arith)
 
   module _ (place : ℕ) (ep : place ≡ getD index (352 + f) 0) where
-    pub nodes-header : place < 4 → CountsNodes file index f 0
-    nodes-header x = nodes-not (λ rules rs ok ix l h. let y : 4 ≤ getD index (352 + f) 0 = ix .behind-header f h in omega arith)
-
-    module _ (len : ℕ) (el : len ≡ word file (place - 4)) where
+    module _ (len : ℕ) (el : HasLength file place len) where
       length-is : (rules : ℕ) (rs : List Record) → Indexed file index Kind.rule rules rs → f < rules → len ≡ length (ruleOf rs f)
       length-is rules rs ix h =
           let y : 4 ≤ getD index (352 + f) 0 = ix .behind-header f h in
           let z : (place - 4) + 4 ≡ getD index (352 + f) 0 = omega arith in
-          el ∙ ix .length-there f (place - 4) h z
+          el .headed (omega arith) ∙ ix .length-there f (place - 4) h z
 
       pub nodes-long : 1024 < len → CountsNodes file index f 0
       nodes-long x = nodes-not (λ rules rs ok ix l h. let y = rule-fits ok f (rule-there ix f h) in let z = length-is rules rs ix h in omega arith)
