@@ -22,6 +22,7 @@ use Rattle.casefile.specs.Records.{Record}
 use Rattle.casefile.specs.Kinds.{Kind, payloads, count}
 use Rattle.casefile.specs.Tables.{typesOf, bindingsOf}
 use Rattle.casefile.proofs.TypeTable.{count-payloads}
+use Rattle.index.specs.layout.Layout.{maxBindings}
 use Rattle.index.specs.entries.Index.{Indexed}
 use Rattle.index.specs.entries.Tests.{IsPlace}
 use Rattle.goals.specs.groups.Groups.{nonterminalOf, Grouped}
@@ -70,7 +71,7 @@ module _ (index : List ℕ) (types b flag : ℕ) where
   on zero h = absurd (h refl)
   on (suc v) h = refl
 
-  pub starts-here : (flag ≡ 0 → ⊥) → b < 1024 → (g : ℕ) → IsOwn index b g → StartsAt index types b flag (eqb g types)
+  pub starts-here : (flag ≡ 0 → ⊥) → b < maxBindings → (g : ℕ) → IsOwn index b g → StartsAt index types b flag (eqb g types)
   starts-here nz near g own = record { answer = λ n rs w ix few h. answer n rs w ix h }
     where
       answer : {file : List ℕ} (n : ℕ) (rs : List Record) → Typed file index types rs → Indexed file index Kind.binding n rs → b < n → eqb g types ≡ startsAt rs b flag
@@ -85,7 +86,7 @@ module _ (index : List ℕ) (types b flag : ℕ) where
 -- The bindings of nonterminal 0, one after the other.
 -- none of the first b starts
 pub record NoneTo (index counts flags : List ℕ) (last b : ℕ) : Type 0 where
-  pub none-starts : {file : List ℕ} (n : ℕ) (rs : List Record) → Typed file index (getD counts 7 0) rs → Indexed file index Kind.binding n rs → n ≤ 1024 → last ≤ n → (i : ℕ) → i < b → startsAt rs i (getD flags i 0) ≡ false
+  pub none-starts : {file : List ℕ} (n : ℕ) (rs : List Record) → Typed file index (getD counts 7 0) rs → Indexed file index Kind.binding n rs → n ≤ maxBindings → last ≤ n → (i : ℕ) → i < b → startsAt rs i (getD flags i 0) ≡ false
 
 pub none-yet : (index counts flags : List ℕ) (last : ℕ) → NoneTo index counts flags last 0
 none-yet index counts flags last = record { none-starts = λ n rs w ix few l i h. absurd (omega arith) }
@@ -120,7 +121,7 @@ module _ (index counts groups flags : List ℕ) where
 
   module _ (types last : ℕ) (t : IsPlace counts 7 types) (is : IsPlace groups 1 last) (b : ℕ) (none : NoneTo index counts flags last b) where
     module _ (h : b < last) (r : Bool) (at : StartsAt index types b (getD flags b 0) r) where
-      here : {file : List ℕ} (n : ℕ) (rs : List Record) → Typed file index (getD counts 7 0) rs → Indexed file index Kind.binding n rs → n ≤ 1024 → last ≤ n → r ≡ startsAt rs b (getD flags b 0)
+      here : {file : List ℕ} (n : ℕ) (rs : List Record) → Typed file index (getD counts 7 0) rs → Indexed file index Kind.binding n rs → n ≤ maxBindings → last ≤ n → r ≡ startsAt rs b (getD flags b 0)
       here {file} n rs w ix few l = at .answer n rs (subst (λ k. Typed file index k rs) (sym (t .value)) w) ix few (omega arith)
 
       pub none-more : r ≡ false → NoneTo index counts flags last (b + 1)
@@ -147,7 +148,7 @@ module _ (index counts groups flags : List ℕ) where
               sym (any-none isStart flags (bindingsOf rs) noBinding (λ i k. each n rs w ix few grouped some l i (omega arith) (decLt i last)));
         }
       where
-        each : {file : List ℕ} (n : ℕ) (rs : List Record) → Typed file index (getD counts 7 0) rs → Indexed file index Kind.binding n rs → n ≤ 1024 → Grouped rs n groups → 1 ≤ count Kind.nonterminal rs → last ≤ n → (i : ℕ) → i < n → Dec (i < last)
+        each : {file : List ℕ} (n : ℕ) (rs : List Record) → Typed file index (getD counts 7 0) rs → Indexed file index Kind.binding n rs → n ≤ maxBindings → Grouped rs n groups → 1 ≤ count Kind.nonterminal rs → last ≤ n → (i : ℕ) → i < n → Dec (i < last)
             → (isKept (getD flags i 0) && isStart (getD (bindingsOf rs) i noBinding)) ≡ false
         each n rs w ix few grouped some l i k (yes j) = ap (isKept (getD flags i 0) &&_) (starts-low n last rs ix grouped some is i j) ∙ none .none-starts n rs w ix few l i (omega arith)
         each n rs w ix few grouped some l i k (no j) = ap (isKept (getD flags i 0) &&_) (starts-high n last rs ix grouped some is i (omega arith) k) ∙ and-no (isKept (getD flags i 0))

@@ -24,6 +24,7 @@ use Rattle.casefile.specs.Tables.{aritiesOf, signaturesOf, typesOf, planOf, aut
 use Rattle.casefile.specs.Refusals.{Test, refuse_at_when_, wrongStart, wrongBodies, misfits, refuseWhole}
 use Rattle.casefile.proofs.Passed.{first-none}
 use Rattle.casefile.proofs.Plans.{first-both, plan-right}
+use Rattle.index.specs.layout.Layout.{maxNonterminals, maxBindings, hashesAt, linksAt, goalsAt, resultsAt, ownTypesAt, indexSize, mostNodesAt, rowsSize}
 use Rattle.index.specs.entries.Index.{base, Indexed}
 use Rattle.index.specs.entries.Tests.{IsPlace}
 use Rattle.index.proofs.entries.Stays.{indexed-same}
@@ -66,8 +67,8 @@ some-nonterminal rs flags e =
     omega arith
 
 module _ {file index lens counts : List ℕ} {rs : List Record} (known : Known file index lens counts rs) (ok : Passed rs) (bytes : Bytes file) (typed : Typed file index (getD counts 7 0) rs) where
-  ready : {ends : List ℕ} → EndsAre rs ends → (flags : ℕ) → refuseWhole rs flags ≡ none → (groups : List ℕ) → 257 ≤ length groups → Grouped rs (getD counts 8 0) groups
-      → (firsts : List ℕ) → ((f : ℕ) → f < getD counts 4 0 → getD firsts f 0 ≡ firstNode rs f) → ((f : ℕ) → f < getD counts 4 0 → length (ruleOf rs f) / 4 ≤ getD firsts 256 0) → RowsFor file index rs
+  ready : {ends : List ℕ} → EndsAre rs ends → (flags : ℕ) → refuseWhole rs flags ≡ none → (groups : List ℕ) → rowsSize ≤ length groups → Grouped rs (getD counts 8 0) groups
+      → (firsts : List ℕ) → ((f : ℕ) → f < getD counts 4 0 → getD firsts f 0 ≡ firstNode rs f) → ((f : ℕ) → f < getD counts 4 0 → length (ruleOf rs f) / 4 ≤ getD firsts mostNodesAt 0) → RowsFor file index rs
       → Ready file index counts groups firsts ends rs
   unfolding number
   ready ends-are flags whole groups long grouped firsts first-nodes most rows =
@@ -125,8 +126,8 @@ known-same {counts = counts} same known =
       fits = known .fits;
       sort-lens = known .sort-lens;
       chained = record {
-        heads = λ h l. same (3170 + h) (omega arith) ∙ known .chained .heads h l;
-        links = λ i l. same (3426 + i) (omega (arith, known .fits Kind.type)) ∙ known .chained .links i l;
+        heads = λ h l. same (hashesAt + h) (omega arith) ∙ known .chained .heads h l;
+        links = λ i l. same (linksAt + i) (omega (arith, known .fits Kind.type)) ∙ known .chained .links i l;
       };
     }
   where
@@ -145,25 +146,25 @@ listed-known : {file index lens counts : List ℕ} {rs : List Record} → Known 
 unfolding number
 listed-known known ok bytes = record { passed = ok; bytes = payload-bytes (known .entries Kind.type) bytes; there = known .entries Kind.type; few = known .fits Kind.type }
 
-goals-kept : {before index : List ℕ} {n : ℕ} {rs : List Record} → n ≤ 1024 → ((i : ℕ) → i < ownBase → getD index i 0 ≡ getD before i 0) → Goals before n rs → Goals index n rs
+goals-kept : {before index : List ℕ} {n : ℕ} {rs : List Record} → n ≤ maxBindings → ((i : ℕ) → i < ownBase → getD index i 0 ≡ getD before i 0) → Goals before n rs → Goals index n rs
 goals-kept {before} {index} {n} {rs} few same w =
     record {
-      goal-there = λ t h. subst (λ x. Goal rs n x (getD (typesOf rs) t (state 0))) (sym (same (4450 + t) (omega arith))) (w .goal-there t h);
-      result-there = λ g a τ x. subst (λ y. Goal rs n y τ) (sym (same (5474 + g) (by g a τ x))) (w .result-there g a τ x);
+      goal-there = λ t h. subst (λ x. Goal rs n x (getD (typesOf rs) t (state 0))) (sym (same (goalsAt + t) (omega arith))) (w .goal-there t h);
+      result-there = λ g a τ x. subst (λ y. Goal rs n y τ) (sym (same (resultsAt + g) (by g a τ x))) (w .result-there g a τ x);
     }
   where
-    by : (g : ℕ) (a : Tys) (τ : Ty) → Goal rs n g (arrow a τ) → 5474 + g < ownBase
+    by : (g : ℕ) (a : Tys) (τ : Ty) → Goal rs n g (arrow a τ) → resultsAt + g < ownBase
     by g a τ (of-state q small e f) = let z : _≡_ {A = ℕ} 0 1 = cc in absurd (omega arith)
     by g a τ (of-arrow b r inside e f) = omega arith
 
-owns-kept : (before index : List ℕ) (n : ℕ) (rs : List Record) → count Kind.binding rs ≤ 1024 → ((i : ℕ) → i < rowBase → getD index i 0 ≡ getD before i 0) → Owns before n rs → Owns index n rs
-owns-kept before index n rs few same w b h = subst (λ x. Goal rs n x (getD (typesOf rs) (typeOfBinding rs b) (state 0))) (sym (same (6498 + b) (omega arith))) (w b h)
+owns-kept : (before index : List ℕ) (n : ℕ) (rs : List Record) → count Kind.binding rs ≤ maxBindings → ((i : ℕ) → i < rowBase → getD index i 0 ≡ getD before i 0) → Owns before n rs → Owns index n rs
+owns-kept before index n rs few same w b h = subst (λ x. Goal rs n x (getD (typesOf rs) (typeOfBinding rs b) (state 0))) (sym (same (ownTypesAt + b) (omega arith))) (w b h)
 
 module _ (file before counts ends lent flags : List ℕ) (r : Bool) (many rounds : ℕ) where
-  pub judged : Bytes file → 8034 ≤ length before → (total : ℕ) → IsPlace counts 8 total → (types : ℕ) → IsPlace counts 7 types → (second third index : List ℕ) → FillsGoals file before types second → FillsOwns file second types total third
+  pub judged : Bytes file → indexSize ≤ length before → (total : ℕ) → IsPlace counts 8 total → (types : ℕ) → IsPlace counts 7 types → (second third index : List ℕ) → FillsGoals file before types second → FillsOwns file second types total third
       → (transitions : ℕ) → IsPlace counts 6 transitions → FillsRows file third transitions index
-      → (nonterminals : ℕ) → IsPlace counts 3 nonterminals → (lent-groups groups : List ℕ) → 257 ≤ length lent-groups → Fills file index total nonterminals lent-groups groups
-      → (rules : ℕ) → IsPlace counts 4 rules → (lent-firsts firsts : List ℕ) → 257 ≤ length lent-firsts → FillsFirsts file index rules lent-firsts firsts
+      → (nonterminals : ℕ) → IsPlace counts 3 nonterminals → (lent-groups groups : List ℕ) → rowsSize ≤ length lent-groups → Fills file index total nonterminals lent-groups groups
+      → (rules : ℕ) → IsPlace counts 4 rules → (lent-firsts firsts : List ℕ) → rowsSize ≤ length lent-firsts → FillsFirsts file index rules lent-firsts firsts
       → ShrinksByRounds file index counts groups firsts ends lent flags many rounds → FindsStart index counts groups flags r
       → JudgesBindings file before counts ends lent flags r many total rounds
   unfolding number
@@ -186,9 +187,9 @@ module _ (file before counts ends lent flags : List ℕ) (r : Bool) (many rounds
             let goals : Goals index types rs = goals-kept (listed .few) (λ i h. fills-rows .stays i (omega arith)) goals₂ in
             let typed : Typed file index types rs = record { passed = ok; bytes = listed .bytes; there = listed .there; few = listed .few; goals = goals; owns = owns-kept third index types rs (omega arith) (fills-rows .stays) owns } in
             let all-rules : Indexed file index Kind.rule rules rs = subst (λ n. Indexed file index Kind.rule n rs) (sym (er .value)) (known .entries Kind.rule) in
-            let few-rules : rules ≤ 256 = let a = known .fits Kind.rule in let b = er .value in omega arith in
+            let few-rules : rules ≤ maxNonterminals = let a = known .fits Kind.rule in let b = er .value in omega arith in
             let nodes : (f : ℕ) → f < getD counts 4 0 → getD firsts f 0 ≡ firstNode rs f = λ f h. fills-firsts .firsts rs ok all-rules few-rules (omega arith) f (let b = er .value in omega arith) in
-            let most : (f : ℕ) → f < getD counts 4 0 → length (ruleOf rs f) / 4 ≤ getD firsts 256 0 = λ f h. fills-firsts .most rs ok all-rules few-rules (omega arith) f (let b = er .value in omega arith) in
+            let most : (f : ℕ) → f < getD counts 4 0 → length (ruleOf rs f) / 4 ≤ getD firsts mostNodesAt 0 = λ f h. fills-firsts .most rs ok all-rules few-rules (omega arith) f (let b = er .value in omega arith) in
             let rows = fills-rows .rows rs ok (subst (λ n. Indexed file third Kind.transition n rs) (sym (em .value)) (known₂ .entries Kind.transition)) (let a = known₂ .fits Kind.transition in let b = em .value in omega arith) (omega (arith, fills-owns .long, fills-goals .long)) in
             let here : Typed file index (getD counts 7 0) rs = subst (λ n. Typed file index n rs) (ey .value) typed in
             let some = known .entries Kind.nonterminal .counted in

@@ -15,6 +15,7 @@ use Rattle.casefile.specs.Kinds.{Kind, count}
 use Rattle.casefile.specs.Tables.{planOf, automatonOf, bindingsOf}
 use Rattle.casefile.specs.Refusals.{refuseWhole}
 use Rattle.casefile.specs.Promises.{Passed}
+use Rattle.index.specs.layout.Layout.{maxBindings}
 use Rattle.index.specs.entries.Index.{Indexed}
 use Rattle.index.specs.entries.Known.{Known}
 use Rattle.intake.specs.plan.PlanTests.{EndsAre}
@@ -28,11 +29,11 @@ startsAt rs b flag = isKept flag && same (getD (bindingsOf rs) b noBinding .type
 
 -- r says so
 pub record StartsAt (index : List ℕ) (types b flag : ℕ) (r : Bool) : Type 0 where
-  pub answer : {file : List ℕ} (n : ℕ) (rs : List Record) → Typed file index types rs → Indexed file index Kind.binding n rs → n ≤ 1024 → b < n → r ≡ startsAt rs b flag
+  pub answer : {file : List ℕ} (n : ℕ) (rs : List Record) → Typed file index types rs → Indexed file index Kind.binding n rs → n ≤ maxBindings → b < n → r ≡ startsAt rs b flag
 
 -- r says whether a binding that is kept by its flag is the start binding, where there is a flag for each
 pub record FindsStart (index counts groups flags : List ℕ) (r : Bool) : Type 0 where
-  pub answer : {file : List ℕ} (n : ℕ) (rs : List Record) → Typed file index (getD counts 7 0) rs → Indexed file index Kind.binding n rs → n ≤ 1024 → Grouped rs n groups → 1 ≤ count Kind.nonterminal rs → n ≤ length flags
+  pub answer : {file : List ℕ} (n : ℕ) (rs : List Record) → Typed file index (getD counts 7 0) rs → Indexed file index Kind.binding n rs → n ≤ maxBindings → Grouped rs n groups → 1 ≤ count Kind.nonterminal rs → n ≤ length flags
       → r ≡ any isStart (chosen flags (bindingsOf rs))
 
 -- what comes of the bindings, and the lent flags afterwards: "bytes past the count are untouched"

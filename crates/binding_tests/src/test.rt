@@ -11,22 +11,10 @@ use index::layout::LAST_BINDING;
 use index::layout::RULES_AT;
 use index::layout::Rows;
 use index::layout::TYPE;
+use records::fields::length_at;
 use records::fields::word_at;
 use term_check::check::check_term;
-ghost use mathlib.Core.Path.{_≡_};
-ghost use Prim.Native.Nat.{_-_, _<_, _≤_};
-ghost use Rattle.casefile.specs.Fields.{word};
 ghost use Rattle.binding_tests.specs.test.BindingTests.{IsSymbol, TestsBinding};
-
-// The length of the payload at a place, by its header; 0 where there is no header before it.
-fn length_at(file: &[u8], start: usize) -> usize
-    ensures { λ r. ⌜ ((4 ≤ start → r ≡ word (now (file .entry)) (start - 4)) × (start < 4 → r ≡ 0)) ⌝ }
-{
-    if start < 4 {
-        return 0;
-    }
-    word_at(file, start - 4)
-}
 
 // The nonterminal of binding b.
 pub fn symbol_of(file: &[u8], index: &[u16], b: usize) -> usize

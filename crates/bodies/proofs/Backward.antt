@@ -25,6 +25,7 @@ use Rattle.bodies.specs.declared.Arguments.{Arguments}
 use Rattle.sorts.proofs.codes.Codes.{code-small}
 use Rattle.casefile.proofs.Cells.{nodeAt, nodes-length, nodes-drop}
 use Rattle.casefile.specs.Promises.{cellAt}
+use Rattle.index.specs.layout.Layout.{maxDepth}
 
 -- a table after a store
 module _ {before after : List ℕ} {i v r : ℕ} (s : Stored before after i v r) where
@@ -83,7 +84,7 @@ module _ (hs : Head → Sort) where
   goods-join (suc k) []ᵗ a b = tt
   goods-join (suc k) (t ∷ᵗ ts) a b = (a .0, a .1, goods-join k ts (a .2) b)
 
-  goods-arguments : (ts : Terms) (s x : Sort) → sortAfter hs ts s ≡ some x → deepest ts ≤ 64 → Goods hs ts
+  goods-arguments : (ts : Terms) (s x : Sort) → sortAfter hs ts s ≡ some x → deepest ts ≤ maxDepth → Goods hs ts
   unfolding Goods deepest
   goods-arguments []ᵗ s x e d = tt
   goods-arguments (t ∷ᵗ ts) s x e d =
@@ -130,14 +131,14 @@ module _ (hs : Head → Sort) (sorts : List Sort) (ns : List Node) (i : ℕ) (nd
         let (a, b, m) = asks c g in
         f (rw e a) (b .0) (rw e (b .1))
 
-    pub node-deep : (k at : ℕ) → k ≡ nd .count → Fits hs sorts (terms (drop (suc i) ns)) (hs (nd .head)) at k r → 64 ≤ r .deep → T (complete ns) → Goods hs (terms ns) → ⊥
+    pub node-deep : (k at : ℕ) → k ≡ nd .count → Fits hs sorts (terms (drop (suc i) ns)) (hs (nd .head)) at k r → maxDepth ≤ r .deep → T (complete ns) → Goods hs (terms ns) → ⊥
     node-deep k at e f m c g =
         let (a, b, l) = asks c g in
         let q = f .deep-is in
         let z : deepest (takeᵗ k (terms (drop (suc i) ns))) ≡ deepest (takeᵗ (nd .count) (terms (drop (suc i) ns))) = ap (λ x. deepest (takeᵗ x (terms (drop (suc i) ns)))) e in
         omega arith
 
-    module _ (f : Fits hs sorts (terms (drop (suc i) ns)) (hs (nd .head)) (suc i) (nd .count) r) (shallow : r .deep < 64) (few : length ns ≤ 256) (small : r .sort < 2000) where
+    module _ (f : Fits hs sorts (terms (drop (suc i) ns)) (hs (nd .head)) (suc i) (nd .count) r) (shallow : r .deep < maxDepth) (few : length ns ≤ 256) (small : r .sort < 2000) where
       module _ {ends′ codes′ depths′ : List ℕ} {e₁ c₁ d₁ : ℕ} (se : Stored ends ends′ i (r .end) e₁) (sc : Stored codes codes′ i (r .sort) c₁) (sd : Stored depths depths′ i (r .deep + 1) d₁)
           (he : i < length ends) (hc : i < length codes) (hd : i < length depths) where
         behind : Held hs sorts ends codes depths (length ns) (dropᵗ (nd .count) (terms (drop (suc i) ns))) (suc i + nodesAll (takeᵗ (nd .count) (terms (drop (suc i) ns))))
@@ -222,7 +223,7 @@ module _ {p froms tos trees arities signatures : List ℕ} {own i : ℕ} {ends c
         (af .misfit (headsBy sorts counts numbers own) sorts (terms (drop (suc i) (nodesOf p))) (headsBy sorts counts numbers own (headOf (cellAt p i))) (w .coded) behind-node
         (hc sorts counts numbers w inside) y)
 
-    deep-fails : r .fit ≡ true → 64 ≤ r .deep → T (complete (nodesOf p)) → Goods (headsBy sorts counts numbers own) (terms (nodesOf p)) → ⊥
+    deep-fails : r .fit ≡ true → maxDepth ≤ r .deep → T (complete (nodesOf p)) → Goods (headsBy sorts counts numbers own) (terms (nodesOf p)) → ⊥
     deep-fails y m =
         node-deep (headsBy sorts counts numbers own) sorts (nodesOf p) i (nodeAt p i) (nodes-drop p i inside) node-inside h r (nodeAt p i .count) (suc i) refl (fits-node y) m
 
@@ -236,7 +237,7 @@ module _ {p froms tos trees arities signatures : List ℕ} {own i : ℕ} {ends c
     fails = λ sorts counts numbers w inside h e. misfit-fails w inside h y;
   }
 
-  pub read-deep : r .fit ≡ true → 64 ≤ r .deep → NodeRead p froms tos trees arities signatures own i ends codes depths ends codes depths false
+  pub read-deep : r .fit ≡ true → maxDepth ≤ r .deep → NodeRead p froms tos trees arities signatures own i ends codes depths ends codes depths false
   read-deep y m = record {
     long = refl;
     long-codes = refl;
@@ -246,7 +247,7 @@ module _ {p froms tos trees arities signatures : List ℕ} {own i : ℕ} {ends c
     fails = λ sorts counts numbers w inside h e. deep-fails w inside h y m;
   }
 
-  pub read-held : {ends′ codes′ depths′ : List ℕ} {e₁ c₁ d₁ : ℕ} → r .fit ≡ true → r .deep < 64 → Stored ends ends′ i (r .end) e₁ → Stored codes codes′ i (r .sort) c₁ → Stored depths depths′ i (r .deep + 1) d₁
+  pub read-held : {ends′ codes′ depths′ : List ℕ} {e₁ c₁ d₁ : ℕ} → r .fit ≡ true → r .deep < maxDepth → Stored ends ends′ i (r .end) e₁ → Stored codes codes′ i (r .sort) c₁ → Stored depths depths′ i (r .deep + 1) d₁
       → NodeRead p froms tos trees arities signatures own i ends codes depths ends′ codes′ depths′ true
   read-held y m se sc sd = record {
     long = stored-length se;

@@ -21,6 +21,7 @@ use Rattle.sorts.specs.codes.Sorted.{SortArrays}
 use Rattle.bodies.specs.Bodies.{Held, Goods, headsBy, BodyTables, Scanned, BodyDecided}
 use Rattle.sorts.proofs.codes.Codes.{code-listed, listed-code}
 use Rattle.casefile.proofs.Cells.{nodes-length}
+use Rattle.index.specs.layout.Layout.{maxNodes, maxDepth}
 
 no-true : (b : Bool) → (b ≡ true → ⊥) → b ≡ false
 no-true true f = absurd (f refl)
@@ -39,17 +40,17 @@ module _ (hs : Head → Sort) where
   unfoldable verdict : Bool → Terms → Bool
   verdict c ts = c && eqb (countᵗ ts) 1 && found (sortOf hs (firstTerm ts)) (sameSort o) && leb (depth (firstTerm ts)) 64
 
-  verdict-parts : (c : Bool) (ts : Terms) → verdict c ts ≡ true → (c ≡ true) × (countᵗ ts ≡ 1) × (sortOf hs (firstTerm ts) ≡ some o) × (depth (firstTerm ts) ≤ 64)
+  verdict-parts : (c : Bool) (ts : Terms) → verdict c ts ≡ true → (c ≡ true) × (countᵗ ts ≡ 1) × (sortOf hs (firstTerm ts) ≡ some o) × (depth (firstTerm ts) ≤ maxDepth)
   unfolding verdict
   verdict-parts c ts e =
       let x = and-true (c && eqb (countᵗ ts) 1 && found (sortOf hs (firstTerm ts)) (sameSort o)) (leb (depth (firstTerm ts)) 64) e in
       let y = and-true (c && eqb (countᵗ ts) 1) (found (sortOf hs (firstTerm ts)) (sameSort o)) (x .0) in
       let z = and-true c (eqb (countᵗ ts) 1) (y .0) in
-      (z .0, eqb-true (countᵗ ts) 1 (z .1), found-sort (sortOf hs (firstTerm ts)) o (y .1), leb-true (depth (firstTerm ts)) 64 (x .1))
+      (z .0, eqb-true (countᵗ ts) 1 (z .1), found-sort (sortOf hs (firstTerm ts)) o (y .1), leb-true (depth (firstTerm ts)) maxDepth (x .1))
 
-  verdict-in : (c : Bool) (ts : Terms) → c ≡ true → countᵗ ts ≡ 1 → sortOf hs (firstTerm ts) ≡ some o → depth (firstTerm ts) ≤ 64 → verdict c ts ≡ true
+  verdict-in : (c : Bool) (ts : Terms) → c ≡ true → countᵗ ts ≡ 1 → sortOf hs (firstTerm ts) ≡ some o → depth (firstTerm ts) ≤ maxDepth → verdict c ts ≡ true
   unfolding verdict found
-  verdict-in c ts e f g h = let a = eq-eqb (countᵗ ts) 1 f in let b = le-leb (depth (firstTerm ts)) 64 h in let d = same-refl o in rw (e, a, g, d, b) refl
+  verdict-in c ts e f g h = let a = eq-eqb (countᵗ ts) 1 f in let b = le-leb (depth (firstTerm ts)) maxDepth h in let d = same-refl o in rw (e, a, g, d, b) refl
 
   verdict-goods : (c : Bool) (ts : Terms) → verdict c ts ≡ true → Goods hs ts
   unfolding Goods countᵗ firstTerm
@@ -100,7 +101,7 @@ module _ (p : List ℕ) (own : ℕ) where
   refused sorts counts numbers f = sym (verdict-is sorts counts numbers ∙ no-true (verdict (headsBy sorts counts numbers own) (complete (nodesOf p)) (terms (nodesOf p))) f)
 
 module _ {p froms tos trees arities signatures : List ℕ} {own : ℕ} where
-  pub decide-long : {ends : List ℕ} → 256 < length p / 4 → BodyDecided p froms tos trees arities signatures own ends ends false
+  pub decide-long : {ends : List ℕ} → maxNodes < length p / 4 → BodyDecided p froms tos trees arities signatures own ends ends false
   decide-long h = record {
     long = refl;
     rest = refl;

@@ -13,6 +13,7 @@ use Rattle.casefile.specs.Tables.{nodesOf}
 use Rattle.bodies.specs.Bodies.{Held, Held-from, HeldAs, headsBy, BodyTables, Room, NodeRead, Scanned}
 use Rattle.bodies.specs.declared.Arguments.{Arguments}
 use Rattle.casefile.proofs.Cells.{nodes-length}
+use Rattle.index.specs.layout.Layout.{maxNodes, rowsSize}
 
 -- behind the last node there is nothing to hold
 held-none : (hs : Head → Sort) (sorts : List Sort) (ns : List Node) (ends codes depths : List ℕ) (i : ℕ) → i ≡ length ns → Held-from hs sorts ns ends codes depths i
@@ -37,16 +38,16 @@ held-again {ends} {codes} {depths} {n} {i} {r} h x = let e : i ≡ i - 1 + 1 = o
 -- the tables hold the nodes from i on
 pub record Scanning (p froms tos trees arities signatures : List ℕ) (own : ℕ) (before ends codes depths : List ℕ) (i : ℕ) : Type 0 where
   pub within : i ≤ length p / 4
-  pub few : length p / 4 ≤ 256
+  pub few : length p / 4 ≤ maxNodes
   pub long : length ends ≡ length before
-  pub long-codes : length codes ≡ 257
-  pub long-depths : length depths ≡ 257
+  pub long-codes : length codes ≡ rowsSize
+  pub long-depths : length depths ≡ rowsSize
   pub rest : drop (length p / 4) ends ≡ drop (length p / 4) before
   pub holds : (sorts : List Sort) (counts numbers : List ℕ) → BodyTables sorts counts numbers p froms tos trees arities signatures own → length p / 4 ≤ length before
       → Held-from (headsBy sorts counts numbers own) sorts (nodesOf p) ends codes depths i
 
 module _ {p froms tos trees arities signatures : List ℕ} {own : ℕ} where
-  pub scan-start : {ends codes depths : List ℕ} (i : ℕ) → i ≡ length p / 4 → length p / 4 ≤ 256 → length codes ≡ 257 → length depths ≡ 257
+  pub scan-start : {ends codes depths : List ℕ} (i : ℕ) → i ≡ length p / 4 → length p / 4 ≤ maxNodes → length codes ≡ rowsSize → length depths ≡ rowsSize
       → Scanning p froms tos trees arities signatures own ends ends codes depths i
   scan-start {ends} {codes} {depths} i e f lc ld = record {
     within = omega arith;

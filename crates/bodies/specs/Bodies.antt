@@ -17,13 +17,14 @@ use Rattle.casefile.specs.Refusals.{wrongCell, wrongBody}
 use Rattle.casefile.specs.Promises.{cellAt}
 use Rattle.sorts.specs.codes.Sorted.{Code, Coded}
 use Rattle.bodies.specs.declared.Arguments.{Arguments}
+use Rattle.index.specs.layout.Layout.{maxNodes, maxDepth, rowsSize}
 
 -- the tables hold terms one after another from node `at` up to node n: where each ends, the code of its sort, its depth
 unfoldable pub Held : (Head → Sort) → List Sort → List ℕ → List ℕ → List ℕ → ℕ → Terms → ℕ → Type 0
 Held hs sorts ends codes depths n []ᵗ at = at ≡ n
 Held hs sorts ends codes depths n (t ∷ᵗ ts) at =
     (at < n) × (getD ends at 0 ≡ at + nodes t) × ((s : Sort) × (sortOf hs t ≡ some s) × Code sorts (getD codes at 0) s)
-    × (getD depths at 0 ≡ depth t) × (depth t ≤ 64) × Held hs sorts ends codes depths n ts (at + nodes t)
+    × (getD depths at 0 ≡ depth t) × (depth t ≤ maxDepth) × Held hs sorts ends codes depths n ts (at + nodes t)
 
 -- what k arguments from node `at` on come to, of a head of sort s
 pub record Fits (hs : Head → Sort) (sorts : List Sort) (ts : Terms) (s : Sort) (at k : ℕ) (r : Arguments) : Type 0 where
@@ -75,7 +76,7 @@ HeadOf froms tos trees arities signatures own tag number r =
 -- every term has a sort, and nests 64 deep at most
 unfoldable pub Goods : (Head → Sort) → Terms → Type 0
 Goods hs []ᵗ = Unit
-Goods hs (t ∷ᵗ ts) = ((s : Sort) × (sortOf hs t ≡ some s)) × (depth t ≤ 64) × Goods hs ts
+Goods hs (t ∷ᵗ ts) = ((s : Sort) × (sortOf hs t ≡ some s)) × (depth t ≤ maxDepth) × Goods hs ts
 
 -- from node i on the nodes are complete, and the tables hold their terms
 pub record Held-from (hs : Head → Sort) (sorts : List Sort) (ns : List Node) (ends codes depths : List ℕ) (i : ℕ) : Type 0 where
@@ -89,7 +90,7 @@ pub record NodeRead (p froms tos trees arities signatures : List ℕ) (own i : �
   pub long-codes : length codes′ ≡ length codes
   pub long-depths : length depths′ ≡ length depths
   pub rest : (m : ℕ) → i < m → drop m ends′ ≡ drop m ends
-  pub holds : (sorts : List Sort) (counts numbers : List ℕ) → BodyTables sorts counts numbers p froms tos trees arities signatures own → length p / 4 ≤ 256
+  pub holds : (sorts : List Sort) (counts numbers : List ℕ) → BodyTables sorts counts numbers p froms tos trees arities signatures own → length p / 4 ≤ maxNodes
       → i < length p / 4 → i < length ends → i < length codes → i < length depths → Held-from (headsBy sorts counts numbers own) sorts (nodesOf p) ends codes depths (suc i)
       → r ≡ true → Held-from (headsBy sorts counts numbers own) sorts (nodesOf p) ends′ codes′ depths′ i
   pub fails : (sorts : List Sort) (counts numbers : List ℕ) → BodyTables sorts counts numbers p froms tos trees arities signatures own → i < length p / 4
@@ -98,10 +99,10 @@ pub record NodeRead (p froms tos trees arities signatures : List ℕ) (own i : �
 
 -- the tables have room for the nodes of a body
 pub record Room (p ends codes depths : List ℕ) : Type 0 where
-  pub few : length p / 4 ≤ 256
+  pub few : length p / 4 ≤ maxNodes
   pub ends-long : length p / 4 ≤ length ends
-  pub codes-long : length codes ≡ 257
-  pub depths-long : length depths ≡ 257
+  pub codes-long : length codes ≡ rowsSize
+  pub depths-long : length depths ≡ rowsSize
 
 -- node i was read, and where it fits, r is what the tables hold of it
 pub record NodeTaken (p froms tos trees arities signatures : List ℕ) (own i : ℕ) (ends codes depths ends′ codes′ depths′ : List ℕ) (r : Arguments) : Type 0 where

@@ -25,6 +25,7 @@ use Rattle.casefile.specs.Promises.{Passed, cellAt}
 use Rattle.casefile.proofs.TypeTable.{count-payloads}
 use Rattle.casefile.proofs.Plans.{body-passes}
 use Rattle.casefile.proofs.Cells.{cells-length, cells-at, cell-range}
+use Rattle.index.specs.layout.Layout.{maxNodes}
 use Rattle.index.specs.entries.Index.{Indexed}
 use Rattle.index.specs.Wholes.{Whole, Bodies}
 
@@ -62,13 +63,13 @@ module _ {rs : List Record} (ok : Passed rs) where
       let w = any-at (wrongCell (length (aritiesOf before)) (length sigs) (length (arguments (getD sigs n o)))) (cellsOf p) i d right (omega arith) in
       subst (λ (c : Cell). c .tag ≤ 2) (cells-at p i d k) (cell-range (length (aritiesOf before)) (length sigs) (length (arguments (getD sigs n o))) (getD (cellsOf p) i d) w .0))
 
-  nodes-few : (f : ℕ) → f < length (payloads Kind.rule rs) → length (getD (payloads Kind.rule rs) f []) / 4 ≤ 256
+  nodes-few : (f : ℕ) → f < length (payloads Kind.rule rs) → length (getD (payloads Kind.rule rs) f []) / 4 ≤ maxNodes
   unfolding tooLarge tooMany
   nodes-few f h =
       let e = entry ok Kind.rule f h in
       let l = cells-length (e .payload) in
       let k = ltb-false 256 (length (cellsOf (e .payload))) (or-false false (ltb 256 (length (cellsOf (e .payload)))) (e .passed-tests .few) .1) in
-      subst (λ (p : List ℕ). length p / 4 ≤ 256) (sym (e .here)) (omega arith)
+      subst (λ (p : List ℕ). length p / 4 ≤ maxNodes) (sym (e .here)) (omega arith)
 
   module _ (flags : ℕ) (e : refuseWhole rs flags ≡ none) where
     -- the body of each rule

@@ -1,1 +1,2 @@
 pub mod Storing
+pub mod Clearing

@@ -1,3 +1,4 @@
+pub mod layout
 pub mod entries
 pub mod lookup
 pub mod repeats

@@ -8,12 +8,13 @@ use Rattle.casefile.specs.Fields.{byte}
 use Rattle.casefile.specs.Records.{Record}
 use Rattle.casefile.specs.Kinds.{Kind, payloads}
 use Rattle.casefile.specs.Tables.{nodesOf, bodyOf}
+use Rattle.index.specs.layout.Layout.{maxNodes}
 use Rattle.index.specs.entries.Index.{Indexed}
 
 -- a body that is one term of at most 256 nodes, with known tags
 pub record Whole (p : List ℕ) : Type 0 where
   pub one-term : nodesOf p ≡ flat (bodyOf p)
-  pub short : length p / 4 ≤ 256
+  pub short : length p / 4 ≤ maxNodes
   pub tags : (i : ℕ) → i < length p / 4 → byte p (i * 4) ≤ 2
 
 -- the index has so many rules, whose bodies are terms

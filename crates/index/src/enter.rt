@@ -8,7 +8,7 @@ ghost use mathlib.Core.Path.{_≡_};
 ghost use mathlib.Core.List.{List};
 ghost use Prim.Native.Nat.{ℕ, _<_};
 ghost use Rattle.index.specs.entries.Chains.{hashOf};
-ghost use Rattle.index.specs.enter.Entering.{stored, lensAfter, chainsAfter};
+ghost use Rattle.index.specs.enter.Entering.{stored, lensAfter, chainsAfter, Clears};
 
 // Stores v at i of a table; a number of over two bytes, or a place past the end, changes nothing.
 pub fn store(a: &mut [u16], i: usize, v: usize)
@@ -19,6 +19,23 @@ pub fn store(a: &mut [u16], i: usize, v: usize)
     }
     if i < a.len() {
         a[i] = v as u16;
+    }
+}
+
+// Sets n entries of a table, from number `from` on, to 0; a table that does not have all of them stays as it is.
+pub fn clear(a: &mut [u16], from: usize, n: usize)
+    ensures { λ _. ⌜ Clears (now (a .entry)) from n (now (a .exit)) ⌝ }
+{
+    if a.len() < from {
+        return;
+    }
+    if a.len() - from < n {
+        return;
+    }
+    let mut i: usize = 0;
+    while i < n {
+        a[from + i] = 0;
+        i = i + 1;
     }
 }
 

@@ -46,8 +46,7 @@ pub const LAST_BINDING: usize = MAX_BINDINGS - 1;
 
 pub const LAST_MEMBER: usize = MAX_MEMBERS - 1;
 
-// The bytes of a record's header, and of a node of a body.
-pub const HEADER: usize = 4;
+// The bytes of a node of a body.
 
 pub const NODE: usize = 4;
 

@@ -1,7 +1,7 @@
 // The payload of an entry, found by its number in the index.
 use crate::entries::place_at;
 use records::cursor::payload;
-use records::fields::word_at;
+use records::fields::length_at;
 ghost use mathlib.Core.Path.{_≡_};
 ghost use Rattle.index.specs.lookup.Lookup.{entryOf};
 
@@ -10,9 +10,5 @@ pub fn entry<'a>(file: &'a [u8], index: &[u16], i: usize) -> &'a [u8]
     ensures { λ r. ⌜ now r ≡ entryOf (now (file .entry)) (now (index .entry)) i ⌝ }
 {
     let start = place_at(index, i);
-    if start < 4 {
-        return payload(file, 0, 0);
-    }
-    let len = word_at(file, start - 4);
-    payload(file, start, len)
+    payload(file, start, length_at(file, start))
 }

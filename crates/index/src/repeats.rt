@@ -2,7 +2,7 @@
 use crate::entries::place_at;
 use crate::layout::MAX_TYPES;
 use records::fields::byte_at;
-use records::fields::word_at;
+use records::fields::length_at;
 ghost use mathlib.Core.Path.{_≡_};
 ghost use Prim.Native.Nat.{_<_, _≤_};
 ghost use lib.ListN.{length};
@@ -32,10 +32,7 @@ fn matches_at(file: &[u8], at: usize, p: &[u8]) -> bool
 pub fn same_payload(file: &[u8], at: usize, p: &[u8]) -> bool
     ensures { λ r. ⌜ (4 ≤ at → at < 65536 → length (now (p .entry)) ≤ 64 → r ≡ samePayload (now (p .entry)) (now (file .entry)) at) ⌝ }
 {
-    if at < 4 {
-        return false;
-    }
-    if word_at(file, at - 4) != p.len() {
+    if length_at(file, at) != p.len() {
         return false;
     }
     matches_at(file, at, p)

@@ -1,4 +1,5 @@
 // Reads a file: its records, and the part of the file that a payload fills.
+use crate::fields::HEADER;
 use crate::fields::word_at;
 ghost use mathlib.Core.Path.{_≡_};
 ghost use Rattle.records.specs.cursor.Reading.{readAt, partOf};
@@ -41,12 +42,12 @@ impl Cursor {
         if file.len() <= at {
             return Read::End;
         }
-        if file.len() - at < 4 {
+        if file.len() - at < HEADER {
             return cut(at);
         }
         let len = word_at(file, at);
         let kind = word_at(file, at + 2);
-        let start = at + 4;
+        let start = at + HEADER;
         if len <= file.len() - start {
             Read::Record {
                 place: at,

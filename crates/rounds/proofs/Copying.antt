@@ -7,17 +7,18 @@ use mathlib.Core.List.{List, [], _∷_, _++_}
 use lib.ListN.{length, getD, set, take, replicate, length-set}
 use lib.Seq.{take-suc, take-suc-set}
 use Rattle.rounds.specs.Shrinking.{Copies, KeepsAll}
+use Rattle.index.specs.layout.Layout.{maxBindings}
 
 -- the first i flags are taken over
 pub record Copied (from before to : List ℕ) (i : ℕ) : Type 0 where
   pub long : length to ≡ length before
-  pub first : 1024 ≤ length before → take i to ≡ take i from
+  pub first : maxBindings ≤ length before → take i to ≡ take i from
 
 module _ (from before : List ℕ) where
   pub copied-none : Copied from before before 0
   copied-none = record { long = refl; first = λ e. refl }
 
-  pub copied-more : (to : List ℕ) (i : ℕ) → Copied from before to i → i < 1024 → i < length from → Copied from before (set to i (getD from i 0)) (i + 1)
+  pub copied-more : (to : List ℕ) (i : ℕ) → Copied from before to i → i < maxBindings → i < length from → Copied from before (set to i (getD from i 0)) (i + 1)
   copied-more to i w h k =
       record {
         long = length-set to i (getD from i 0) ∙ w .long;
@@ -32,7 +33,7 @@ module _ (from before : List ℕ) where
   copied-all n to i w h k = record { long = w .long; copied = λ few room l. subst (λ m. take m to ≡ take m from) (let same : i ≡ n = omega arith in same) (w .first l) }
 
   -- a set of flags has no more entries, or there are fewer to take over
-  pub copied-not : (n : ℕ) → (n ≤ 1024 → n ≤ length from → ⊥) → Copies from n before before
+  pub copied-not : (n : ℕ) → (n ≤ maxBindings → n ≤ length from → ⊥) → Copies from n before before
   copied-not n never = record { long = refl; copied = λ few room l. absurd (never few room) }
 
 -- the first i flags say kept

@@ -27,6 +27,7 @@ use Rattle.scheme.proofs.Agreeing.{bound-agrees, holds-agrees}
 use Rattle.binding_tests.proofs.mentions.Touching.{untouched}
 use Rattle.binding_tests.specs.test.BindingTests.{Ready, symbolOf, IsSymbol}
 use Rattle.rounds.specs.Shrinking.{testOf, Settled, Marks}
+use Rattle.index.specs.layout.Layout.{shared, sharedSize}
 
 -- node i of a body
 node-at : (p : List ℕ) (i : ℕ) (d : Node) → i < length p / 4 → getD (nodesOf p) i d ≡ nodeAt p i
@@ -67,12 +68,12 @@ module _ {file index counts groups firsts ends : List ℕ} {rs : List Record} (w
   nodes-there b h = ap flat (body-there b h) ∙ sym (w .bodies (symbolOf rs b) (rule-there b h) .one-term)
 
   module _ (lost old new : List ℕ) (enough : length (bindingsOf rs) ≤ length old) (enough′ : length (bindingsOf rs) ≤ length new) (many : length (bindingsOf rs) ≡ count Kind.binding rs)
-      (kept-same : (i : ℕ) → i < count Kind.binding rs → getD lost (symbolOf rs i % 64) 0 ≡ 0 → isKept (getD new i 0) ≡ isKept (getD old i 0)) where
+      (kept-same : (i : ℕ) → i < count Kind.binding rs → getD lost (symbolOf rs i % shared) 0 ≡ 0 → isKept (getD new i 0) ≡ isKept (getD old i 0)) where
     -- a nonterminal without a flag has the types that it had
-    types-same : (f : ℕ) → getD lost (f % 64) 0 ≡ 0 → bound (chosen new (bindingsOf rs)) f ≡ bound (chosen old (bindingsOf rs)) f
+    types-same : (f : ℕ) → getD lost (f % shared) 0 ≡ 0 → bound (chosen new (bindingsOf rs)) f ≡ bound (chosen old (bindingsOf rs)) f
     types-same f z =
         bound-agrees new old (bindingsOf rs) f noBinding enough′ enough
-        (λ i l e. kept-same i (omega arith) (ap (λ g. getD lost (g % 64) 0) (sym (binding-made rs i (inside i (omega arith)) .0) ∙ e) ∙ z))
+        (λ i l e. kept-same i (omega arith) (ap (λ g. getD lost (g % shared) 0) (sym (binding-made rs i (inside i (omega arith)) .0) ∙ e) ∙ z))
 
     pub settle : ((b : ℕ) → b < count Kind.binding rs → getD new b 0 ≡ bit (isKept (getD old b 0) && testOf rs (chosen old (bindingsOf rs)) (getD (bindingsOf rs) b noBinding))) → Settled rs lost new
     settle flags b h k u =
@@ -95,14 +96,14 @@ module _ {file index lost : List ℕ} {b was flag : ℕ} where
   pub mark-kept : (flag ≡ 0 → ⊥) → Marks file index lost b was flag lost
   mark-kept z = record { long = refl; stays = λ r g e. e; marked = λ n rs ok ix few l r e nz k. z k }
 
-  pub mark-set : (f : ℕ) → IsSymbol file index b f → (at : ℕ) → at ≡ f % 64 → at < 64 → Marks file index lost b was flag (set lost at 1)
+  pub mark-set : (f : ℕ) → IsSymbol file index b f → (at : ℕ) → at ≡ f % shared → at < shared → Marks file index lost b was flag (set lost at 1)
   mark-set f is at e h =
       record {
         long = length-set lost at 1;
         stays = λ r g z. go r g z (ℕ-discrete g at);
-        marked = λ n rs ok ix few l r z nz k. let one = getD-set-same lost at 1 0 (omega arith) in let y = ap (λ g. getD (set lost at 1) g 0) (e ∙ ap (_% 64) (is .symbol n rs ok ix few l)) in omega arith;
+        marked = λ n rs ok ix few l r z nz k. let one = getD-set-same lost at 1 0 (omega arith) in let y = ap (λ g. getD (set lost at 1) g 0) (e ∙ ap (_% shared) (is .symbol n rs ok ix few l)) in omega arith;
       }
     where
-      go : 65 ≤ length lost → (g : ℕ) → getD (set lost at 1) g 0 ≡ 0 → Dec (g ≡ at) → getD lost g 0 ≡ 0
+      go : sharedSize ≤ length lost → (g : ℕ) → getD (set lost at 1) g 0 ≡ 0 → Dec (g ≡ at) → getD lost g 0 ≡ 0
       go r g z (yes y) = absurd (let one = getD-set-same lost at 1 0 (omega arith) in let x = ap (λ k. getD (set lost at 1) k 0) y in omega arith)
       go r g z (no y) = sym (getD-set-other lost at g 1 0 y) ∙ z

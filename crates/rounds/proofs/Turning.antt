@@ -16,6 +16,7 @@ use Rattle.casefile.specs.Records.{Record}
 use Rattle.casefile.specs.Kinds.{Kind, number, payloads, count}
 use Rattle.casefile.specs.Tables.{bindingsOf}
 use Rattle.casefile.proofs.TypeTable.{count-payloads}
+use Rattle.index.specs.layout.Layout.{maxStates, maxBindings, rulesAt, mostNodesAt, shared, sharedSize}
 use Rattle.index.specs.entries.Tests.{IsPlace}
 use Rattle.memo.specs.Memo.{nextStamp, readied, Under}
 use Rattle.memo.proofs.Remembering.{stamp-range, readied-under}
@@ -32,8 +33,8 @@ use Rattle.rounds.proofs.Flagged.{bit-small, chosen-take, round-length,
 use Rattle.rounds.proofs.Counted.{Sofar, sofar-none, sofar-more, sofar-flags, sofar-kept, Left, left-start, left-turn, left-rounds, left-made, left-kept}
 
 -- the number of entries of a memo is no large number
-pub entries-few : (nodes types : ℕ) → nodes < 65536 → types < 65536 → nodes * (types + 16) ≤ 4295884785
-entries-few nodes types h k = mul-le-mul {n₁ = nodes} {m₁ = types + 16} {n₂ = 65535} {m₂ = 65551} (omega arith) (omega arith)
+pub entries-few : (nodes types : ℕ) → nodes < 65536 → types < 65536 → nodes * (types + maxStates) ≤ 4295884785
+entries-few nodes types h k = mul-le-mul {n₁ = nodes} {m₁ = types + maxStates} {n₂ = 65535} {m₂ = 65551} (omega arith) (omega arith)
 
 -- a flag that was 0 is 0 after a test
 none-kept : {was : ℕ} → was ≡ 0 → (v : Bool) → bit (isKept was && v) ≡ 0
@@ -78,7 +79,7 @@ module _ (file index counts groups firsts ends : List ℕ) where
         }
 
     -- a binding that held in the round before, and whose body names nothing that was lost there
-    pub retest-settled : (was ≡ 0 → ⊥) → (f : ℕ) → IsSymbol file index b f → (body : List ℕ) → body ≡ entryOf file index (352 + f) → (r : Bool) → r ≡ touches lost body → r ≡ false
+    pub retest-settled : (was ≡ 0 → ⊥) → (f : ℕ) → IsSymbol file index b f → (body : List ℕ) → body ≡ entryOf file index (rulesAt + f) → (r : Bool) → r ≡ touches lost body → r ≡ false
         → Retests file index counts groups firsts ends old lost memo stamp b was memo 1 stamp
     unfolding bit number
     retest-settled nz f is-f body is-body r touch e =
@@ -89,19 +90,19 @@ module _ (file index counts groups firsts ends : List ℕ) where
               let c = w .known .entries Kind.binding .counted in
               let ef : f ≡ symbolOf rs b = is-f .symbol (getD counts 8 0) rs (w .passed) (w .known .entries Kind.binding) (w .known .fits Kind.binding) (omega arith) in
               let d = w .known .entries Kind.rule .counted in
-              let here : body ≡ ruleOf rs (symbolOf rs b) = is-body ∙ ap (λ g. entryOf file index (352 + g)) ef ∙ entry-there (w .known .entries Kind.rule) (symbolOf rs b) (let r = rule-there w b h in omega arith) in
+              let here : body ≡ ruleOf rs (symbolOf rs b) = is-body ∙ ap (λ g. entryOf file index (rulesAt + g)) ef ∙ entry-there (w .known .entries Kind.rule) (symbolOf rs b) (let r = rule-there w b h in omega arith) in
               let on : isKept was ≡ true = kept-byte was nz in
               let held = s b h (ap isKept (sym is) ∙ on) (ap (touches lost) (sym here) ∙ sym touch ∙ e) in
               sym (rw (on, held));
         }
 
-    pub retest-tested : (was ≡ 0 → ⊥) → (nodes types : ℕ) → IsPlace firsts 256 nodes → IsPlace counts 7 types → (fresh : ℕ) (ready : List ℕ) → (fresh ≡ nextStamp stamp) × (ready ≡ readied memo (nodes * (types + 16)) stamp)
+    pub retest-tested : (was ≡ 0 → ⊥) → (nodes types : ℕ) → IsPlace firsts mostNodesAt nodes → IsPlace counts 7 types → (fresh : ℕ) (ready : List ℕ) → (fresh ≡ nextStamp stamp) × (ready ≡ readied memo (nodes * (types + maxStates)) stamp)
         → (memo′ : List ℕ) (r : Bool) → TestsBinding file index counts groups firsts ends old ready fresh b memo′ r → (flag : ℕ) → flag ≡ bit r
         → Retests file index counts groups firsts ends old lost memo stamp b was memo′ flag fresh
     unfolding isKept bit
     retest-tested nz nodes types an at fresh ready (ef, er) memo′ r tests flag e =
         let many = entriesFor counts firsts in
-        let same : nodes * (types + 16) ≡ many = ap₂ (λ m n. m * (n + 16)) (an .value) (at .value) in
+        let same : nodes * (types + maxStates) ≡ many = ap₂ (λ m n. m * (n + 16)) (an .value) (at .value) in
         let (low, high) = stamp-range stamp in
         let under : Numbered counts firsts memo stamp → Under ready many (fresh * 2) =
         λ u. subst (λ l. Under l many (fresh * 2)) (sym (er ∙ ap (λ n. readied memo n stamp) same))
@@ -123,10 +124,10 @@ module _ (file index counts groups firsts ends : List ℕ) where
     pub stays : drop b new ≡ drop b flags
     pub few : kept ≤ b
     pub numbered : Numbered counts firsts memo stamp → Numbered counts firsts memo′ last
-    pub sofar : (rs : List Record) → Ready file index counts groups firsts ends rs → Numbered counts firsts memo stamp → 1024 ≤ length old → count Kind.binding rs ≤ length flags → length cleared ≡ 65 → Settled rs gone old
+    pub sofar : (rs : List Record) → Ready file index counts groups firsts ends rs → Numbered counts firsts memo stamp → maxBindings ≤ length old → count Kind.binding rs ≤ length flags → length cleared ≡ sharedSize → Settled rs gone old
         → Sofar (roundFlags (testOf rs) (bindingsOf rs) old) (bindingsOf rs) new b kept
-    pub losing : (rs : List Record) → Ready file index counts groups firsts ends rs → Numbered counts firsts memo stamp → 1024 ≤ length old → count Kind.binding rs ≤ length flags → length cleared ≡ 65 → Settled rs gone old
-        → (i : ℕ) → i < b → i < count Kind.binding rs → getD lost (symbolOf rs i % 64) 0 ≡ 0 → isKept (getD (roundFlags (testOf rs) (bindingsOf rs) old) i 0) ≡ isKept (getD old i 0)
+    pub losing : (rs : List Record) → Ready file index counts groups firsts ends rs → Numbered counts firsts memo stamp → maxBindings ≤ length old → count Kind.binding rs ≤ length flags → length cleared ≡ sharedSize → Settled rs gone old
+        → (i : ℕ) → i < b → i < count Kind.binding rs → getD lost (symbolOf rs i % shared) 0 ≡ 0 → isKept (getD (roundFlags (testOf rs) (bindingsOf rs) old) i 0) ≡ isKept (getD old i 0)
 
   module _ (old gone memo flags cleared : List ℕ) (stamp : ℕ) where
     pub round-none : Rounding old gone memo flags cleared stamp memo flags cleared stamp 0 0
@@ -142,8 +143,8 @@ module _ (file index counts groups firsts ends : List ℕ) where
         }
 
     -- the new flag of a binding says kept as the old one does, unless its nonterminal is marked
-    flag-stays : (was flag : ℕ) (lost lost′ : List ℕ) (b : ℕ) → Marks file index lost b was flag lost′ → length lost ≡ 65 → (rs : List Record) → Ready file index counts groups firsts ends rs → b < count Kind.binding rs
-        → getD lost′ (symbolOf rs b % 64) 0 ≡ 0 → (was ≡ 0 → flag ≡ 0) → isKept flag ≡ isKept was
+    flag-stays : (was flag : ℕ) (lost lost′ : List ℕ) (b : ℕ) → Marks file index lost b was flag lost′ → length lost ≡ sharedSize → (rs : List Record) → Ready file index counts groups firsts ends rs → b < count Kind.binding rs
+        → getD lost′ (symbolOf rs b % shared) 0 ≡ 0 → (was ≡ 0 → flag ≡ 0) → isKept flag ≡ isKept was
     unfolding number
     flag-stays was flag lost lost′ b m long rs w h z none = go (ℕ-discrete was 0) (ℕ-discrete flag 0)
       where
@@ -177,7 +178,7 @@ module _ (file index counts groups firsts ends : List ℕ) where
           losing = λ rs w u lo lf lc s i l k z. go rs w u lo lf lc s i l k z (ℕ-discrete i b);
         }
       where
-        flag-is : (rs : List Record) → Ready file index counts groups firsts ends rs → Numbered counts firsts memo stamp → 1024 ≤ length old → count Kind.binding rs ≤ length flags → length cleared ≡ 65 → Settled rs gone old → flag ≡ getD (roundFlags (testOf rs) (bindingsOf rs) old) b 0
+        flag-is : (rs : List Record) → Ready file index counts groups firsts ends rs → Numbered counts firsts memo stamp → maxBindings ≤ length old → count Kind.binding rs ≤ length flags → length cleared ≡ sharedSize → Settled rs gone old → flag ≡ getD (roundFlags (testOf rs) (bindingsOf rs) old) b 0
         flag-is rs w u lo lf lc s =
             let (many, most) = counted rs w in
             let bs = bindingsOf rs in
@@ -185,13 +186,13 @@ module _ (file index counts groups firsts ends : List ℕ) where
             let is = at .value in
             t .flag-is rs w (omega arith) (g .numbered u) refl s ∙ sym (round-at (testOf rs) bs old b noBinding (omega arith) (omega arith))
 
-        go : (rs : List Record) → Ready file index counts groups firsts ends rs → Numbered counts firsts memo stamp → 1024 ≤ length old → count Kind.binding rs ≤ length flags → length cleared ≡ 65 → Settled rs gone old
-            → (i : ℕ) → i < b + 1 → i < count Kind.binding rs → getD lost′ (symbolOf rs i % 64) 0 ≡ 0 → Dec (i ≡ b) → isKept (getD (roundFlags (testOf rs) (bindingsOf rs) old) i 0) ≡ isKept (getD old i 0)
-        go rs w u lo lf lc s i l k z (no ne) = g .losing rs w u lo lf lc s i (let x = ne in omega arith) k (m .stays (let long = g .lost-long in omega arith) (symbolOf rs i % 64) z)
+        go : (rs : List Record) → Ready file index counts groups firsts ends rs → Numbered counts firsts memo stamp → maxBindings ≤ length old → count Kind.binding rs ≤ length flags → length cleared ≡ sharedSize → Settled rs gone old
+            → (i : ℕ) → i < b + 1 → i < count Kind.binding rs → getD lost′ (symbolOf rs i % shared) 0 ≡ 0 → Dec (i ≡ b) → isKept (getD (roundFlags (testOf rs) (bindingsOf rs) old) i 0) ≡ isKept (getD old i 0)
+        go rs w u lo lf lc s i l k z (no ne) = g .losing rs w u lo lf lc s i (let x = ne in omega arith) k (m .stays (let long = g .lost-long in omega arith) (symbolOf rs i % shared) z)
         go rs w u lo lf lc s i l k z (yes e) =
             subst (λ j. isKept (getD (roundFlags (testOf rs) (bindingsOf rs) old) j 0) ≡ isKept (getD old j 0)) (sym e)
             (ap isKept (sym (flag-is rs w u lo lf lc s))
-            ∙ flag-stays (getD old b 0) flag lost lost′ b m (g .lost-long ∙ lc) rs w (omega arith) (ap (λ j. getD lost′ (symbolOf rs j % 64) 0) (sym e) ∙ z)
+            ∙ flag-stays (getD old b 0) flag lost lost′ b m (g .lost-long ∙ lc) rs w (omega arith) (ap (λ j. getD lost′ (symbolOf rs j % shared) 0) (sym e) ∙ z)
             (λ y. t .flag-is rs w (omega arith) (g .numbered u) refl s ∙ none-kept y (testOf rs (chosen old (bindingsOf rs)) (getD (bindingsOf rs) b noBinding))))
 
     pub round-all : (bindings : ℕ) → IsPlace counts 8 bindings → (memo′ new lost : List ℕ) (last kept b : ℕ) → Rounding old gone memo flags cleared stamp memo′ new lost last kept b → b ≤ bindings → bindings ≤ b
@@ -214,21 +215,21 @@ module _ (file index counts groups firsts ends : List ℕ) where
               (λ i x. here rs w u lo lf lc s i x ∙ round-at (testOf rs) (bindingsOf rs) old i noBinding (omega arith) (omega arith));
         }
       where
-        as-long : (rs : List Record) → Ready file index counts groups firsts ends rs → 1024 ≤ length old → length (roundFlags (testOf rs) (bindingsOf rs) old) ≡ length (bindingsOf rs)
+        as-long : (rs : List Record) → Ready file index counts groups firsts ends rs → maxBindings ≤ length old → length (roundFlags (testOf rs) (bindingsOf rs) old) ≡ length (bindingsOf rs)
         as-long rs w lo = let (many, most) = counted rs w in round-length (testOf rs) (bindingsOf rs) old (omega arith)
 
         reached : (rs : List Record) → Ready file index counts groups firsts ends rs → b ≡ length (bindingsOf rs)
         reached rs w = let (many, most) = counted rs w in let is = at .value in omega arith
 
-        made : (rs : List Record) → Ready file index counts groups firsts ends rs → Numbered counts firsts memo stamp → 1024 ≤ length old → count Kind.binding rs ≤ length flags → length cleared ≡ 65 → Settled rs gone old → take (length (bindingsOf rs)) new ≡ roundFlags (testOf rs) (bindingsOf rs) old
+        made : (rs : List Record) → Ready file index counts groups firsts ends rs → Numbered counts firsts memo stamp → maxBindings ≤ length old → count Kind.binding rs ≤ length flags → length cleared ≡ sharedSize → Settled rs gone old → take (length (bindingsOf rs)) new ≡ roundFlags (testOf rs) (bindingsOf rs) old
         made rs w u lo lf lc s = sofar-flags (roundFlags (testOf rs) (bindingsOf rs) old) (bindingsOf rs) noBinding (as-long rs w lo) new b kept (g .sofar rs w u lo lf lc s) (reached rs w)
 
-        here : (rs : List Record) → Ready file index counts groups firsts ends rs → Numbered counts firsts memo stamp → 1024 ≤ length old → count Kind.binding rs ≤ length flags → length cleared ≡ 65 → Settled rs gone old
+        here : (rs : List Record) → Ready file index counts groups firsts ends rs → Numbered counts firsts memo stamp → maxBindings ≤ length old → count Kind.binding rs ≤ length flags → length cleared ≡ sharedSize → Settled rs gone old
             → (i : ℕ) → i < count Kind.binding rs → getD new i 0 ≡ getD (roundFlags (testOf rs) (bindingsOf rs) old) i 0
         here rs w u lo lf lc s i x = let all = bindings-many rs in sym (getD-take (length (bindingsOf rs)) new i 0 (omega arith)) ∙ ap (λ l. getD l i 0) (made rs w u lo lf lc s)
 
     -- a file has no more bindings, or there is no flag for each
-    pub round-refused : (bindings : ℕ) → IsPlace counts 8 bindings → (bindings ≤ 1024 → bindings ≤ length flags → ⊥) → Turns file index counts groups firsts ends old gone memo flags cleared stamp memo flags cleared 0 stamp
+    pub round-refused : (bindings : ℕ) → IsPlace counts 8 bindings → (bindings ≤ maxBindings → bindings ≤ length flags → ⊥) → Turns file index counts groups firsts ends old gone memo flags cleared stamp memo flags cleared 0 stamp
     round-refused bindings at no-room =
         record {
           long = refl;
@@ -247,23 +248,23 @@ module _ (file index counts groups firsts ends : List ℕ) where
   pub record Going (lent memo flags old lost : List ℕ) (stamp kept rounds : ℕ) : Type 0 where
     pub same : length flags ≡ length lent
     pub stays : (rs : List Record) → Ready file index counts groups firsts ends rs → drop (count Kind.binding rs) flags ≡ drop (count Kind.binding rs) lent
-    pub long : 1024 ≤ length old
+    pub long : maxBindings ≤ length old
     pub settled : (rs : List Record) → Ready file index counts groups firsts ends rs → count Kind.binding rs ≤ length lent → Settled rs lost old
     pub numbered : Numbered counts firsts memo stamp
     pub left : (rs : List Record) → Ready file index counts groups firsts ends rs → count Kind.binding rs ≤ length lent → Left (testOf rs) (bindingsOf rs) old kept rounds
 
-  pub going-none : (lent memo old lost : List ℕ) (bindings : ℕ) → IsPlace counts 8 bindings → 1024 ≤ length old → (bindings ≤ length old → take bindings old ≡ replicate bindings 1) → lost ≡ replicate 65 1 → Going lent memo lent old lost 127 bindings 0
+  pub going-none : (lent memo old lost : List ℕ) (bindings : ℕ) → IsPlace counts 8 bindings → maxBindings ≤ length old → (bindings ≤ length old → take bindings old ≡ replicate bindings 1) → lost ≡ replicate sharedSize 1 → Going lent memo lent old lost 127 bindings 0
   going-none lent memo old lost bindings at long e f =
       record {
         same = refl;
         stays = λ rs w. refl;
         long = long;
-        settled = λ rs w r b h k u. absurd (let z = untouched lost (ruleOf rs (symbolOf rs b)) u .0 in let one = ap (λ l. getD l 64 0) f ∙ getD-replicate 65 64 1 0 (omega arith) in omega arith);
+        settled = λ rs w r b h k u. absurd (let z = untouched lost (ruleOf rs (symbolOf rs b)) u .0 in let one = ap (λ l. getD l shared 0) f ∙ getD-replicate 65 64 1 0 (omega arith) in omega arith);
         numbered = λ k. absurd (omega arith);
         left = λ rs w r. let (many, most) = counted rs w in let is = at .value in left-start (testOf rs) (bindingsOf rs) old bindings (e (omega arith)) (is ∙ sym many);
       }
 
-  module _ (lent memo flags old lost : List ℕ) (stamp kept rounds : ℕ) (g : Going lent memo flags old lost stamp kept rounds) (marks : List ℕ) (all : length marks ≡ 65) (memo′ new lost′ : List ℕ) (more next : ℕ)
+  module _ (lent memo flags old lost : List ℕ) (stamp kept rounds : ℕ) (g : Going lent memo flags old lost stamp kept rounds) (marks : List ℕ) (all : length marks ≡ sharedSize) (memo′ new lost′ : List ℕ) (more next : ℕ)
       (t : Turns file index counts groups firsts ends old lost memo flags marks stamp memo′ new lost′ more next) where
     module _ (rs : List Record) (w : Ready file index counts groups firsts ends rs) (r : count Kind.binding rs ≤ length lent) where
       room : count Kind.binding rs ≤ length flags

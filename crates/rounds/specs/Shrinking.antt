@@ -15,6 +15,7 @@ use Rattle.casefile.specs.Tables.{planOf, automatonOf, bindingsOf}
 use Rattle.memo.specs.Memo.{Under}
 use Rattle.head_types.specs.candidates.Candidates.{noBinding}
 use Rattle.casefile.specs.Promises.{Passed}
+use Rattle.index.specs.layout.Layout.{maxBindings, lastStamp, shared, sharedSize}
 use Rattle.index.specs.entries.Index.{Indexed}
 use Rattle.rules.specs.reading.RuleBodies.{ruleOf}
 use Rattle.binding_tests.specs.mentions.Touched.{touches}
@@ -26,7 +27,7 @@ testOf rs = holdsExactly (automatonOf rs) (planOf rs)
 
 -- the memo is ready for the test behind test number `stamp`: unless the numbers begin again, it holds answers up to that test's
 abbrev pub Numbered : List ℕ → List ℕ → List ℕ → ℕ → Type 0
-Numbered counts firsts memo stamp = stamp < 127 → Under memo (entriesFor counts firsts) (stamp * 2 + 2)
+Numbered counts firsts memo stamp = stamp < lastStamp → Under memo (entriesFor counts firsts) (stamp * 2 + 2)
 
 -- `lost` has a flag for each nonterminal that lost a binding in the round before, which it may share with others: a binding that is
 -- kept, and whose body names none with a flag, holds
@@ -37,8 +38,8 @@ Settled rs lost old =
 -- the table of such flags after binding b, which was `was`, got its new flag
 pub record Marks (file index lost : List ℕ) (b was flag : ℕ) (lost′ : List ℕ) : Type 0 where
   pub long : length lost′ ≡ length lost
-  pub stays : 65 ≤ length lost → (g : ℕ) → getD lost′ g 0 ≡ 0 → getD lost g 0 ≡ 0
-  pub marked : (n : ℕ) (rs : List Record) → Passed rs → Indexed file index Kind.binding n rs → n ≤ 1024 → b < n → 65 ≤ length lost → getD lost′ (symbolOf rs b % 64) 0 ≡ 0 → (was ≡ 0 → ⊥) → flag ≡ 0 → ⊥
+  pub stays : sharedSize ≤ length lost → (g : ℕ) → getD lost′ g 0 ≡ 0 → getD lost g 0 ≡ 0
+  pub marked : (n : ℕ) (rs : List Record) → Passed rs → Indexed file index Kind.binding n rs → n ≤ maxBindings → b < n → sharedSize ≤ length lost → getD lost′ (symbolOf rs b % shared) 0 ≡ 0 → (was ≡ 0 → ⊥) → flag ≡ 0 → ⊥
 
 -- the flag of binding b, which was `was`, after its test against the old flags, and the number of the last test
 pub record Retests (file index counts groups firsts ends : List ℕ) (old lost memo : List ℕ) (stamp b was : ℕ) (memo′ : List ℕ) (flag stamp′ : ℕ) : Type 0 where
@@ -54,17 +55,17 @@ pub record Turns (file index counts groups firsts ends : List ℕ) (old gone mem
   pub lost-long : length lost′ ≡ length lost
   pub stays : (rs : List Record) → Ready file index counts groups firsts ends rs → drop (count Kind.binding rs) flags′ ≡ drop (count Kind.binding rs) flags
   pub numbered : Numbered counts firsts memo stamp → Numbered counts firsts memo′ stamp′
-  pub flags-are : (rs : List Record) → Ready file index counts groups firsts ends rs → Numbered counts firsts memo stamp → 1024 ≤ length old → count Kind.binding rs ≤ length flags → length lost ≡ 65 → Settled rs gone old
+  pub flags-are : (rs : List Record) → Ready file index counts groups firsts ends rs → Numbered counts firsts memo stamp → maxBindings ≤ length old → count Kind.binding rs ≤ length flags → length lost ≡ sharedSize → Settled rs gone old
       → take (count Kind.binding rs) flags′ ≡ roundFlags (testOf rs) (bindingsOf rs) old
-  pub kept-are : (rs : List Record) → Ready file index counts groups firsts ends rs → Numbered counts firsts memo stamp → 1024 ≤ length old → count Kind.binding rs ≤ length flags → length lost ≡ 65 → Settled rs gone old
+  pub kept-are : (rs : List Record) → Ready file index counts groups firsts ends rs → Numbered counts firsts memo stamp → maxBindings ≤ length old → count Kind.binding rs ≤ length flags → length lost ≡ sharedSize → Settled rs gone old
       → kept ≡ length (Rounds.round (testOf rs) (chosen old (bindingsOf rs)))
-  pub settled : (rs : List Record) → Ready file index counts groups firsts ends rs → Numbered counts firsts memo stamp → 1024 ≤ length old → count Kind.binding rs ≤ length flags → length lost ≡ 65 → Settled rs gone old
+  pub settled : (rs : List Record) → Ready file index counts groups firsts ends rs → Numbered counts firsts memo stamp → maxBindings ≤ length old → count Kind.binding rs ≤ length flags → length lost ≡ sharedSize → Settled rs gone old
       → Settled rs lost′ flags′
 
 -- the first n flags are taken over
 pub record Copies (from : List ℕ) (n : ℕ) (to to′ : List ℕ) : Type 0 where
   pub long : length to′ ≡ length to
-  pub copied : n ≤ 1024 → n ≤ length from → 1024 ≤ length to → take n to′ ≡ take n from
+  pub copied : n ≤ maxBindings → n ≤ length from → maxBindings ≤ length to → take n to′ ≡ take n from
 
 -- the first n flags say kept
 pub record KeepsAll (n : ℕ) (flags flags′ : List ℕ) : Type 0 where

@@ -8,7 +8,7 @@ use index::layout::MOST_NODES_AT;
 use index::layout::NODE;
 use index::layout::ROWS;
 use index::layout::RULES_AT;
-use records::fields::word_at;
+use records::fields::length_at;
 ghost use Rattle.rules.specs.first_nodes.FirstNodes.{CountsNodes, FillsFirsts};
 
 // The number of nodes of rule f, four bytes each; 0 where the index has no such rule.
@@ -18,11 +18,7 @@ fn nodes_of(file: &[u8], index: &[u16], f: usize) -> usize
     if LAST_NONTERMINAL < f {
         return 0;
     }
-    let place = place_at(index, RULES_AT + f);
-    if place < 4 {
-        return 0;
-    }
-    let len = word_at(file, place - 4);
+    let len = length_at(file, place_at(index, RULES_AT + f));
     if MAX_BODY < len {
         return 0;
     }

@@ -7,7 +7,7 @@ use index::layout::NODE;
 use index::layout::RULES_AT;
 use index::layout::Rows;
 use records::cursor::payload;
-use records::fields::word_at;
+use records::fields::length_at;
 ghost use Rattle.rules.specs.reading.RuleBodies.{RuleRead, ReadsRules};
 
 // The number of nodes of rule f where its body fits, else 0; `ends` gets the ends of its subterms.
@@ -31,10 +31,7 @@ fn read_rule(
         return 0;
     }
     let place = place_at(index, RULES_AT + f);
-    if place < 4 {
-        return 0;
-    }
-    let len = word_at(file, place - 4);
+    let len = length_at(file, place);
     if MAX_BODY < len {
         return 0;
     }

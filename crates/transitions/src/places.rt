@@ -1,15 +1,15 @@
 // The transitions by state and constructor: behind the goals the index has, from number 7,522 on, where the payload of each
 // lies in the file, 32 for each state; 0 where there is none.
+use index::enter::clear;
 use index::enter::store;
 use index::entries::place_at;
-use index::layout::INDEX;
 use index::layout::MAX_CONSTRUCTORS;
 use index::layout::MAX_STATES;
 use index::layout::MAX_TRANSITIONS;
 use index::layout::PLACES_AT;
 use index::layout::TRANSITIONS_AT;
 use records::fields::byte_at;
-ghost use Rattle.transitions.specs.places.RowPlaces.{IsPlaceIn, Emptied, FillsRows};
+ghost use Rattle.transitions.specs.places.RowPlaces.{IsPlaceIn, FillsRows};
 
 // Where the transition for a state and a constructor lies in the file; 0 where there is none.
 pub fn place_in(index: &[u16], q: usize, c: usize) -> usize
@@ -24,20 +24,6 @@ pub fn place_in(index: &[u16], q: usize, c: usize) -> usize
     place_at(index, PLACES_AT + (q * MAX_CONSTRUCTORS + c))
 }
 
-// Sets the place for each state and constructor to 0.
-fn empty_rows(index: &mut [u16])
-    ensures { λ _. ⌜ Emptied (now (index .entry)) (now (index .exit)) ⌝ }
-{
-    if index.len() < INDEX {
-        return;
-    }
-    let mut i: usize = 0;
-    while i < MAX_TRANSITIONS {
-        index[PLACES_AT + i] = 0;
-        i = i + 1;
-    }
-}
-
 // Enters where the n transitions of a file lie, the last one first, so that the first for a state and a constructor counts.
 pub fn fill_rows(file: &[u8], index: &mut [u16], n: usize)
     ensures { λ _. ⌜ FillsRows (now (file .entry)) (now (index .entry)) n (now (index .exit)) ⌝ }
@@ -45,7 +31,7 @@ pub fn fill_rows(file: &[u8], index: &mut [u16], n: usize)
     if MAX_TRANSITIONS < n {
         return;
     }
-    empty_rows(index);
+    clear(index, PLACES_AT, MAX_TRANSITIONS);
     let mut k = n;
     while 0 < k {
         k = k - 1;

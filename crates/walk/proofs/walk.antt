@@ -1,4 +1,3 @@
-pub mod Clearing
 pub mod Chains
 pub mod Known
 pub mod Lending

@@ -15,6 +15,7 @@ use index::layout::PATH_AT;
 use index::layout::RULE;
 use index::layout::RULES_AT;
 use index::layout::SORT;
+use index::layout::SORTS_AT;
 use index::layout::STATES;
 use index::layout::STATES_AT;
 use index::layout::TRANSITION;
@@ -33,13 +34,13 @@ use record_tests::type_record::test_type;
 use records::fields::byte_at;
 ghost use mathlib.Core.Path.{_≡_};
 ghost use mathlib.Core.List.{List};
-ghost use Prim.Native.Nat.{ℕ, _≤_};
+ghost use Prim.Native.Nat.{ℕ, _<_, _≤_};
 ghost use Rattle.casefile.specs.Records.{Record};
 ghost use Rattle.casefile.specs.Kinds.{Kind, number};
 ghost use Rattle.casefile.specs.Tables.{stateCount};
 ghost use Rattle.index.specs.entries.Index.{Indexed};
 ghost use Rattle.index.specs.entries.Tests.{Fitting};
-ghost use Rattle.walk.specs.kinds.Taking.{Taken};
+ghost use Rattle.walk.specs.kinds.Taking.{Adds, Taken};
 
 // How many states there are, by the n states records.
 fn state_count(file: &[u8], index: &[u16], n: usize) -> usize
@@ -49,6 +50,28 @@ fn state_count(file: &[u8], index: &[u16], n: usize) -> usize
         return 0;
     }
     byte_at(file, place_at(index, STATES_AT))
+}
+
+// Enters a record behind the n others of its kind where its code is 0: the index gets where its payload begins, n entries behind
+// those that the kind has from `base` on, and the counts one more of the kind. With another code nothing changes. Returns the code.
+fn add_entry(
+    index: &mut [u16],
+    counts: &mut [u16],
+    kind: usize,
+    base: usize,
+    n: usize,
+    code: usize,
+    start: usize,
+) -> usize
+    requires { ⌜ (base < 65536) × (n < 65536) ⌝ }
+    ensures { λ r. ⌜ Adds (now (index .entry)) (now (counts .entry)) kind base n code start (now (index .exit)) (now (counts .exit)) r ⌝ }
+{
+    if code != 0 {
+        return code;
+    }
+    store(index, base + n, start);
+    store(counts, kind, n + 1);
+    0
 }
 
 // A record of a kind, here a sort, with the payload p, which begins at start: its code, 0 or the number of the first of 4 to 7
@@ -65,12 +88,11 @@ fn take_sort(
 {
     let n = place_at(counts, SORT);
     let number = test_sort(file, index, lens, n, p);
-    if number != 0 {
-        return number;
+    let code = add_entry(index, counts, SORT, SORTS_AT, n, number, start);
+    if code != 0 {
+        return code;
     }
-    store(index, n, start);
     enter_sort(lens, n, p);
-    store(counts, SORT, n + 1);
     0
 }
 
@@ -80,12 +102,15 @@ fn take_constructor(index: &mut [u16], counts: &mut [u16], start: usize, p: &[u8
 {
     let n = place_at(counts, CONSTRUCTOR);
     let number = test_constructor(n, p);
-    if number != 0 {
-        return number;
-    }
-    store(index, CONSTRUCTORS_AT + n, start);
-    store(counts, CONSTRUCTOR, n + 1);
-    0
+    add_entry(
+        index,
+        counts,
+        CONSTRUCTOR,
+        CONSTRUCTORS_AT,
+        n,
+        number,
+        start,
+    )
 }
 
 // The same for a nonterminal.
@@ -94,12 +119,15 @@ fn take_nonterminal(index: &mut [u16], counts: &mut [u16], start: usize, p: &[u8
 {
     let n = place_at(counts, NONTERMINAL);
     let number = test_nonterminal(place_at(counts, SORT) + 1, n, p);
-    if number != 0 {
-        return number;
-    }
-    store(index, NONTERMINALS_AT + n, start);
-    store(counts, NONTERMINAL, n + 1);
-    0
+    add_entry(
+        index,
+        counts,
+        NONTERMINAL,
+        NONTERMINALS_AT,
+        n,
+        number,
+        start,
+    )
 }
 
 // The same for a rule.
@@ -117,12 +145,7 @@ fn take_rule(
     let constructors = place_at(counts, CONSTRUCTOR);
     let nonterminals = place_at(counts, NONTERMINAL);
     let number = test_rule(file, index, lens, n, constructors, nonterminals, p);
-    if number != 0 {
-        return number;
-    }
-    store(index, RULES_AT + n, start);
-    store(counts, RULE, n + 1);
-    0
+    add_entry(index, counts, RULE, RULES_AT, n, number, start)
 }
 
 // The same for the states.
@@ -131,12 +154,7 @@ fn take_states(index: &mut [u16], counts: &mut [u16], start: usize, p: &[u8]) ->
 {
     let n = place_at(counts, STATES);
     let number = test_states(n, p);
-    if number != 0 {
-        return number;
-    }
-    store(index, STATES_AT + n, start);
-    store(counts, STATES, n + 1);
-    0
+    add_entry(index, counts, STATES, STATES_AT, n, number, start)
 }
 
 // The same for a transition.
@@ -152,12 +170,7 @@ fn take_transition(
     let n = place_at(counts, TRANSITION);
     let states = state_count(file, index, place_at(counts, STATES));
     let number = test_transition(file, index, n, states, place_at(counts, CONSTRUCTOR), p);
-    if number != 0 {
-        return number;
-    }
-    store(index, TRANSITIONS_AT + n, start);
-    store(counts, TRANSITION, n + 1);
-    0
+    add_entry(index, counts, TRANSITION, TRANSITIONS_AT, n, number, start)
 }
 
 // The same for a type; its hash serves the test and the entry.
@@ -168,12 +181,11 @@ fn take_type(file: &[u8], index: &mut [u16], counts: &mut [u16], start: usize, p
     let states = state_count(file, index, place_at(counts, STATES));
     let h = hash_of(p);
     let number = test_type(file, index, n, states, h, p);
-    if number != 0 {
-        return number;
+    let code = add_entry(index, counts, TYPE, TYPES_AT, n, number, start);
+    if code != 0 {
+        return code;
     }
-    store(index, TYPES_AT + n, start);
     enter_type(index, n, h);
-    store(counts, TYPE, n + 1);
     0
 }
 
@@ -185,12 +197,7 @@ fn take_binding(file: &[u8], index: &mut [u16], counts: &mut [u16], start: usize
     let nonterminals = place_at(counts, NONTERMINAL);
     let types = place_at(counts, TYPE);
     let number = test_binding(file, index, n, nonterminals, types, p);
-    if number != 0 {
-        return number;
-    }
-    store(index, BINDINGS_AT + n, start);
-    store(counts, BINDING, n + 1);
-    0
+    add_entry(index, counts, BINDING, BINDINGS_AT, n, number, start)
 }
 
 // The same for a path.
@@ -199,12 +206,7 @@ fn take_path(index: &mut [u16], counts: &mut [u16], start: usize, p: &[u8]) -> u
 {
     let n = place_at(counts, PATH);
     let number = test_path(n, p);
-    if number != 0 {
-        return number;
-    }
-    store(index, PATH_AT + n, start);
-    store(counts, PATH, n + 1);
-    0
+    add_entry(index, counts, PATH, PATH_AT, n, number, start)
 }
 
 // The code of a record of a kind with the payload p, which begins at start: 0, or the number of the first of 3 to 7 that is
@@ -221,16 +223,18 @@ pub fn take(
     ensures { λ r. ⌜ Taken (now (file .entry)) (now (index .entry)) (now (lens .entry)) (now (counts .entry)) kind start (now (p .entry)) (now (index .exit)) (now (lens .exit)) (now (counts .exit)) r ⌝ }
 {
     match kind {
-        1 => take_sort(file, index, lens, counts, start, p),
-        2 => take_constructor(index, counts, start, p),
-        3 => take_nonterminal(index, counts, start, p),
-        4 => take_rule(file, index, lens, counts, start, p),
-        5 => take_states(index, counts, start, p),
-        6 => take_transition(file, index, counts, start, p),
-        7 => take_type(file, index, counts, start, p),
-        8 => take_binding(file, index, counts, start, p),
-        9 => take_path(index, counts, start, p),
-        // Kinds from 8000 (hexadecimal) on are unknown today, as those between are.
+        SORT => take_sort(file, index, lens, counts, start, p),
+        CONSTRUCTOR => take_constructor(index, counts, start, p),
+        NONTERMINAL => take_nonterminal(index, counts, start, p),
+        RULE => take_rule(file, index, lens, counts, start, p),
+        STATES => take_states(index, counts, start, p),
+        TRANSITION => take_transition(file, index, counts, start, p),
+        TYPE => take_type(file, index, counts, start, p),
+        BINDING => take_binding(file, index, counts, start, p),
+        PATH => take_path(index, counts, start, p),
+        // Kinds that no record has.
+        0 | 10..=0x7FFF => 3,
+        // Kinds from 8000 (hexadecimal) on, which are unknown too.
         0x8000..=0xFFFF => 3,
         _ => 3,
     }

@@ -1,14 +1,14 @@
 // The walk over a file: one pass over its records, which fills the index or finds the first refusal by 2 to 7.
 use crate::kinds::take;
+use index::enter::clear;
 use index::enter::store;
 use index::layout::HASHES;
 use index::layout::HASHES_AT;
-use index::layout::LINKS_AT;
+use index::layout::KINDS;
 use records::cursor::Read;
 use records::reader::Reader;
 ghost use mathlib.Core.Path.{_≡_};
-ghost use lib.ListN.{length, replicate};
-ghost use Rattle.walk.specs.walk.Walking.{Emptied, endOf, ended, TurnsTo, PassesTo, WalksTo};
+ghost use Rattle.walk.specs.walk.Walking.{endOf, ended, TurnsTo, PassesTo, WalksTo};
 
 // How a walk ends: with the first refusal by 2 to 7, or with every record read.
 pub enum Walked {
@@ -22,31 +22,6 @@ pub struct Turned {
     pub walked: Walked,
     pub next: usize,
     pub kind: usize,
-}
-
-// Sets every entry of a table to 0.
-fn clear(a: &mut [u16])
-    ensures { λ _. ⌜ now (a .exit) ≡ replicate (length (now (a .entry))) 0 ⌝ }
-{
-    let mut i: usize = 0;
-    while i < a.len() {
-        a[i] = 0;
-        i = i + 1;
-    }
-}
-
-// Empties the chains of the types: sets the head of each hash to 0.
-fn empty_chains(index: &mut [u16])
-    ensures { λ _. ⌜ Emptied (now (index .entry)) (now (index .exit)) ⌝ }
-{
-    if index.len() < LINKS_AT {
-        return;
-    }
-    let mut h: usize = 0;
-    while h < HASHES {
-        index[HASHES_AT + h] = 0;
-        h = h + 1;
-    }
 }
 
 // How the walk ends where no record is read.
@@ -137,9 +112,9 @@ fn pass(file: &[u8], index: &mut [u16], lens: &mut [u16], counts: &mut [u16]) ->
 pub fn walk(file: &[u8], index: &mut [u16], lens: &mut [u16], counts: &mut [u16]) -> Walked
     ensures { λ r. ⌜ WalksTo (now (file .entry)) (now (index .entry)) (now (lens .entry)) (now (counts .entry)) (now (index .exit)) (now (lens .exit)) (now (counts .exit)) r ⌝ }
 {
-    clear(counts);
+    clear(counts, 0, KINDS);
     store(lens, 0, 0);
-    empty_chains(index);
+    clear(index, HASHES_AT, HASHES);
     let t = pass(file, index, lens, counts);
     t.walked
 }

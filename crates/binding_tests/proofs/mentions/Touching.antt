@@ -17,6 +17,7 @@ use Rattle.casefile.specs.Tables.{cellsOf, headOf}
 use Rattle.casefile.proofs.Cells.{cells-length, cells-at}
 use Rattle.casefile.specs.Promises.{cellAt}
 use Rattle.binding_tests.specs.mentions.Touched.{flagged, names, touches}
+use Rattle.index.specs.layout.Layout.{shared}
 
 module _ (flags body : List ℕ) where
   -- the nodes from node i on decide
@@ -24,16 +25,16 @@ module _ (flags body : List ℕ) where
   Left i = any (names flags) (cellsOf body) ≡ any (names flags) (drop i (cellsOf body))
 
   -- every body has the flag of entry 64
-  pub touched-all : (getD flags 64 0 ≡ 0 → ⊥) → true ≡ touches flags body
+  pub touched-all : (getD flags shared 0 ≡ 0 → ⊥) → true ≡ touches flags body
   unfolding touches
-  touched-all h = simp (ne-eqb (getD flags 64 0) 0 h)
+  touched-all h = simp (ne-eqb (getD flags shared 0) 0 h)
 
-  by-nodes : getD flags 64 0 ≡ 0 → touches flags body ≡ any (names flags) (cellsOf body)
+  by-nodes : getD flags shared 0 ≡ 0 → touches flags body ≡ any (names flags) (cellsOf body)
   unfolding touches
-  by-nodes h = simp (eq-eqb (getD flags 64 0) 0 h)
+  by-nodes h = simp (eq-eqb (getD flags shared 0) 0 h)
 
   -- no node is left
-  pub touched-none : (i : ℕ) → getD flags 64 0 ≡ 0 → length body / 4 ≤ i → Left i → false ≡ touches flags body
+  pub touched-none : (i : ℕ) → getD flags shared 0 ≡ 0 → length body / 4 ≤ i → Left i → false ≡ touches flags body
   touched-none i z h l =
       let n = cells-length body in
       sym (by-nodes z ∙ l ∙ any-done (names flags) (drop i (cellsOf body)) (drop-of-length-le (cellsOf body) {i = i} (omega arith)))
@@ -51,19 +52,19 @@ module _ (flags body : List ℕ) where
     node-other k l = l ∙ any-miss (names flags) (drop i (cellsOf body)) (cellAt body i) (drop (i + 1) (cellsOf body)) next (simp (sym et, ne-eqb t 1 k))
 
     -- it is nonterminal g, whose flag is k
-    module _ (g k : ℕ) (e : t ≡ 1) (eg : g ≡ word body (i * 4 + 1)) (ek : k ≡ byte flags (g % 64)) where
-      flag-is : k ≡ getD flags (g % 64) 0
+    module _ (g k : ℕ) (e : t ≡ 1) (eg : g ≡ word body (i * 4 + 1)) (ek : k ≡ byte flags (g % shared)) where
+      flag-is : k ≡ getD flags (g % shared) 0
       unfolding field
       flag-is = omega arith
 
       pub node-free : k ≡ 0 → Left i → Left (i + 1)
       node-free z l =
-          let f : getD flags (g % 64) 0 ≡ 0 = sym flag-is ∙ z in
+          let f : getD flags (g % shared) 0 ≡ 0 = sym flag-is ∙ z in
           l ∙ any-miss (names flags) (drop i (cellsOf body)) (cellAt body i) (drop (i + 1) (cellsOf body)) next (simp (sym et, e, sym eg, f))
 
-      pub node-flagged : (k ≡ 0 → ⊥) → getD flags 64 0 ≡ 0 → Left i → true ≡ touches flags body
+      pub node-flagged : (k ≡ 0 → ⊥) → getD flags shared 0 ≡ 0 → Left i → true ≡ touches flags body
       node-flagged z y l =
-          let f : eqb (getD flags (g % 64) 0) 0 ≡ false = ne-eqb (getD flags (g % 64) 0) 0 (λ v. z (flag-is ∙ v)) in
+          let f : eqb (getD flags (g % shared) 0) 0 ≡ false = ne-eqb (getD flags (g % shared) 0) 0 (λ v. z (flag-is ∙ v)) in
           sym (by-nodes y ∙ l ∙ any-hit (names flags) (drop i (cellsOf body)) (cellAt body i) (drop (i + 1) (cellsOf body)) next (simp (sym et, e, sym eg, f)))
 
 head-is : (t k g : ℕ) → _≡_ {A = Head} (getD (con k ∷ nt k ∷ []) t (par k)) (nt g) → (t ≡ 1) × (k ≡ g)
@@ -76,15 +77,15 @@ no-flag x e = eqb-true x 0 (not-false (eqb x 0) e)
 
 -- a body that names no nonterminal with a flag
 pub untouched : (flags body : List ℕ) → touches flags body ≡ false
-    → (getD flags 64 0 ≡ 0) × ((i g : ℕ) → i < length body / 4 → headOf (cellAt body i) ≡ nt g → getD flags (g % 64) 0 ≡ 0)
+    → (getD flags shared 0 ≡ 0) × ((i g : ℕ) → i < length body / 4 → headOf (cellAt body i) ≡ nt g → getD flags (g % shared) 0 ≡ 0)
 unfolding touches headOf
 untouched flags body e =
-    let (a, b) = or-false (flagged flags 64) (any (names flags) (cellsOf body)) e in (
-      no-flag (getD flags 64 0) a,
+    let (a, b) = or-false (flagged flags shared) (any (names flags) (cellsOf body)) e in (
+      no-flag (getD flags shared 0) a,
       λ i g h is.
           let c = cellAt body i in
           let n = cells-length body in
           let miss : names flags c ≡ false = subst (λ x. names flags x ≡ false) (cells-at body i c h) (any-at (names flags) (cellsOf body) i c b (omega arith)) in
           let (t, k) = head-is (c .tag) (c .number) g is in
-          subst (λ x. getD flags (x % 64) 0 ≡ 0) k (no-flag (getD flags (c .number % 64) 0) (and-false (eqb (c .tag) 1) (flagged flags (c .number % 64)) miss (eq-eqb (c .tag) 1 t))),
+          subst (λ x. getD flags (x % shared) 0 ≡ 0) k (no-flag (getD flags (c .number % shared) 0) (and-false (eqb (c .tag) 1) (flagged flags (c .number % shared)) miss (eq-eqb (c .tag) 1 t))),
     )

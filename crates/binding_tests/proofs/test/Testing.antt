@@ -29,9 +29,10 @@ use Rattle.casefile.proofs.Payloads.{arity-small}
 use Rattle.casefile.proofs.TypeTable.{count-payloads}
 use Rattle.casefile.proofs.Cells.{cells-length, cells-at, cell-range}
 use Rattle.records.specs.cursor.Reading.{partOf}
+use Rattle.index.specs.layout.Layout.{maxStates, maxBindings, rulesAt, bindingsAt, mostNodesAt}
 use Rattle.index.specs.entries.Index.{Indexed}
 use Rattle.index.specs.lookup.Lookup.{entryOf}
-use Rattle.index.proofs.lookup.Found.{entry-none, entry-some, entry-there}
+use Rattle.index.proofs.lookup.Found.{entry-there}
 use Rattle.rules.specs.reading.RuleBodies.{ruleOf}
 use Rattle.goals.specs.goals.Goals.{Goal, Typed, typeOfBinding, IsOwn}
 use Rattle.goals.proofs.goals.Goals.{fewer, binding-there}
@@ -76,32 +77,15 @@ named-known {rs} ok f h =
     let b = head-nonterminal d g x (length sigs) z q r in
     omega arith)
 
--- no bytes are a part of any file
-part-empty : (file : List ℕ) (start : ℕ) → partOf file start 0 ≡ []
-unfolding partOf
-part-empty file start = go (leb (start + 0) (length file))
-  where
-    go : (b : Bool) → (if b then take 0 (drop start file) else []) ≡ []
-    go true = refl
-    go false = refl
-
--- the body of a rule by its place and its length
-pub entry-part : (file index : List ℕ) (i start len : ℕ) → start ≡ getD index i 0 → (4 ≤ start → len ≡ word file (start - 4)) × (start < 4 → len ≡ 0) → partOf file start len ≡ entryOf file index i
-entry-part file index i start len e (there, none-there) = go (decLe 4 start)
-  where
-    go : Dec (4 ≤ start) → partOf file start len ≡ entryOf file index i
-    go (yes h) = ap (partOf file start) (there h) ∙ sym (entry-some file index i start e h)
-    go (no h) = ap (partOf file start) (none-there (omega arith)) ∙ part-empty file start ∙ sym (entry-none file index i start e (omega arith))
-
 -- the nonterminal of a binding
 pub symbol-far : {file index : List ℕ} {b : ℕ} → 1023 < b → IsSymbol file index b 0
 symbol-far h = record { symbol = λ n rs ok ix few l. absurd (omega arith); small = omega arith }
 
-pub symbol-read : {file index : List ℕ} {b : ℕ} (place f : ℕ) → place ≡ getD index (2144 + b) 0 → f ≡ word file place → f < 65536 → IsSymbol file index b f
+pub symbol-read : {file index : List ℕ} {b : ℕ} (place f : ℕ) → place ≡ getD index (bindingsAt + b) 0 → f ≡ word file place → f < 65536 → IsSymbol file index b f
 symbol-read {file} {index} {b} place f ep ef small =
     record {
       symbol = λ n rs ok ix few l.
-          let z : place ≡ getD index (2144 + b) 0 + 0 = omega arith in
+          let z : place ≡ getD index (bindingsAt + b) 0 + 0 = omega arith in
           let c : length (payloads Kind.binding rs) ≡ n = sym (count-payloads Kind.binding rs) ∙ ix .counted in
           ef ∙ ap (word file) z ∙ ix .field-there b l 2 0 (let (four, s, k) = binding-there ok b (omega arith) in omega arith);
       small = small;
@@ -128,7 +112,7 @@ module _ (file index counts groups firsts ends : List ℕ) (kept memo : List ℕ
       }
 
   module _ (types constructors f own goal first : ℕ) (body here : List ℕ) (is-types : types ≡ getD counts 7 0) (is-constructors : constructors ≡ getD counts 2 0)
-      (is-f : IsSymbol file index b f) (is-own : IsOwn index b own) (near : b < 1024) (is-goal : IsFinal index types own goal) (is-body : body ≡ entryOf file index (352 + f))
+      (is-f : IsSymbol file index b f) (is-own : IsOwn index b own) (near : b < maxBindings) (is-goal : IsFinal index types own goal) (is-body : body ≡ entryOf file index (rulesAt + f))
       (is-first : first ≡ getD firsts f 0) (is-here : here ≡ drop first ends) where
     abbrev x : Body
     x = record { file = file; index = index; groups = groups; kept = kept; ends = here; body = body; test = record { types = types; constructors = constructors; own = own; stamp = stamp } }
@@ -206,9 +190,9 @@ module _ (file index counts groups firsts ends : List ℕ) (kept memo : List ℕ
     -- the memo holds nothing of this test, and has room for all nodes of the body
     nothing-known : (rs : List Record) (w : Tables rs) (l : b < count Kind.binding rs) → Under memo (entriesFor counts firsts) (stamp * 2) → Remembers x rs (τ rs w l) memo
     nothing-known rs w l u =
-        faithful-none (Right x rs (τ rs w l)) memo (types + 16) stamp (getD firsts 256 0)
+        faithful-none (Right x rs (τ rs w l)) memo (types + maxStates) stamp (getD firsts mostNodesAt 0)
         (λ i g v past t a. absurd (let inside = at-inside body i t a in let long = ap (λ z. length z / 4) (body-is rs w l) in let most = w .most-are f (rule-there rs w l) in omega arith))
-        (subst (λ n. Under memo (getD firsts 256 0 * (n + 16)) (stamp * 2)) (sym is-types) u)
+        (subst (λ n. Under memo (getD firsts mostNodesAt 0 * (n + maxStates)) (stamp * 2)) (sym is-types) u)
 
     pub binding-tested : (after : List ℕ) (r : Bool) → ChecksTerm x memo 0 goal after r → TestsBinding file index counts groups firsts ends kept memo stamp b after r
     binding-tested after r told =

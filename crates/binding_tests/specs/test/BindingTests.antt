@@ -11,6 +11,7 @@ use Rattle.casefile.specs.Records.{Record}
 use Rattle.casefile.specs.Promises.{Bytes, Passed}
 use Rattle.casefile.specs.Kinds.{Kind, payloads, count}
 use Rattle.casefile.specs.Tables.{planOf, automatonOf, bindingsOf}
+use Rattle.index.specs.layout.Layout.{maxStates, maxBindings, mostNodesAt, lastStamp}
 use Rattle.index.specs.entries.Index.{Indexed}
 use Rattle.index.specs.entries.Known.{Known}
 use Rattle.rules.specs.reading.RuleBodies.{ruleOf, firstNode}
@@ -35,13 +36,13 @@ pub record Ready (file index counts groups firsts ends : List ℕ) (rs : List Re
   pub groups-long : count Kind.nonterminal rs < length groups
   pub grouped : Grouped rs (count Kind.binding rs) groups
   pub firsts-are : (f : ℕ) → f < count Kind.rule rs → getD firsts f 0 ≡ firstNode rs f
-  pub most-are : (f : ℕ) → f < count Kind.rule rs → length (ruleOf rs f) / 4 ≤ getD firsts 256 0
+  pub most-are : (f : ℕ) → f < count Kind.rule rs → length (ruleOf rs f) / 4 ≤ getD firsts mostNodesAt 0
   pub ends-are : EndsAre rs ends
   pub rows-are : RowsFor file index rs
 
 -- how many entries of the memo a file uses: the nodes of its largest body, and for each the types and the states
 abbrev pub entriesFor : List ℕ → List ℕ → ℕ
-entriesFor counts firsts = getD firsts 256 0 * (getD counts 7 0 + 16)
+entriesFor counts firsts = getD firsts mostNodesAt 0 * (getD counts 7 0 + maxStates)
 
 -- the nonterminal of binding b
 abbrev pub symbolOf : List Record → ℕ → ℕ
@@ -49,11 +50,11 @@ symbolOf rs b = word (getD (payloads Kind.binding rs) b []) 0
 
 -- r is the nonterminal of binding b
 pub record IsSymbol (file index : List ℕ) (b r : ℕ) : Type 0 where
-  pub symbol : (n : ℕ) (rs : List Record) → Passed rs → Indexed file index Kind.binding n rs → n ≤ 1024 → b < n → r ≡ symbolOf rs b
+  pub symbol : (n : ℕ) (rs : List Record) → Passed rs → Indexed file index Kind.binding n rs → n ≤ maxBindings → b < n → r ≡ symbolOf rs b
   pub small : r < 65536
 
 -- r says whether binding b holds against the bindings that are kept; the memo is ready for a test with this number
 pub record TestsBinding (file index counts groups firsts ends : List ℕ) (kept memo : List ℕ) (stamp b : ℕ) (after : List ℕ) (r : Bool) : Type 0 where
-  pub answer : (rs : List Record) → Ready file index counts groups firsts ends rs → b < count Kind.binding rs → 0 < stamp → stamp ≤ 127 → Under memo (entriesFor counts firsts) (stamp * 2)
+  pub answer : (rs : List Record) → Ready file index counts groups firsts ends rs → b < count Kind.binding rs → 0 < stamp → stamp ≤ lastStamp → Under memo (entriesFor counts firsts) (stamp * 2)
       → r ≡ holdsExactly (automatonOf rs) (planOf rs) (chosen kept (bindingsOf rs)) (getD (bindingsOf rs) b noBinding)
-  pub under : (n : ℕ) → stamp ≤ 127 → Under memo n (stamp * 2) → Under after n (stamp * 2 + 2)
+  pub under : (n : ℕ) → stamp ≤ lastStamp → Under memo n (stamp * 2) → Under after n (stamp * 2 + 2)

@@ -14,6 +14,7 @@ use Rattle.closures.specs.closures.Promises.{IsClosureAt, weight, weight
 use Rattle.closures.proofs.closures.Trees.{count-append, nodes-append, flats-append, none-left, term-in, term-past, weights-flat}
 use Rattle.closures.proofs.closures.Nodes.{at-node, at-one, at-next, nonterminal-tag, constructor-tag, parameter-tag}
 use Rattle.closures.proofs.closures.Closures.{closure-up, closure-size, closure-from}
+use Rattle.index.specs.layout.Layout.{nodeUnits, placeUnits, blockUnits}
 
 -- the head of a node by its tag
 head-below : (tag number : ℕ) (h : Head) → headBy tag number ≡ h → tag < 2 → (xs : Terms) → weight xs h ≡ 1
@@ -39,12 +40,12 @@ module _ {file cells : List ℕ} {block count : ℕ} {xs : Terms} (frame : Frame
       subst (Closure file cells block v) (term-in xs i lone (node (par i) []ᵗ) (omega arith))
       (subst (λ w. Closure file cells block w (termAt xs i lone)) (sym e) (frame .closures i below))
 
-  pub parameter-size : v % 8192 ≡ weight xs (par i)
+  pub parameter-size : v % nodeUnits ≡ weight xs (par i)
   unfolding weight
   parameter-size = closure-size parameter-closure
 
 module _ {file cells : List ℕ} {at block count : ℕ} where
-  pub weigh-far : 131072 ≤ at → Weighs file cells at block count 1
+  pub weigh-far : placeUnits ≤ at → Weighs file cells at block count 1
   weigh-far h = record { small = omega arith; weighs = λ n xs here frame few. absurd (omega (arith, here .near)) }
 
   pub weigh-head : (tag : ℕ) → tag ≡ byte file at → tag < 2 → Weighs file cells at block count 1
@@ -60,7 +61,7 @@ module _ {file cells : List ℕ} {at block count : ℕ} where
               sym (ap (weight xs) p ∙ weight-past xs number (let c = frame .counted in omega arith));
         }
 
-    pub weigh-parameter : number < count → (v : ℕ) → IsClosureAt cells block count number v → Weighs file cells at block count (v % 8192)
+    pub weigh-parameter : number < count → (v : ℕ) → IsClosureAt cells block count number v → Weighs file cells at block count (v % nodeUnits)
     weigh-parameter k v is =
         record {
           small = omega arith;
@@ -81,7 +82,7 @@ pub record Left (file : List ℕ) (at : ℕ) (b : Term) (xs : Terms) (next need 
 pub record Measuring (file cells : List ℕ) (at block count next need sum : ℕ) : Type 0 where
   pub needs : need ≤ 64 * next + 1
   pub sums : sum ≤ 2048 * next
-  pub left : (b : Term) (xs : Terms) → NodesAt file at (flat b) → Frame file cells block count xs → block < 1048576 → Left file at b xs next need sum
+  pub left : (b : Term) (xs : Terms) → NodesAt file at (flat b) → Frame file cells block count xs → block < blockUnits → Left file at b xs next need sum
 
 weights-one : (xs : Terms) (b : Term) → weights xs (flats (b ∷ᵗ []ᵗ)) ≡ nodes (put xs b)
 unfolding flats
@@ -95,7 +96,7 @@ weights-none : (xs ts : Terms) → ts ≡ []ᵗ → (nodesAll ts ≡ 0) × (weig
 unfolding nodesAll flats weights
 weights-none xs ts e = (ap nodesAll e, ap (λ (us : Terms). weights xs (flats us)) e)
 
-pub nodes-near : (file : List ℕ) (p : ℕ) (ts : Terms) → 0 < countᵗ ts → NodesAt file p (flats ts) → p < 131072
+pub nodes-near : (file : List ℕ) (p : ℕ) (ts : Terms) → 0 < countᵗ ts → NodesAt file p (flats ts) → p < placeUnits
 unfolding countᵗ
 nodes-near file p []ᵗ k w = absurd (omega arith)
 nodes-near file p (node x us ∷ᵗ ts) k w = let (a, b) = at-next file p x us ts w in a .near
@@ -111,7 +112,7 @@ measure-start file cells at block count =
     }
 
 -- one node is passed: the terms that are left then
-module _ {file cells : List ℕ} {next block count : ℕ} {xs : Terms} (frame : Frame file cells block count xs) (few : block < 1048576) (v arguments : ℕ) (weighs : Weighs file cells next block count v) (ea : arguments ≡ byte file (next + 3)) where
+module _ {file cells : List ℕ} {next block count : ℕ} {xs : Terms} (frame : Frame file cells block count xs) (few : block < blockUnits) (v arguments : ℕ) (weighs : Weighs file cells next block count v) (ea : arguments ≡ byte file (next + 3)) where
   pass : (ts : Terms) → NodesAt file next (flats ts) → 0 < countᵗ ts
       → (us : Terms) × NodesAt file (next + 4) (flats us) × (suc (countᵗ us) ≡ countᵗ ts + arguments) × (suc (nodesAll us) ≡ nodesAll ts) × (v + weights xs (flats us) ≡ weights xs (flats ts))
   unfolding countᵗ nodes
@@ -135,7 +136,7 @@ module _ {file cells : List ℕ} {at block count next need sum : ℕ} (go : Meas
             (omega (arith, w .behind), omega (arith, w .size));
       }
 
-  pub measure-far : 131072 ≤ next → 0 < need → Measures file cells at block count (record { next = next; nodes = sum })
+  pub measure-far : placeUnits ≤ next → 0 < need → Measures file cells at block count (record { next = next; nodes = sum })
   measure-far h p =
       record {
         measures = λ b xs here frame few.
@@ -164,7 +165,7 @@ module _ {file cells : List ℕ} {at block count next need sum : ℕ} (go : Meas
 
 -- a node alone
 module _ {file cells : List ℕ} {at block count : ℕ} where
-  pub alone-far : 131072 ≤ at → Measures file cells at block count (record { next = at; nodes = 0 })
+  pub alone-far : placeUnits ≤ at → Measures file cells at block count (record { next = at; nodes = 0 })
   alone-far h = measure-far (measure-start file cells at block count) h (omega arith)
 
   pub alone-done : (v arguments : ℕ) → Weighs file cells at block count v → arguments ≡ byte file (at + 3) → arguments ≡ 0 → Measures file cells at block count (record { next = at + 4; nodes = v })
@@ -184,7 +185,7 @@ unfolding put
 put-alone number h ts p n xs = ap₂ (λ (y : Head) (us : Terms). put xs (node y us)) p n ∙ applied-none (termAt xs number (node (par number) []ᵗ))
 
 -- the closure of a parameter alone
-close-alone : {file cells : List ℕ} {block count : ℕ} (number r : ℕ) → number < count → IsClosureAt cells block count number r → (b : Term) (xs : Terms) → ((h : Head) (ts : Terms) → b ≡ node h ts → (h ≡ par number) × (ts ≡ []ᵗ)) → Frame file cells block count xs → block < 1048576
+close-alone : {file cells : List ℕ} {block count : ℕ} (number r : ℕ) → number < count → IsClosureAt cells block count number r → (b : Term) (xs : Terms) → ((h : Head) (ts : Terms) → b ≡ node h ts → (h ≡ par number) × (ts ≡ []ᵗ)) → Frame file cells block count xs → block < blockUnits
     → Closure file cells block r (put xs b)
 close-alone {file} {cells} {block} number r k is (node h ts) xs parts frame few =
     let (p, n) = parts h ts refl in
@@ -192,7 +193,7 @@ close-alone {file} {cells} {block} number r k is (node h ts) xs parts frame few 
 
 -- the closure of a term
 module _ {file cells : List ℕ} {at block count size : ℕ} where
-  pub close-packed : {r : ℕ} → Packs at block count size r → at < 131072 → Closes file cells at block count size r
+  pub close-packed : {r : ℕ} → Packs at block count size r → at < placeUnits → Closes file cells at block count size r
   close-packed {r} p h =
       record {
         closes = λ top b xs here frame below small full fits.
@@ -200,7 +201,7 @@ module _ {file cells : List ℕ} {at block count size : ℕ} where
             closure-from r block count at size (p .block-in (omega arith) (omega arith)) (p .count-in (omega arith)) (p .place-in h) (p .size-in fits) b xs here frame below full;
       }
 
-  pub close-far : {r : ℕ} → 131072 ≤ at → Closes file cells at block count size r
+  pub close-far : {r : ℕ} → placeUnits ≤ at → Closes file cells at block count size r
   close-far {r} h =
       record { closes = λ top b xs here frame below small full fits. let f = nodes-near file at (b ∷ᵗ []ᵗ) (some-term b) (at-one file at b here) in absurd (omega arith) }
 

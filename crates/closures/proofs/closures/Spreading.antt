@@ -17,6 +17,7 @@ use Rattle.closures.proofs.closures.Trees.{drop-next, nodes-at, count-p
 use Rattle.closures.proofs.closures.Nodes.{at-terms}
 use Rattle.closures.proofs.closures.Closures.{closure-kept, frame-kept}
 use Rattle.closures.proofs.closures.Capping.{capped-same, capped-as}
+use Rattle.index.specs.layout.Layout.{nodeUnits}
 
 -- the first i terms have their closures and their nodes are summed, the others stand from a place on
 pub record Halfway (file cells : List ℕ) (low top : ℕ) (ts xs : Terms) (i next total : ℕ) : Type 0 where
@@ -24,7 +25,7 @@ pub record Halfway (file cells : List ℕ) (low top : ℕ) (ts xs : Terms) (i ne
   pub sum : ℕ
   pub summed : Capped total sum
   pub whole : sum + nodesAll (puts xs (dropᵗ i ts)) ≡ nodesAll (puts xs ts)
-  pub done : nodesAll (puts xs ts) < 8192 → (j : ℕ) → j < i → Closure file cells top (getD cells (low + j) 0) (termAt (puts xs ts) j lone)
+  pub done : nodesAll (puts xs ts) < nodeUnits → (j : ℕ) → j < i → Closure file cells top (getD cells (low + j) 0) (termAt (puts xs ts) j lone)
 
 -- while closures are written
 pub record Spreading (file cells₀ : List ℕ) (at m block count low : ℕ) (cells : List ℕ) (i next total : ℕ) : Type 0 where
@@ -84,13 +85,13 @@ module _ {file cells₀ : List ℕ} {at m block count low : ℕ} {cells : List �
       measured-here : (measured .next ≡ next + 4 * nodes (termAt ts i lone)) × (measured .nodes ≡ nodes (put xs (termAt ts i lone)))
       measured-here = measures .measures (termAt ts i lone) xs (at-terms file next (termAt ts i lone) (dropᵗ (suc i) ts) _ refl term-here .0) frame-here (omega (arith, p .behind, p .few))
 
-      fits-here : nodesAll (puts xs ts) < 8192 → measured .nodes < 8192
+      fits-here : nodesAll (puts xs ts) < nodeUnits → measured .nodes < nodeUnits
       fits-here f =
           let n = nodes-at (puts xs ts) i lone (omega (arith, count-puts xs ts, p .counted)) in
           let e = ap nodes (puts-at xs ts i lone lone (omega (arith, p .counted))) in
           omega (arith, measured-here .1)
 
-      closed-here : nodesAll (puts xs ts) < 8192 → Closure file cells top v (termAt (puts xs ts) i lone)
+      closed-here : nodesAll (puts xs ts) < nodeUnits → Closure file cells top v (termAt (puts xs ts) i lone)
       closed-here f =
           subst (Closure file cells top v) (sym (puts-at xs ts i lone lone (omega (arith, p .counted))))
           (closes .closes top (termAt ts i lone) xs (at-terms file next (termAt ts i lone) (dropᵗ (suc i) ts) _ refl term-here .0) frame-here (p .behind) (p .few) (measured-here .1) (fits-here f))
@@ -99,7 +100,7 @@ module _ {file cells₀ : List ℕ} {at m block count low : ℕ} {cells : List �
       closed-then : {u : ℕ} {t : Term} → Closure file cells top u t → Closure file (set cells (low + i) v) top u t
       closed-then c = closure-kept top (λ s k. same-other s (λ e. omega (arith, p .high))) (let l : top ≤ top = omega arith in l) c
 
-      done-next : nodesAll (puts xs ts) < 8192 → (j : ℕ) → j < suc i → Closure file (set cells (low + i) v) top (getD (set cells (low + i) v) (low + j) 0) (termAt (puts xs ts) j lone)
+      done-next : nodesAll (puts xs ts) < nodeUnits → (j : ℕ) → j < suc i → Closure file (set cells (low + i) v) top (getD (set cells (low + i) v) (low + j) 0) (termAt (puts xs ts) j lone)
       done-next f j k =
           ⊎-elim
           (λ (same : j ≡ i).

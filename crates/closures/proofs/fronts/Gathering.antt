@@ -22,6 +22,7 @@ use Rattle.closures.proofs.closures.Capping.{capped-same, capped-as}
 use Rattle.closures.proofs.closures.Measuring.{head-parameter, parameter-closure, applied-none, put-alone, nodes-near, some-term}
 use Rattle.closures.specs.fronts.Fronts.{IsHead, argumentsᵗ, Gatherable, IsFront, Gathers}
 use Rattle.closures.specs.declared.fronts.Front.{Front}
+use Rattle.index.specs.layout.Layout.{nodeUnits, placeUnits, countUnits, blockUnits, countUnit, blockUnit}
 
 -- a term with more arguments
 arguments-applied : (t : Term) (us : Terms) → countᵗ (argumentsᵗ (applied t us)) ≡ countᵗ (argumentsᵗ t) + countᵗ us
@@ -65,9 +66,9 @@ itself-past h number e xs k = put-alone number h []ᵗ e refl xs ∙ term-past x
 pub record Holds (file cells : List ℕ) (top : ℕ) (t : Term) (free total : ℕ) (ts : Terms) : Type 0 where
   pub many : countᵗ ts + free ≡ 8
   pub summed : Capped total (1 + nodesAll ts)
-  pub closures : nodes t < 8192 → (j : ℕ) → j + free < 8 → Closure file cells top (getD cells (top * 8 + free + j) 0) (termAt ts j lone)
+  pub closures : nodes t < nodeUnits → (j : ℕ) → j + free < 8 → Closure file cells top (getD cells (top * 8 + free + j) 0) (termAt ts j lone)
 
-holds-frame : {file cells : List ℕ} {top : ℕ} {t : Term} {free total : ℕ} {ts : Terms} (count : ℕ) → count ≡ 8 - free → Holds file cells top t free total ts → nodes t < 8192 → Frame file cells top count ts
+holds-frame : {file cells : List ℕ} {top : ℕ} {t : Term} {free total : ℕ} {ts : Terms} (count : ℕ) → count ≡ 8 - free → Holds file cells top t free total ts → nodes t < nodeUnits → Frame file cells top count ts
 holds-frame {file} {cells} {top} {t} {free} {total} {ts} count e w f =
     record {
       counted = omega (arith, w .many);
@@ -80,7 +81,7 @@ holds-frame {file} {cells} {top} {t} {free} {total} {ts} count e w f =
 -- others before them
 holds-more : {file cells cells′ : List ℕ} {top : ℕ} {t : Term} {free free′ m total own total′ : ℕ} (us ts : Terms) → countᵗ us ≡ m → free ≡ free′ + m → Holds file cells top t free total ts → Capped own (nodesAll us) → Adds total own total′
     → ((s : ℕ) → s < top * 8 + free′ → getD cells′ s 0 ≡ getD cells s 0) → ((s : ℕ) → top * 8 + free′ + m ≤ s → getD cells′ s 0 ≡ getD cells s 0)
-    → (nodes t < 8192 → (j : ℕ) → j < m → Closure file cells′ top (getD cells′ (top * 8 + free′ + j) 0) (termAt us j lone)) → Holds file cells′ top t free′ total′ (us ++ᵗ ts)
+    → (nodes t < nodeUnits → (j : ℕ) → j < m → Closure file cells′ top (getD cells′ (top * 8 + free′ + j) 0) (termAt us j lone)) → Holds file cells′ top t free′ total′ (us ++ᵗ ts)
 holds-more {file} {cells} {cells′} {top} {t} {free} {free′} {m} {total} {own} {total′} us ts eu ef w sized adds below above new =
     record {
       many = omega (arith, w .many, count-append us ts);
@@ -88,10 +89,10 @@ holds-more {file} {cells} {cells′} {top} {t} {free} {free′} {m} {total} {own
       closures = λ f j h. ⊎-elim (λ (l : j < m). first f j l) (λ (l : (k : ℕ) × (j ≡ countᵗ us + k)). second f j h (l .0) (l .1)) (split j);
     }
   where
-    first : nodes t < 8192 → (j : ℕ) → j < m → Closure file cells′ top (getD cells′ (top * 8 + free′ + j) 0) (termAt (us ++ᵗ ts) j lone)
+    first : nodes t < nodeUnits → (j : ℕ) → j < m → Closure file cells′ top (getD cells′ (top * 8 + free′ + j) 0) (termAt (us ++ᵗ ts) j lone)
     first f j l = subst (Closure file cells′ top (getD cells′ (top * 8 + free′ + j) 0)) (sym (term-left us ts j lone (omega arith))) (new f j l)
 
-    second : nodes t < 8192 → (j : ℕ) → j + free′ < 8 → (k : ℕ) → j ≡ countᵗ us + k → Closure file cells′ top (getD cells′ (top * 8 + free′ + j) 0) (termAt (us ++ᵗ ts) j lone)
+    second : nodes t < nodeUnits → (j : ℕ) → j + free′ < 8 → (k : ℕ) → j ≡ countᵗ us + k → Closure file cells′ top (getD cells′ (top * 8 + free′ + j) 0) (termAt (us ++ᵗ ts) j lone)
     second f j h k e =
         let c : Closure file cells′ top (getD cells (top * 8 + free + k) 0) (termAt ts k lone) = closure-kept top (λ s b. below s (omega arith)) (let l : top ≤ top = omega arith in l) (w .closures f k (omega arith)) in
         let p : top * 8 + free + k ≡ top * 8 + free′ + j = omega arith in
@@ -143,7 +144,7 @@ gather-never : {file cells cells′ : List ℕ} {at block count top : ℕ} {r : 
 gather-never long kept none = record { long = long; kept = kept; total = λ b xs p. absurd (none b xs p); gathers = λ b xs p. absurd (none b xs p) }
 
 -- too many blocks
-pub gather-high : {file cells : List ℕ} {at block count top : ℕ} {r : Front} → 1048576 ≤ top → Gathers file cells cells at block count top r
+pub gather-high : {file cells : List ℕ} {at block count top : ℕ} {r : Front} → blockUnits ≤ top → Gathers file cells cells at block count top r
 gather-high h = gather-never refl (λ s k. refl) (λ b xs p. omega (arith, p .few))
 
 -- a node with its arguments apart
@@ -170,7 +171,7 @@ open-here w = opened (w .body) (w .params) (w .behind) (w .here) (w .frame) (w .
 
 module _ {file cells₀ : List ℕ} {at block count top : ℕ} {cells : List ℕ} {free place under known total : ℕ} (w : Gathering file cells₀ at block count top cells free place under known total) where
   -- past the last place
-  pub gather-far : {r : Front} → 131072 ≤ place → Gathers file cells₀ cells at block count top r
+  pub gather-far : {r : Front} → placeUnits ≤ place → Gathers file cells₀ cells at block count top r
   gather-far h =
       gather-never (w .long) (w .kept)
       (λ b xs p.
@@ -206,7 +207,7 @@ module _ {file cells₀ : List ℕ} {at block count top : ℕ} {cells : List ℕ
         own : Terms
         own = puts (now .params) (now .own)
 
-        own-fits : nodes (put xs b) < 8192 → nodesAll own < 8192
+        own-fits : nodes (put xs b) < nodeUnits → nodesAll own < nodeUnits
         unfolding own
         own-fits f =
             let n = ap nodes (now .is) in
@@ -247,7 +248,7 @@ module _ {file cells₀ : List ℕ} {at block count top : ℕ} {cells : List ℕ
         head-now = now .node-at .head-is
 
         module _ (r : Front) (is : IsHead file place (8 - free′) total′ r) where
-          near : place < 131072
+          near : place < placeUnits
           near = now .node-at .near
 
           tag-of : r .tag ≡ byte file place
@@ -266,7 +267,7 @@ module _ {file cells₀ : List ℕ} {at block count top : ℕ} {cells : List ℕ
                 subst (λ v. Capped v (nodes (put xs b))) (sym (is .nodes-is))
                 (capped-as (1 + nodesAll (own ++ᵗ now .behind)) (nodes (put xs b)) (let n = ap nodes itself ∙ nodes-node (now .head) (own ++ᵗ now .behind) in omega arith) (holds-now .summed))
 
-            front-itself : nodes (put xs b) < 8192 → IsFront file cells′ top r (put xs b)
+            front-itself : nodes (put xs b) < nodeUnits → IsFront file cells′ top r (put xs b)
             front-itself f =
                 record { head = now .head; arguments = own ++ᵗ now .behind; is = itself; head-is = ap₂ headBy tag-of number-of ∙ head-now; frame = holds-frame (r .count) (is .count-is) holds-now f }
 
@@ -291,14 +292,14 @@ module _ {file cells₀ : List ℕ} {at block count top : ℕ} {cells : List ℕ
           gather-free l = gather-itself (λ b xs p. itself-past (now b xs p .head) (r .number) (head-par b xs p r is k) (now b xs p .params) (let c = frame-now b xs p .counted in omega arith))
 
           module _ (l : r .number < known) (v : ℕ) (cell : IsClosureAt cells′ under known (r .number) v) where
-            pub gather-rising : under ≤ v / 17179869184 → Gathers file cells₀ cells′ at block count top r
+            pub gather-rising : under ≤ v / blockUnit → Gathers file cells₀ cells′ at block count top r
             gather-rising z =
                 gather-never (spreads .long ∙ w .long) kept-then
                 (λ b xs p.
                 let (b′, xs′, falls, here, frame, e) = closure-parts (closure-now b xs p r is k l v cell) in
                 omega arith)
 
-            pub gather-next : (place′ known′ under′ : ℕ) → place′ ≡ v / 8192 % 131072 → known′ ≡ v / 1073741824 % 16 → under′ ≡ v / 17179869184
+            pub gather-next : (place′ known′ under′ : ℕ) → place′ ≡ v / nodeUnits % placeUnits → known′ ≡ v / countUnit % countUnits → under′ ≡ v / blockUnit
                 → Gathering file cells₀ at block count top cells′ free′ place′ under′ known′ total′
             gather-next place′ known′ under′ e₁ e₂ e₃ =
                 record {

@@ -7,19 +7,20 @@ use lib.ListN.{getD}
 use Rattle.scheme.specs.Terms.{par, Term, node, Terms, []ᵗ, countᵗ, termAt, nodes, put}
 use Rattle.scheme.specs.Prefix.{flat}
 use Rattle.closures.specs.closures.Nodes.{NodesAt}
+use Rattle.index.specs.layout.Layout.{nodeUnits, placeUnits, countUnits, countUnit, blockUnit}
 
 -- the parts of a closure: the block and the count of its parameters' closures, its node's place, its nodes as a tree
 abbrev pub blockIn : ℕ → ℕ
-blockIn v = v / 17179869184
+blockIn v = v / blockUnit
 
 abbrev pub countIn : ℕ → ℕ
-countIn v = v / 1073741824 % 16
+countIn v = v / countUnit % countUnits
 
 abbrev pub placeIn : ℕ → ℕ
-placeIn v = v / 8192 % 131072
+placeIn v = v / nodeUnits % placeUnits
 
 abbrev pub sizeIn : ℕ → ℕ
-sizeIn v = v % 8192
+sizeIn v = v % nodeUnits
 
 -- the cell of the first of so many closures in a block of eight cells: they are the last of it
 abbrev pub slotOf : ℕ → ℕ → ℕ

@@ -6,6 +6,7 @@ use Rattle.scheme.specs.Terms.{Head}
 use Rattle.scheme.specs.Prefix.{Node}
 use Rattle.casefile.specs.Fields.{byte, word}
 use Rattle.casefile.specs.Tables.{headOf}
+use Rattle.index.specs.layout.Layout.{placeUnits}
 
 -- the head with a tag and a number
 abbrev pub headBy : ℕ → ℕ → Head
@@ -13,7 +14,7 @@ headBy tag number = headOf (record { tag = tag; number = number; count = 0 })
 
 -- a node stands at a place of a file, with a known tag
 pub record NodeAt (file : List ℕ) (p : ℕ) (n : Node) : Type 0 where
-  pub near : p < 131072
+  pub near : p < placeUnits
   pub tag : byte file p ≤ 2
   pub head-is : headBy (byte file p) (word file (p + 1)) ≡ n .head
   pub count-is : byte file (p + 3) ≡ n .count

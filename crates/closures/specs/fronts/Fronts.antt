@@ -10,11 +10,12 @@ use Rattle.closures.specs.closures.Nodes.{headBy, NodesAt}
 use Rattle.closures.specs.closures.Closures.{Frame}
 use Rattle.closures.specs.closures.Promises.{Capped}
 use Rattle.closures.specs.declared.fronts.Front.{Front}
+use Rattle.index.specs.layout.Layout.{nodeUnits, placeUnits, blockUnits}
 
 -- r is the head at a place of a file, with a count and a total
 pub record IsHead (file : List ℕ) (at count total : ℕ) (r : Front) : Type 0 where
-  pub tag-is : at < 131072 → r .tag ≡ byte file at
-  pub number-is : at < 131072 → r .number ≡ word file (at + 1)
+  pub tag-is : at < placeUnits → r .tag ≡ byte file at
+  pub number-is : at < placeUnits → r .number ≡ word file (at + 1)
   pub count-is : r .count ≡ count
   pub nodes-is : r .nodes ≡ total
 
@@ -27,7 +28,7 @@ pub record Gatherable (file cells : List ℕ) (at block count top : ℕ) (b : Te
   pub here : NodesAt file at (flat b)
   pub frame : Frame file cells block count xs
   pub behind : block < top
-  pub few : top < 1048576
+  pub few : top < blockUnits
   pub room : top * 8 + 8 ≤ length cells
   pub narrow : countᵗ (argumentsᵗ (put xs b)) ≤ 8
 
@@ -45,4 +46,4 @@ pub record Gathers (file cells cells′ : List ℕ) (at block count top : ℕ) (
   pub long : length cells′ ≡ length cells
   pub kept : (s : ℕ) → s < top * 8 → getD cells′ s 0 ≡ getD cells s 0
   pub total : (b : Term) (xs : Terms) → Gatherable file cells at block count top b xs → Capped (r .nodes) (nodes (put xs b))
-  pub gathers : (b : Term) (xs : Terms) → Gatherable file cells at block count top b xs → nodes (put xs b) < 8192 → IsFront file cells′ top r (put xs b)
+  pub gathers : (b : Term) (xs : Terms) → Gatherable file cells at block count top b xs → nodes (put xs b) < nodeUnits → IsFront file cells′ top r (put xs b)

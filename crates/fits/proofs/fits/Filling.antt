@@ -11,20 +11,21 @@ use Rattle.casefile.specs.Records.{Record}
 use Rattle.fits.specs.flags.Fitted.{flag, fitsAt, Fitted}
 use Rattle.fits.specs.fits.Filled.{Wrote, FillsState}
 use Rattle.fits.proofs.fits.Rows.{state-tree, state-row}
+use Rattle.index.specs.layout.Layout.{maxSorts, fitsSize}
 
 -- flags of type t that are written one before another
 module _ (sorts t : ℕ) (x : ℕ → ℕ) (old : List ℕ) where
   -- those behind sort s are there, and none before them changed
   pub record WroteTo (fit : List ℕ) (s : ℕ) : Type 0 where
-    pub long : length fit ≡ 66560
+    pub long : length fit ≡ fitsSize
     pub flags : (k : ℕ) → s < k → k ≤ sorts → flag fit t k ≡ x k
     pub before : (i : ℕ) → i ≤ t * 65 + s → getD fit i 0 ≡ getD old i 0
 
-  pub wrote-none : length old ≡ 66560 → WroteTo old sorts
+  pub wrote-none : length old ≡ fitsSize → WroteTo old sorts
   wrote-none long = record { long = long; flags = λ k l m. absurd (omega arith); before = λ i l. refl }
 
   module _ (fit : List ℕ) (s : ℕ) (w : WroteTo fit s) where
-    pub wrote-more : (v : ℕ) → 0 < s → t * 65 + s < 66560 → v ≡ x s → WroteTo (set fit (t * 65 + s) v) (s - 1)
+    pub wrote-more : (v : ℕ) → 0 < s → t * 65 + s < fitsSize → v ≡ x s → WroteTo (set fit (t * 65 + s) v) (s - 1)
     wrote-more v pos l e = record {
       long = length-set fit (t * 65 + s) v ∙ w .long;
       flags = λ k h m. by k (decLt s k) h m;
@@ -67,7 +68,7 @@ module _ (fit : List ℕ) (t sorts : ℕ) (rs : List Record) where
           ap (λ i. getD fit i 0) here ∙ tree ∙ ap₂ (λ v j. bit (fitsAt rs v j)) same none
 
 -- the row of a state
-pub state-all : (sorts t : ℕ) (old fit : List ℕ) (s : ℕ) → t < 1024 → sorts ≤ 64 → WroteTo sorts t (λ _. 0) old fit s → s ≤ 0 → FillsState sorts t old (set fit (t * 65) 1)
+pub state-all : (sorts t : ℕ) (old fit : List ℕ) (s : ℕ) → t < 1024 → sorts ≤ maxSorts → WroteTo sorts t (λ _. 0) old fit s → s ≤ 0 → FillsState sorts t old (set fit (t * 65) 1)
 state-all sorts t old fit s ht few w hs file index place len there one types rs li h rows =
     fitted-more (set fit (t * 65) 1) t sorts rs
     (λ u k lu lk. getD-set-other fit (t * 65) (u * 65 + k) 1 0 (λ e. omega arith) ∙ w .before (u * 65 + k) (omega arith) ∙ rows u k lu lk)

@@ -15,6 +15,7 @@ use Rattle.casefile.proofs.Steps.{words-step, words-done}
 use Rattle.fits.specs.flags.Fitted.{flag}
 use Rattle.fits.specs.fits.Filled.{PayloadThere, saysFits, restFits, met, MembersFit, MeetsMembers}
 use Rattle.fits.proofs.fits.Filling.{WroteTo, wrote-none, wrote-more, wrote-skip, wrote-all, flag-before}
+use Rattle.index.specs.layout.Layout.{fitsSize}
 
 kept-no : (f : ℕ) → f ≡ 0 → isKept f ≡ false
 unfolding isKept
@@ -74,10 +75,10 @@ module _ (file : List ℕ) (place len s t : ℕ) (fit : List ℕ) where
 module _ (file froms : List ℕ) (place len sorts t : ℕ) (old : List ℕ) where
   -- those behind sort s are met
   pub record MetTo (fit : List ℕ) (s : ℕ) : Type 0 where
-    pub long : length fit ≡ 66560
+    pub long : length fit ≡ fitsSize
     pub wrote : (p : List ℕ) → PayloadThere file place len p → WroteTo sorts t (met old t froms p) old fit s
 
-  pub met-none : length old ≡ 66560 → MetTo old sorts
+  pub met-none : length old ≡ fitsSize → MetTo old sorts
   met-none long = record { long = long; wrote = λ p there. wrote-none sorts t (met old t froms p) old long }
 
   module _ (fit : List ℕ) (s : ℕ) (at : MetTo fit s) where
@@ -92,7 +93,7 @@ module _ (file froms : List ℕ) (place len sorts t : ℕ) (old : List ℕ) wher
           wrote-skip sorts t (met old t froms p) old fit s w (none ∙ sym (ap (λ b. bit (b && restFits old t (getD froms s 0) p)) unset));
     })
 
-    module _ (fit′ : List ℕ) (v k : ℕ) (e : fit′ ≡ set fit (t * 65 + s) v) (pos : 0 < s) (l : t * 65 + s < 66560) where
+    module _ (fit′ : List ℕ) (v k : ℕ) (e : fit′ ≡ set fit (t * 65 + s) v) (pos : 0 < s) (l : t * 65 + s < fitsSize) where
       -- another is what the members say
       pub met-more : (flag fit t s ≡ 0 → ⊥) → getD froms s 0 ≤ 64 → k ≡ getD froms s 0 → MembersFit file place len k t fit v → MetTo fit′ (s - 1)
       met-more some small ek m = subst (λ table. MetTo table (s - 1)) (sym e) (record {

@@ -22,12 +22,13 @@ use Rattle.casefile.proofs.Steps.{words-step, words-done}
 use Rattle.casefile.proofs.TypeNumbers.{Shape, a-state, an-arrow}
 use Rattle.casefile.proofs.TypeTable.{count-payloads, type-shape, type-made}
 use Rattle.casefile.proofs.SortTable.{sort-zero, sort-below, sort-made}
+use Rattle.index.specs.layout.Layout.{typesAt}
 use Rattle.index.specs.entries.Tests.{IsPlace}
 use Rattle.fits.specs.flags.Fitted.{fitsAt}
 use Rattle.fits.specs.fits.Filled.{TypesAndSorts, TypeThere}
 
 -- where a type's payload lies, as it was read
-pub type-read : (file index : List ℕ) (t place len : ℕ) → IsPlace index (1120 + t) place → IsField 2 file (place - 4) len → TypeThere file index t place len
+pub type-read : (file index : List ℕ) (t place len : ℕ) → IsPlace index (typesAt + t) place → IsField 2 file (place - 4) len → TypeThere file index t place len
 type-read file index t place len p l = record { place-is = p .value; len-is = l .value }
 
 -- the members of an arrow fit a sort where each number's type does
@@ -64,7 +65,7 @@ module _ {file index : List ℕ} {types sorts : ℕ} {rs : List Record} (li : Ty
   no-type short t h = by (type-shape (li .passed) (li .type-bytes) t (omega (arith, type-counted)))
     where
       none : typePay t ≡ []
-      none = let b = li .types-there .behind-header t h in sym (li .types-there .payload-there t h) ∙ part-past file (getD index (1120 + t) 0) (length (typePay t)) (omega arith)
+      none = let b = li .types-there .behind-header t h in sym (li .types-there .payload-there t h) ∙ part-past file (getD index (typesAt + t) 0) (length (typePay t)) (omega arith)
 
       by : Shape t (typePay t) → ⊥
       by (a-state q e) = let n = none in let z : _≡_ {A = ℕ} 0 1 = cc in omega arith
@@ -90,7 +91,7 @@ module _ {file index : List ℕ} {types sorts : ℕ} {rs : List Record} (li : Ty
         omega arith,
       )
 
-  module _ {t place : ℕ} (h : t < types) (ep : place ≡ getD index (1120 + t) 0) where
+  module _ {t place : ℕ} (h : t < types) (ep : place ≡ getD index (typesAt + t) 0) where
     pub type-behind : 4 ≤ place
     type-behind = subst (λ k. 4 ≤ k) (sym ep) (li .types-there .behind-header t h)
 

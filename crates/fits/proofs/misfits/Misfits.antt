@@ -23,6 +23,7 @@ use Rattle.casefile.proofs.TypeTable.{count-payloads}
 use Rattle.fits.specs.flags.Fitted.{flag}
 use Rattle.fits.specs.misfits.Misfits.{bindingFits, Offered, FirstMisfit, FindsMisfit}
 use Rattle.fits.proofs.flags.Flags.{bit-says}
+use Rattle.index.specs.layout.Layout.{nonterminalsAt, bindingsAt}
 
 -- The flag of binding i: its numbers and its nonterminal's sort, read through the index.
 module _ {file index fit : List ℕ} {bindings nonterminals types sorts : ℕ} {rs : List Record} (of : Offered file index fit bindings nonterminals types sorts rs) where
@@ -34,19 +35,19 @@ module _ {file index fit : List ℕ} {bindings nonterminals types sorts : ℕ} {
   sort-of f h =
       getD-map-in (λ (p : List ℕ). getD (sortsOf rs) (word p 0) o) (payloads nonterminal rs) f o [] (omega (arith, of .nonterminals-there .counted, count-payloads nonterminal rs))
 
-  module _ (i place f t start s x : ℕ) (h : i < bindings) (ep : place ≡ getD index (2144 + i) 0) (ef : f ≡ word file place) (et : t ≡ word file (place + 2))
-      (eq : start ≡ getD index (96 + f) 0) (es : s ≡ word file start) (ex : x ≡ flag fit t s) where
+  module _ (i place f t start s x : ℕ) (h : i < bindings) (ep : place ≡ getD index (bindingsAt + i) 0) (ef : f ≡ word file place) (et : t ≡ word file (place + 2))
+      (eq : start ≡ getD index (nonterminalsAt + f) 0) (es : s ≡ word file start) (ex : x ≡ flag fit t s) where
     binding-flag : x ≡ bit (bindingFits rs (pay i))
     unfolding wrongLength
     binding-flag =
         let four : length (pay i) ≡ 4 = eqb-true (length (pay i)) 4 (not-false (eqb (length (pay i)) 4) (of .bindings-whole i h)) in
-        let f-is : f ≡ word (pay i) 0 = ef ∙ ap (field 2 file) (ep ∙ sym (add-zero (getD index (2144 + i) 0))) ∙ of .bindings-there .field-there i h 2 0 (omega arith) in
+        let f-is : f ≡ word (pay i) 0 = ef ∙ ap (field 2 file) (ep ∙ sym (add-zero (getD index (bindingsAt + i) 0))) ∙ of .bindings-there .field-there i h 2 0 (omega arith) in
         let t-is : t ≡ word (pay i) 2 = et ∙ ap (λ k. field 2 file (k + 2)) ep ∙ of .bindings-there .field-there i h 2 2 (omega arith) in
         let hf : f < nonterminals = (let b = of .nonterminals-named i h in omega arith) in
         let ht : t < types = (let b = of .types-named i h in omega arith) in
         let sig = getD (payloads nonterminal rs) f [] in
         let two : length sig ≡ 2 = eqb-true (length sig) 2 (not-false (eqb (length sig) 2) (of .nonterminals-whole f hf)) in
-        let s-is : s ≡ word sig 0 = es ∙ ap (field 2 file) (eq ∙ sym (add-zero (getD index (96 + f) 0))) ∙ of .nonterminals-there .field-there f hf 2 0 (omega arith) in
+        let s-is : s ≡ word sig 0 = es ∙ ap (field 2 file) (eq ∙ sym (add-zero (getD index (nonterminalsAt + f) 0))) ∙ of .nonterminals-there .field-there f hf 2 0 (omega arith) in
         let hs : s ≤ sorts = (let b = of .sorts-named f hf in omega arith) in
         ex ∙ of .table t s ht hs
         ∙ ap bit (ap₂ (λ (k : ℕ) (z : Sort). fits (getD (typesOf rs) k (state 0)) z) t-is
@@ -72,8 +73,8 @@ module _ (file index fit : List ℕ) (bindings : ℕ) where
   pub fit-all : (i : ℕ) → FitTo i → bindings ≤ i → FindsMisfit file index fit bindings bindings
   fit-all i sofar h ns ts ss rs of = record { within = omega arith; fit-before = λ k l. sofar ns ts ss rs of k (omega arith); misfit-there = λ l. absurd (omega arith) }
 
-  module _ (i place f t start s x : ℕ) (sofar : FitTo i) (h : i < bindings) (ep : place ≡ getD index (2144 + i) 0) (ef : f ≡ word file place)
-      (et : t ≡ word file (place + 2)) (eq : start ≡ getD index (96 + f) 0) (es : s ≡ word file start) (ex : x ≡ flag fit t s) where
+  module _ (i place f t start s x : ℕ) (sofar : FitTo i) (h : i < bindings) (ep : place ≡ getD index (bindingsAt + i) 0) (ef : f ≡ word file place)
+      (et : t ≡ word file (place + 2)) (eq : start ≡ getD index (nonterminalsAt + f) 0) (es : s ≡ word file start) (ex : x ≡ flag fit t s) where
     pub fit-stop : x ≡ 0 → FindsMisfit file index fit bindings i
     fit-stop z ns ts ss rs of = record { within = omega arith; fit-before = sofar ns ts ss rs of; misfit-there = λ l. misfit-here of i place f t start s x h ep ef et eq es ex z }
 

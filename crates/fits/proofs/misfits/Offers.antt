@@ -21,6 +21,7 @@ use Rattle.casefile.proofs.Growth.{grow-length}
 use Rattle.casefile.proofs.Passed.{Tested, passed-tested, payloads-more, payloads-other}
 use Rattle.casefile.specs.Promises.{Passed, nothing, also}
 use Rattle.casefile.proofs.TypeTable.{count-payloads}
+use Rattle.index.specs.layout.Layout.{maxBindings}
 use Rattle.index.specs.entries.Index.{Indexed}
 use Rattle.fits.specs.flags.Fitted.{Fitted}
 use Rattle.fits.specs.misfits.Misfits.{Offered}
@@ -85,7 +86,7 @@ module _ {rs : List Record} (ok : Passed rs) where
       (λ rs p t. let a = leb-false (length (sortsOf rs)) (word p 0) (t .ranges) in let b = sorts-counted rs in omega arith) ok
 
   -- so the first misfit of such records is found by the index and a table that has their types and sorts
-  pub offered : {file index : List ℕ} (fit : List ℕ) {bindings nonterminals types sorts : ℕ} → Indexed file index binding bindings rs → bindings ≤ 1024
+  pub offered : {file index : List ℕ} (fit : List ℕ) {bindings nonterminals types sorts : ℕ} → Indexed file index binding bindings rs → bindings ≤ maxBindings
       → Indexed file index nonterminal nonterminals rs → Indexed file index type types rs → Indexed file index sort sorts rs → Fitted fit types sorts rs
       → Offered file index fit bindings nonterminals types sorts rs
   offered fit bs few ns ts ss table =

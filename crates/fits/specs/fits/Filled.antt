@@ -13,6 +13,7 @@ use Rattle.casefile.specs.Records.{Record}
 use Rattle.casefile.specs.Promises.{Bytes, Passed}
 use Rattle.casefile.specs.Kinds.{sort, type, payloads}
 use Rattle.casefile.specs.Tables.{words}
+use Rattle.index.specs.layout.Layout.{maxSorts, maxTypes, typesAt}
 use Rattle.index.specs.entries.Index.{Indexed}
 use Rattle.fits.specs.flags.Fitted.{flag, Fitted}
 
@@ -23,12 +24,12 @@ pub record TypesAndSorts (file index : List ℕ) (types sorts : ℕ) (rs : List 
   pub sort-bytes : (i : ℕ) → Bytes (getD (payloads sort rs) i [])
   pub types-there : Indexed file index type types rs
   pub sorts-there : Indexed file index sort sorts rs
-  pub few-types : types ≤ 1024
-  pub few-sorts : sorts ≤ 64
+  pub few-types : types ≤ maxTypes
+  pub few-sorts : sorts ≤ maxSorts
 
 -- the payload of type t is the len bytes at place, as the index and the file say
 pub record TypeThere (file index : List ℕ) (t place len : ℕ) : Type 0 where
-  pub place-is : place ≡ getD index (1120 + t) 0
+  pub place-is : place ≡ getD index (typesAt + t) 0
   pub len-is : len ≡ word file (place - 4)
 
 -- the entries of a table for so many sorts are no more than 64

@@ -10,6 +10,7 @@ use Rattle.casefile.specs.Fields.{word}
 use Rattle.casefile.specs.Records.{Record}
 use Rattle.casefile.specs.Kinds.{nonterminal, binding, payloads}
 use Rattle.casefile.specs.Tables.{signaturesOf, typesOf}
+use Rattle.index.specs.layout.Layout.{maxBindings}
 use Rattle.index.specs.entries.Index.{Indexed}
 use Rattle.index.specs.entries.Tests.{Fitting}
 use Rattle.fits.specs.flags.Fitted.{Fitted}
@@ -22,7 +23,7 @@ bindingFits rs p = fits (getD (typesOf rs) (word p 2) (state 0)) (getD (signatur
 pub record Offered (file index fit : List ℕ) (bindings nonterminals types sorts : ℕ) (rs : List Record) : Type 0 where
   pub bindings-there : Indexed file index binding bindings rs
   pub bindings-whole : Fitting binding bindings rs
-  pub few-bindings : bindings ≤ 1024
+  pub few-bindings : bindings ≤ maxBindings
   pub nonterminals-there : Indexed file index nonterminal nonterminals rs
   pub nonterminals-whole : Fitting nonterminal nonterminals rs
   pub nonterminals-named : (i : ℕ) → i < bindings → word (getD (payloads binding rs) i []) 0 < nonterminals

@@ -23,6 +23,7 @@ use Rattle.casefile.proofs.Steps.{words-step, words-done}
 use Rattle.casefile.proofs.TypeNumbers.{Shape, a-state, an-arrow}
 use Rattle.casefile.proofs.TypeTable.{count-payloads, type-shape, type-made, types-distinct}
 use Rattle.goals.specs.goals.Goals.{Goal, of-state, of-arrow, TypesListed, Typed, ReadsGoal, Entered, ReadsEntered}
+use Rattle.index.specs.layout.Layout.{typesAt, goalsAt}
 
 -- the numbers of a payload, and how many bytes they take
 words-length : (p : List ℕ) (i : ℕ) → length (words (drop i p)) ≡ (length p - i) / 2
@@ -141,12 +142,12 @@ module _ {file index : List ℕ} {n : ℕ} {rs : List Record} (w : TypesListed f
           }
 
   -- the length and the fields of a record, where the file has them
-  module _ (t : ℕ) (h : t < n) (start : ℕ) (es : start ≡ getD index (1120 + t) 0) where
+  module _ (t : ℕ) (h : t < n) (start : ℕ) (es : start ≡ getD index (typesAt + t) 0) where
     pub start-there : 4 ≤ start
-    start-there = let b : 4 ≤ getD index (1120 + t) 0 = w .there .behind-header t h in omega arith
+    start-there = let b : 4 ≤ getD index (typesAt + t) 0 = w .there .behind-header t h in omega arith
 
     pub length-there : word file (start - 4) ≡ length (getD (payloads Kind.type rs) t [])
-    length-there = let b = start-there in let z : (start - 4) + 4 ≡ getD index (1120 + t) 0 = omega arith in w .there .length-there t (start - 4) h z
+    length-there = let b = start-there in let z : (start - 4) + 4 ≡ getD index (typesAt + t) 0 = omega arith in w .there .length-there t (start - 4) h z
 
     pub field-there : (k at : ℕ) → at + k ≤ length (getD (payloads Kind.type rs) t []) → field k file (start + at) ≡ field k (getD (payloads Kind.type rs) t []) at
     field-there k at l = ap (λ x. field k file (x + at)) es ∙ w .there .field-there t h k at l
@@ -159,7 +160,7 @@ module _ {file index : List ℕ} {n t : ℕ} where
   pub goal-far : n ≤ t → ReadsGoal file index n t t
   goal-far h = record { goal = λ rs w k. absurd (omega arith) }
 
-  module _ (start : ℕ) (es : start ≡ getD index (1120 + t) 0) where
+  module _ (start : ℕ) (es : start ≡ getD index (typesAt + t) 0) where
     pub goal-none : start < 4 → ReadsGoal file index n t t
     goal-none h = record { goal = λ rs w k. let b = start-there w t k start es in absurd (omega arith) }
 
@@ -198,14 +199,14 @@ module _ {file index : List ℕ} {n t : ℕ} where
 
 -- the goal that a type is, where the first of the types have theirs in the index
 module _ {file index : List ℕ} {n entered t r : ℕ} where
-  pub goal-entered : t < entered → r ≡ getD index (4450 + t) 0 → ReadsEntered file index n entered t r
+  pub goal-entered : t < entered → r ≡ getD index (goalsAt + t) 0 → ReadsEntered file index n entered t r
   goal-entered h e = record { goal = λ rs w there k. subst (λ x. Goal rs n x (getD (typesOf rs) t (state 0))) (sym e) (there t h) }
 
   pub goal-read : ReadsGoal file index n t r → ReadsEntered file index n entered t r
   goal-read is = record { goal = λ rs w there k. is .goal rs w k }
 
 -- the result of an arrow: the type whose number its record has first
-pub result-there : {file index : List ℕ} {n entered g : ℕ} (start : ℕ) → start ≡ getD index (1120 + g) 0 → (m r : ℕ) → m ≡ word file start → ReadsEntered file index n entered m r
+pub result-there : {file index : List ℕ} {n entered g : ℕ} (start : ℕ) → start ≡ getD index (typesAt + g) 0 → (m r : ℕ) → m ≡ word file start → ReadsEntered file index n entered m r
     → (rs : List Record) → TypesListed file index n rs → Entered index n rs entered → (a : Tys) (τ : Ty) → Goal rs n g (arrow a τ) → Goal rs n r τ
 result-there {file} {index} {n} {entered} {g} start es m r em is rs w there a τ x =
     let k = arrow-record w g a τ x in

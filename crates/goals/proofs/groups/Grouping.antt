@@ -17,6 +17,7 @@ use Rattle.casefile.specs.Refusals.{wrongLength, before, follows, misplaced}
 use Rattle.casefile.proofs.Passed.{entry}
 use Rattle.casefile.specs.Promises.{Passed}
 use Rattle.casefile.proofs.TypeTable.{count-payloads}
+use Rattle.index.specs.layout.Layout.{bindingsAt}
 use Rattle.index.specs.entries.Index.{Indexed}
 use Rattle.index.proofs.entries.Earlier.{inOrder, follows-last}
 use Rattle.goals.specs.groups.Groups.{nonterminalIn, nonterminalOf, Sought, Fills, Sofar}
@@ -131,7 +132,7 @@ module _ {file index : List ℕ} {n : ℕ} {rs : List Record} (ok : Passed rs) (
   four i k = let e = entry ok Kind.binding i (omega (arith, many)) in ap length (e .here) ∙ eqb-true (length (e .payload)) 4 (not-false (eqb (length (e .payload)) 4) (e .passed-tests .fits))
 
   same : (i : ℕ) → i < n → nonterminalIn file index i ≡ nonterminalOf rs i
-  same i k = let l = four i k in ap (word file) (sym (add-zero (getD index (2144 + i) 0))) ∙ ix .field-there i k 2 0 (omega arith)
+  same i k = let l = four i k in ap (word file) (sym (add-zero (getD index (bindingsAt + i) 0))) ∙ ix .field-there i k 2 0 (omega arith)
 
 module _ (file index : List ℕ) (n last : ℕ) (before : List ℕ) where
   -- there are too many bindings, or no room

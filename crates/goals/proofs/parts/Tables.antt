@@ -11,6 +11,7 @@ use Rattle.casefile.specs.Kinds.{Kind, payloads}
 use Rattle.casefile.specs.Tables.{typesOf}
 use Rattle.goals.specs.goals.Goals.{Goal, Typed, typeOfBinding, IsGoal, IsResult, CountsMembers, IsMember, IsOwn}
 use Rattle.goals.proofs.goals.Goals.{listed, arrow-record, start-there, length-there, field-there}
+use Rattle.index.specs.layout.Layout.{typesAt, goalsAt, resultsAt, ownTypesAt}
 
 -- the goal that a type is
 module _ {index : List ℕ} {n t : ℕ} where
@@ -20,7 +21,7 @@ module _ {index : List ℕ} {n t : ℕ} where
   pub goal-many : 1023 < t → IsGoal index n t t
   goal-many h = record { goal = λ rs w k. absurd (omega (arith, w .few)) }
 
-  pub goal-there : (r : ℕ) → r ≡ getD index (4450 + t) 0 → IsGoal index n t r
+  pub goal-there : (r : ℕ) → r ≡ getD index (goalsAt + t) 0 → IsGoal index n t r
   goal-there r e = record { goal = λ rs w k. subst (λ x. Goal rs n x (getD (typesOf rs) t (state 0))) (sym e) (w .goals .goal-there t k) }
 
 -- the type of a binding
@@ -28,7 +29,7 @@ module _ {index : List ℕ} {b : ℕ} where
   pub own-far : 1023 < b → IsOwn index b 65535
   own-far h = record { own = λ rs n w k l. absurd (omega arith) }
 
-  pub own-there : (r : ℕ) → r ≡ getD index (6498 + b) 0 → IsOwn index b r
+  pub own-there : (r : ℕ) → r ≡ getD index (ownTypesAt + b) 0 → IsOwn index b r
   own-there r e = record { own = λ rs n w k l. subst (λ x. Goal rs n x (getD (typesOf rs) (typeOfBinding rs b) (state 0))) (sym e) (w .owns b k) }
 
 -- the parts of an arrow
@@ -45,7 +46,7 @@ module _ {file index : List ℕ} {n g : ℕ} where
   pub members-far : n ≤ g → CountsMembers file index n g 0
   members-far h = record { many = λ rs w a τ x. absurd (far-goal w h a τ x) }
 
-  module _ (start : ℕ) (es : start ≡ getD index (1120 + g) 0) where
+  module _ (start : ℕ) (es : start ≡ getD index (typesAt + g) 0) where
     pub members-none : start < 4 → CountsMembers file index n g 0
     members-none h = record { many = λ rs w a τ x. let k = arrow-record (listed w) g a τ x in let b = start-there (listed w) g (k .inside) start es in absurd (omega arith) }
 
@@ -71,7 +72,7 @@ module _ {file index : List ℕ} {n g : ℕ} where
   pub member-past : {j : ℕ} → 15 < j → IsMember file index n g j 65535
   member-past h = record { member = λ rs w a τ x i. let k = arrow-record (listed w) g a τ x in absurd (omega (arith, k .many, k .few-bytes)) }
 
-  pub member-there : {j : ℕ} (start : ℕ) → start ≡ getD index (1120 + g) 0 → (m r : ℕ) → m ≡ word file (start + 2 + j * 2) → IsGoal index n m r → IsMember file index n g j r
+  pub member-there : {j : ℕ} (start : ℕ) → start ≡ getD index (typesAt + g) 0 → (m r : ℕ) → m ≡ word file (start + 2 + j * 2) → IsGoal index n m r → IsMember file index n g j r
   member-there {j} start es m r em is =
       record {
         member = λ rs w a τ x i.
@@ -89,5 +90,5 @@ module _ {index : List ℕ} {n g : ℕ} where
   pub result-many : 1023 < g → IsResult index n g 65535
   result-many h = record { result = λ rs w a τ x. absurd (past-goal w h a τ x) }
 
-  pub result-there : (r : ℕ) → r ≡ getD index (5474 + g) 0 → IsResult index n g r
+  pub result-there : (r : ℕ) → r ≡ getD index (resultsAt + g) 0 → IsResult index n g r
   result-there r e = record { result = λ rs w a τ x. subst (λ y. Goal rs n y τ) (sym e) (w .goals .result-there g a τ x) }

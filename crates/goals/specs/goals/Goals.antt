@@ -9,6 +9,7 @@ use Rattle.casefile.specs.Promises.{Bytes, Passed}
 use Rattle.casefile.specs.Fields.{word}
 use Rattle.casefile.specs.Kinds.{Kind, payloads, count}
 use Rattle.casefile.specs.Tables.{typesOf}
+use Rattle.index.specs.layout.Layout.{maxBindings, goalsAt, resultsAt, ownTypesAt, placesAt}
 use Rattle.index.specs.entries.Index.{Indexed}
 
 -- of n types, the number g stands for a type as a goal: an arrow that is listed by its number, a state by its number behind those of the types
@@ -29,13 +30,13 @@ typeOfBinding rs b = word (getD (payloads Kind.binding rs) b []) 2
 
 -- where the goals of the types, the results of the arrows and the types of the bindings begin in the index
 abbrev pub goalBase : ℕ
-goalBase = 4450
+goalBase = goalsAt
 
 abbrev pub resultBase : ℕ
-resultBase = 5474
+resultBase = resultsAt
 
 abbrev pub ownBase : ℕ
-ownBase = 6498
+ownBase = ownTypesAt
 
 -- the index has each type as a goal and the result of each arrow
 pub record Goals (index : List ℕ) (n : ℕ) (rs : List Record) : Type 0 where
@@ -71,13 +72,13 @@ pub record ReadsEntered (file index : List ℕ) (n entered : ℕ) (t r : ℕ) : 
 pub record FillsGoals (file before : List ℕ) (n : ℕ) (index : List ℕ) : Type 0 where
   pub long : length index ≡ length before
   pub stays : (i : ℕ) → i < goalBase → getD index i 0 ≡ getD before i 0
-  pub goals : (rs : List Record) → TypesListed file before n rs → 6498 ≤ length before → Goals index n rs
+  pub goals : (rs : List Record) → TypesListed file before n rs → ownTypesAt ≤ length before → Goals index n rs
 
 -- the index after the types of the bindings were entered
 pub record FillsOwns (file before : List ℕ) (n bindings : ℕ) (index : List ℕ) : Type 0 where
   pub long : length index ≡ length before
   pub stays : (i : ℕ) → i < ownBase → getD index i 0 ≡ getD before i 0
-  pub owns : (rs : List Record) → TypesListed file before n rs → Goals before n rs → Indexed file before Kind.binding bindings rs → bindings ≤ 1024 → 7522 ≤ length before → Owns index n rs
+  pub owns : (rs : List Record) → TypesListed file before n rs → Goals before n rs → Indexed file before Kind.binding bindings rs → bindings ≤ maxBindings → placesAt ≤ length before → Owns index n rs
 
 -- by the tables: r is the goal that type t is
 pub record IsGoal (index : List ℕ) (n : ℕ) (t r : ℕ) : Type 0 where

@@ -7,11 +7,12 @@ use Rattle.casefile.specs.Fields.{word}
 use Rattle.casefile.specs.Records.{Record}
 use Rattle.casefile.specs.Kinds.{Kind, payloads, count}
 use Rattle.casefile.specs.Promises.{Passed}
+use Rattle.index.specs.layout.Layout.{bindingsAt}
 use Rattle.index.specs.entries.Index.{Indexed}
 
 -- the nonterminal of a binding, as the file has it
 abbrev pub nonterminalIn : List ℕ → List ℕ → ℕ → ℕ
-nonterminalIn file index i = word file (getD index (2144 + i) 0)
+nonterminalIn file index i = word file (getD index (bindingsAt + i) 0)
 
 -- the nonterminal of a binding
 abbrev pub nonterminalOf : List Record → ℕ → ℕ

@@ -9,6 +9,7 @@ use Rattle.scheme.specs.Types.{Ty, state, takes}
 use Rattle.casefile.specs.Records.{Record}
 use Rattle.casefile.specs.Kinds.{Kind, payloads}
 use Rattle.casefile.specs.Tables.{aritiesOf, transitionsOf, targetsAt}
+use Rattle.index.specs.layout.Layout.{maxConstructors}
 use Rattle.index.specs.entries.Index.{Indexed}
 use Rattle.goals.specs.goals.Goals.{Goal, Typed}
 use Rattle.arrows.specs.arrows.Arrows.{off}
@@ -22,7 +23,7 @@ arityIn rs c = getD (aritiesOf rs) c 0
 pub record Given (file index : List ℕ) (n constructors : ℕ) (rs : List Record) : Type 0 where
   pub typed : Typed file index n rs
   pub there : Indexed file index Kind.constructor constructors rs
-  pub few : constructors ≤ 32
+  pub few : constructors ≤ maxConstructors
   pub small : (c : ℕ) → arityIn rs c ≤ 4
 
 -- r is the final state of a goal as the type of constructor c with so many arguments, 16 or more where the goal has none

@@ -15,6 +15,7 @@ use Rattle.casefile.specs.Records.{Record}
 use Rattle.casefile.specs.Kinds.{type, payloads}
 use Rattle.casefile.specs.Refusals.{sameBytes, repeats}
 use Rattle.casefile.proofs.TypeTable.{count-payloads}
+use Rattle.index.specs.layout.Layout.{maxTypes, typesAt, hashesAt, linksAt}
 use Rattle.index.specs.entries.Index.{Indexed}
 use Rattle.index.specs.entries.Chains.{hashOf, latest, Chained}
 use Rattle.index.specs.repeats.Matching.{samePayload}
@@ -95,7 +96,7 @@ module _ (file index p : List ℕ) where
     pub decides : any (sameBytes p) ps ≡ any (sameBytes p) (take last ps)
 
   abbrev pub Sought : ℕ → Type 0
-  Sought last = (n : ℕ) (rs : List Record) → Indexed file index type n rs → Chained index (payloads type rs) n → n ≤ 1024 → length p ≤ 64 → Left n last (payloads type rs)
+  Sought last = (n : ℕ) (rs : List Record) → Indexed file index type n rs → Chained index (payloads type rs) n → n ≤ maxTypes → length p ≤ 64 → Left n last (payloads type rs)
 
   so-many : {n : ℕ} {rs : List Record} → Indexed file index type n rs → length (payloads type rs) ≡ n
   so-many {n} {rs} ix = sym (count-payloads type rs) ∙ ix .counted
@@ -109,18 +110,18 @@ module _ (file index p : List ℕ) where
         decides = d ∙ latest-any ps (hashOf p) p refl m (omega arith) ∙ ap (λ k. any (sameBytes p) (take k ps)) (sym e);
       }
 
-  pub seek-start : (h last : ℕ) → h ≡ hashOf p → last ≡ getD index (3170 + h) 0 → Sought last
+  pub seek-start : (h last : ℕ) → h ≡ hashOf p → last ≡ getD index (hashesAt + h) 0 → Sought last
   seek-start h last eh e n rs ix ch few l =
       left-at n n last (payloads type rs) (so-many ix) (omega arith)
-      (e ∙ ap (λ z. getD index (3170 + z) 0) eh ∙ ch .heads (hashOf p) (hash-few p))
+      (e ∙ ap (λ z. getD index (hashesAt + z) 0) eh ∙ ch .heads (hashOf p) (hash-few p))
       (ap (any (sameBytes p)) (sym (take-length (payloads type rs)) ∙ ap (λ k. take k (payloads type rs)) (so-many ix)))
 
   -- what is asked of the test of one type
   abbrev Says : ℕ → Bool → Type 0
   Says at v = 4 ≤ at → at < 65536 → length p ≤ 64 → v ≡ samePayload p file at
 
-  module _ (last i at : ℕ) (v : Bool) (is : i ≡ last - 1) (some : 0 < last) (e : at ≡ getD index (1120 + i) 0) (small : at < 65536) (says : Says at v) (s : Sought last) where
-    module _ {n : ℕ} {rs : List Record} (ix : Indexed file index type n rs) (ch : Chained index (payloads type rs) n) (few : n ≤ 1024) (l : length p ≤ 64) where
+  module _ (last i at : ℕ) (v : Bool) (is : i ≡ last - 1) (some : 0 < last) (e : at ≡ getD index (typesAt + i) 0) (small : at < 65536) (says : Says at v) (s : Sought last) where
+    module _ {n : ℕ} {rs : List Record} (ix : Indexed file index type n rs) (ch : Chained index (payloads type rs) n) (few : n ≤ maxTypes) (l : length p ≤ 64) where
       old : Left n last (payloads type rs)
       old = s n rs ix ch few l
 
@@ -128,7 +129,7 @@ module _ (file index p : List ℕ) where
       within = let a = old .inside in omega arith
 
       told : sameBytes p (getD (payloads type rs) i []) ≡ v
-      told = sym (says (subst (λ z. 4 ≤ z) (sym e) (ix .behind-header i within)) small l ∙ entry-same file index 1120 n p refl ix i at within e)
+      told = sym (says (subst (λ z. 4 ≤ z) (sym e) (ix .behind-header i within)) small l ∙ entry-same file index typesAt n p refl ix i at within e)
 
       -- with the type at hand apart
       apart : any (sameBytes p) (payloads type rs) ≡ (v || any (sameBytes p) (take i (payloads type rs)))
@@ -138,14 +139,14 @@ module _ (file index p : List ℕ) where
           ∙ ap (any (sameBytes p)) (take-suc (payloads type rs) i [] (let a = so-many ix in let b = within in omega arith)) ∙ any-last (sameBytes p) (take i (payloads type rs)) (getD (payloads type rs) i [])
           ∙ ap (λ b. b || any (sameBytes p) (take i (payloads type rs))) told
 
-      link : getD index (3426 + i) 0 ≡ latest (payloads type rs) (hashOf p) i
+      link : getD index (linksAt + i) 0 ≡ latest (payloads type rs) (hashOf p) i
       link = ch .links i within ∙ ap (λ z. latest (payloads type rs) z i) (old .hashed i (omega arith))
 
     pub seek-hit : v ≡ true → Listed file index p true
     unfolding repeats
     seek-hit f n rs ix ch few l = sym (apart ix ch few l ∙ ap (λ b. b || any (sameBytes p) (take i (payloads type rs))) f)
 
-    module _ (f : v ≡ false) (before : ℕ) (eb : before ≡ getD index (3426 + i) 0) where
+    module _ (f : v ≡ false) (before : ℕ) (eb : before ≡ getD index (linksAt + i) 0) where
       pub seek-miss : Sought before
       seek-miss n rs ix ch few l =
           left-at n i before (payloads type rs) (so-many ix) (let a = within ix ch few l in omega arith) (eb ∙ link ix ch few l)

@@ -7,6 +7,7 @@ use lib.ListN.{length, drop}
 use Rattle.casefile.specs.Fields.{byte, word}
 use Rattle.casefile.specs.Tables.{words}
 use Rattle.casefile.proofs.Steps.{words-step, words-done}
+use Rattle.index.specs.layout.Layout.{hashes}
 use Rattle.index.specs.entries.Chains.{mixed, hashOf}
 
 module _ (p : List ℕ) where
@@ -25,6 +26,6 @@ module _ (p : List ℕ) where
   unfolding mixed hashOf
   mix-done h i l m = ap (λ z. z / 256 % 256) (sym (m ∙ ap (mixed h) (words-done p i l)))
 
-pub hash-few : (p : List ℕ) → hashOf p < 256
+pub hash-few : (p : List ℕ) → hashOf p < hashes
 unfolding hashOf
 hash-few p = omega arith

@@ -11,6 +11,7 @@ use lib.Seq.{set-out, getD-set-same, getD-set-other}
 use Rattle.scheme.specs.Lists.{if_then_else_}
 use Rattle.casefile.specs.Fields.{word}
 use Rattle.casefile.specs.Kinds.{Kind, number, kindOf}
+use Rattle.index.specs.layout.Layout.{hashesAt, linksAt}
 use Rattle.index.specs.entries.Chains.{hashOf}
 use Rattle.index.specs.enter.Entering.{stored, lensAfter, chainsAfter}
 use mathlib.Core.Option.{some}
@@ -71,27 +72,27 @@ lens-length lens kind n p = by (eqb kind 1)
     by false = refl
 
 -- the chains after a type, and after another record
-pub chains-type : (index : List ℕ) (kind n : ℕ) (p : List ℕ) (h last : ℕ) (between after : List ℕ) → kind ≡ 7 → h ≡ hashOf p → last ≡ getD index (3170 + h) 0
-    → between ≡ stored index (3426 + n) last → after ≡ stored between (3170 + h) (n + 1) → after ≡ chainsAfter index kind n p
+pub chains-type : (index : List ℕ) (kind n : ℕ) (p : List ℕ) (h last : ℕ) (between after : List ℕ) → kind ≡ 7 → h ≡ hashOf p → last ≡ getD index (hashesAt + h) 0
+    → between ≡ stored index (linksAt + n) last → after ≡ stored between (hashesAt + h) (n + 1) → after ≡ chainsAfter index kind n p
 unfolding chainsAfter
 chains-type index kind n p h last between after k eh el eb e =
-    simp (eq-eqb kind 7 k) (e ∙ ap (λ z. stored z (3170 + h) (n + 1)) (eb ∙ ap (stored index (3426 + n)) el) ∙ ap (λ z. stored (stored index (3426 + n) (getD index (3170 + z) 0)) (3170 + z) (n + 1)) eh)
+    simp (eq-eqb kind 7 k) (e ∙ ap (λ z. stored z (hashesAt + h) (n + 1)) (eb ∙ ap (stored index (linksAt + n)) el) ∙ ap (λ z. stored (stored index (linksAt + n) (getD index (hashesAt + z) 0)) (hashesAt + z) (n + 1)) eh)
 
 pub chains-other : (index : List ℕ) (kind n : ℕ) (p : List ℕ) → (kind ≡ 7 → ⊥) → index ≡ chainsAfter index kind n p
 unfolding chainsAfter
 chains-other index kind n p k = simp (ne-eqb kind 7 k)
 
-pub chains-set : (index : List ℕ) (kind n : ℕ) (p : List ℕ) → kind ≡ 7 → getD index (3170 + hashOf p) 0 < 65536 → n + 1 < 65536
-    → chainsAfter index kind n p ≡ set (set index (3426 + n) (getD index (3170 + hashOf p) 0)) (3170 + hashOf p) (n + 1)
+pub chains-set : (index : List ℕ) (kind n : ℕ) (p : List ℕ) → kind ≡ 7 → getD index (hashesAt + hashOf p) 0 < 65536 → n + 1 < 65536
+    → chainsAfter index kind n p ≡ set (set index (linksAt + n) (getD index (hashesAt + hashOf p) 0)) (hashesAt + hashOf p) (n + 1)
 unfolding chainsAfter
 chains-set index kind n p k small few =
-    simp (eq-eqb kind 7 k) (ap (λ z. stored z (3170 + hashOf p) (n + 1)) (stored-set index (3426 + n) (getD index (3170 + hashOf p) 0) small)
-    ∙ stored-set (set index (3426 + n) (getD index (3170 + hashOf p) 0)) (3170 + hashOf p) (n + 1) few)
+    simp (eq-eqb kind 7 k) (ap (λ z. stored z (hashesAt + hashOf p) (n + 1)) (stored-set index (linksAt + n) (getD index (hashesAt + hashOf p) 0) small)
+    ∙ stored-set (set index (linksAt + n) (getD index (hashesAt + hashOf p) 0)) (hashesAt + hashOf p) (n + 1) few)
 
 pub chains-length : (index : List ℕ) (kind n : ℕ) (p : List ℕ) → length (chainsAfter index kind n p) ≡ length index
 unfolding chainsAfter
 chains-length index kind n p = by (eqb kind 7)
   where
-    by : (b : Bool) → length (if b then stored (stored index (3426 + n) (getD index (3170 + hashOf p) 0)) (3170 + hashOf p) (n + 1) else index) ≡ length index
-    by true = stored-length (stored index (3426 + n) (getD index (3170 + hashOf p) 0)) (3170 + hashOf p) (n + 1) ∙ stored-length index (3426 + n) (getD index (3170 + hashOf p) 0)
+    by : (b : Bool) → length (if b then stored (stored index (linksAt + n) (getD index (hashesAt + hashOf p) 0)) (hashesAt + hashOf p) (n + 1) else index) ≡ length index
+    by true = stored-length (stored index (linksAt + n) (getD index (hashesAt + hashOf p) 0)) (hashesAt + hashOf p) (n + 1) ∙ stored-length index (linksAt + n) (getD index (hashesAt + hashOf p) 0)
     by false = refl

@@ -14,6 +14,7 @@ use Rattle.casefile.specs.Records.{Record}
 use Rattle.casefile.specs.Kinds.{Kind, constructor, transition, binding, ofKind, payloads, count}
 use Rattle.casefile.specs.Tables.{aritiesOf}
 use Rattle.casefile.specs.Refusals.{wrongLength, before, follows, misplaced}
+use Rattle.index.specs.layout.Layout.{constructorsAt, transitionsAt, bindingsAt}
 use Rattle.index.specs.entries.Index.{base, Indexed}
 use Rattle.index.specs.entries.Tests.{Fitting}
 
@@ -74,14 +75,14 @@ module _ {file index : List ℕ} {n : ℕ} {rs : List Record} where
   first-transition p ix h = rw (none-before ix 1 p h)
 
   module _ (p : List ℕ) (h : 0 < n) {place a b c d : ℕ} {r : Bool} (o : r ≡ before a b c d) where
-    pub next-binding : Indexed file index binding n rs → Fitting binding n rs → place ≡ getD index (2144 + (n - 1)) 0
+    pub next-binding : Indexed file index binding n rs → Fitting binding n rs → place ≡ getD index (bindingsAt + (n - 1)) 0
         → a ≡ word file place → b ≡ word file (place + 2) → c ≡ word p 0 → d ≡ word p 2 → misplaced rs p binding ≡ not r
     unfolding misplaced wrongLength
     next-binding ix fit e ea eb ec ed =
         let l = equal (length (getD (payloads binding rs) (n - 1) [])) 4 (fit (n - 1) (omega arith)) in
         rw (o, ec, ed) (ap not (last-before ix 2 p h (omega arith) e ea eb))
 
-    pub next-transition : Indexed file index transition n rs → Fitting transition n rs → place ≡ getD index (608 + (n - 1)) 0
+    pub next-transition : Indexed file index transition n rs → Fitting transition n rs → place ≡ getD index (transitionsAt + (n - 1)) 0
         → a ≡ byte file place → b ≡ byte file (place + 1) → c ≡ byte p 0 → d ≡ byte p 1 → misplaced rs p transition ≡ not r
     unfolding misplaced wrongLength
     next-transition ix fit e ea eb ec ed =
@@ -94,9 +95,9 @@ module _ {file index : List ℕ} {n : ℕ} {rs : List Record} (ix : Indexed file
   arities-length = length-map (payloads constructor rs) (λ (p : List ℕ). byte p 0) ∙ payloads-length constructor rs ∙ ix .counted
 
   -- the argument count of constructor i
-  pub arity-there : Fitting constructor n rs → (i : ℕ) → i < n → (place : ℕ) → place ≡ getD index (64 + i) 0 → getD (aritiesOf rs) i 0 ≡ byte file place
+  pub arity-there : Fitting constructor n rs → (i : ℕ) → i < n → (place : ℕ) → place ≡ getD index (constructorsAt + i) 0 → getD (aritiesOf rs) i 0 ≡ byte file place
   unfolding aritiesOf wrongLength field
   arity-there fit i h place e =
       let l = equal (length (getD (payloads constructor rs) i [])) 1 (fit i h) in
       List·getD-map (λ (p : List ℕ). byte p 0) (payloads constructor rs) i []
-      ∙ sym (ap (field 1 file) (e ∙ sym (add-zero (getD index (64 + i) 0))) ∙ ix .field-there i h 1 0 (omega arith))
+      ∙ sym (ap (field 1 file) (e ∙ sym (add-zero (getD index (constructorsAt + i) 0))) ∙ ix .field-there i h 1 0 (omega arith))

@@ -8,6 +8,7 @@ use lib.ListN.{getD}
 use Rattle.scheme.specs.Lists.{if_then_else_}
 use Rattle.casefile.specs.Fields.{byte}
 use Rattle.casefile.specs.Tables.{words}
+use Rattle.index.specs.layout.Layout.{hashes, hashesAt, linksAt}
 
 -- numbers mixed into a number below 65,536, one after the other
 unfoldable pub mixed : ℕ → List ℕ → ℕ
@@ -25,5 +26,5 @@ latest ps h (suc n) = let before = latest ps h n in if eqb (hashOf (getD ps n []
 
 -- the heads and the links of n types with these payloads
 pub record Chained (index : List ℕ) (ps : List (List ℕ)) (n : ℕ) : Type 0 where
-  pub heads : (h : ℕ) → h < 256 → getD index (3170 + h) 0 ≡ latest ps h n
-  pub links : (i : ℕ) → i < n → getD index (3426 + i) 0 ≡ latest ps (hashOf (getD ps i [])) i
+  pub heads : (h : ℕ) → h < hashes → getD index (hashesAt + h) 0 ≡ latest ps h n
+  pub links : (i : ℕ) → i < n → getD index (linksAt + i) 0 ≡ latest ps (hashOf (getD ps i [])) i

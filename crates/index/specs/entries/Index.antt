@@ -7,18 +7,19 @@ use Rattle.casefile.specs.Fields.{field, word}
 use Rattle.casefile.specs.Records.{Record}
 use Rattle.records.specs.cursor.Reading.{partOf}
 use Rattle.casefile.specs.Kinds.{Kind, sort, constructor, nonterminal, rule, states, transition, type, binding, path, payloads, count, placeOf}
+use Rattle.index.specs.layout.Layout.{sortsAt, constructorsAt, nonterminalsAt, rulesAt, transitionsAt, typesAt, bindingsAt, statesAt, pathAt}
 
 -- where the entries of a kind begin in the index: behind as many as each kind before may have
 abbrev pub base : Kind → ℕ
-base sort = 0
-base constructor = 64
-base nonterminal = 96
-base rule = 352
-base transition = 608
-base type = 1120
-base binding = 2144
-base states = 3168
-base path = 3169
+base sort = sortsAt
+base constructor = constructorsAt
+base nonterminal = nonterminalsAt
+base rule = rulesAt
+base transition = transitionsAt
+base type = typesAt
+base binding = bindingsAt
+base states = statesAt
+base path = pathAt
 
 -- after the records rs, the index holds n entries of kind k: the offset of each payload in the file, whose record
 -- begins four bytes before it with its length

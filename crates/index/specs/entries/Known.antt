@@ -7,18 +7,19 @@ use Rattle.scheme.specs.Sorts.{o, arguments}
 use Rattle.casefile.specs.Records.{Record}
 use Rattle.casefile.specs.Kinds.{Kind, sort, constructor, nonterminal, rule, states, transition, type, binding, path, number, payloads}
 use Rattle.casefile.specs.Tables.{sortsOf}
+use Rattle.index.specs.layout.Layout.{maxSorts, maxConstructors, maxNonterminals, maxTransitions, maxTypes, maxBindings}
 use Rattle.index.specs.entries.Index.{Indexed}
 use Rattle.index.specs.entries.Chains.{Chained}
 
 -- how many entries of a kind the index has room for
 abbrev pub room : Kind → ℕ
-room sort = 64
-room constructor = 32
-room nonterminal = 256
-room rule = 256
-room transition = 512
-room type = 1024
-room binding = 1024
+room sort = maxSorts
+room constructor = maxConstructors
+room nonterminal = maxNonterminals
+room rule = maxNonterminals
+room transition = maxTransitions
+room type = maxTypes
+room binding = maxBindings
 room states = 1
 room path = 1
 

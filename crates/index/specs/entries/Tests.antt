@@ -10,6 +10,7 @@ use Rattle.casefile.specs.Records.{Record}
 use Rattle.casefile.specs.Kinds.{Kind, sort, constructor, nonterminal, rule, transition, type, binding, payloads, count}
 use Rattle.casefile.specs.Tables.{sortsOf, stateCount}
 use Rattle.casefile.specs.Refusals.{wrongLength}
+use Rattle.index.specs.layout.Layout.{maxNonterminals}
 use Rattle.index.specs.entries.Codes.{codeFor}
 use Rattle.index.specs.entries.Index.{Indexed}
 use Rattle.index.specs.entries.Chains.{Chained}
@@ -58,7 +59,7 @@ module _ (file index : List ℕ) where
   abbrev pub TestsRule : List ℕ → ℕ → ℕ → ℕ → ℕ → List ℕ → ℕ → Type 0
   TestsRule lens n sorts constructors nonterminals p r =
       (rs : List Record) → count rule rs ≡ n → SortLens lens sorts rs → count constructor rs ≡ constructors
-      → Indexed file index nonterminal nonterminals rs → Fitting nonterminal nonterminals rs → nonterminals ≤ 256
+      → Indexed file index nonterminal nonterminals rs → Fitting nonterminal nonterminals rs → nonterminals ≤ maxNonterminals
       → ((i : ℕ) → i < nonterminals → word (getD (payloads nonterminal rs) i []) 0 < suc sorts)
       → r ≡ codeFor rs p rule
 

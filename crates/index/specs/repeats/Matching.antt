@@ -9,6 +9,7 @@ use Rattle.casefile.specs.Fields.{byte, word}
 use Rattle.casefile.specs.Records.{Record}
 use Rattle.casefile.specs.Kinds.{Kind}
 use Rattle.casefile.specs.Refusals.{repeats}
+use Rattle.index.specs.layout.Layout.{maxTypes}
 use Rattle.index.specs.entries.Index.{base, Indexed}
 
 -- the bytes p are those of s from `at` on
@@ -23,4 +24,4 @@ samePayload p s at = eqb (word s (at - 4)) (length p) && matches p s at
 module _ (file index : List ℕ) where
   -- one of n payloads of a kind, whose block of the index begins at b, is p
   abbrev pub Repeats : ℕ → ℕ → List ℕ → Bool → Type 0
-  Repeats b n p r = (k : Kind) (rs : List Record) → b ≡ base k → Indexed file index k n rs → n ≤ 1024 → length p ≤ 64 → r ≡ repeats rs p k
+  Repeats b n p r = (k : Kind) (rs : List Record) → b ≡ base k → Indexed file index k n rs → n ≤ maxTypes → length p ≤ 64 → r ≡ repeats rs p k

@@ -15,6 +15,7 @@ use Rattle.casefile.specs.Kinds.{sort, nonterminal, type, binding, path, number
 use Rattle.casefile.specs.Tables.{signaturesOf, bindingsOf}
 use Rattle.casefile.specs.Refusals.{first, misfits}
 use Rattle.casefile.proofs.TypeTable.{count-payloads}
+use Rattle.index.specs.layout.Layout.{maxSorts, bindingsAt}
 use Rattle.index.specs.entries.Index.{Indexed}
 use Rattle.fits.specs.fits.Filled.{Fills}
 use Rattle.fits.specs.misfits.Misfits.{FirstMisfit, FindsMisfit}
@@ -82,9 +83,9 @@ module _ {file index counts lens : List ℕ} {rs : List Record} (flags : ℕ) (k
       first-is =
           found rs ok (subst (λ z. Indexed file index type z rs) (sym et) (known .entries type)) (subst (λ z. Indexed file index sort z rs) (sym es) (known .entries sort))
           (subst (λ z. Indexed file index binding z rs) (sym eb) (known .entries binding)) (getD counts 3 0) (known .entries nonterminal)
-          (subst (λ z. z ≤ 1024) (sym et) (known .fits type)) (subst (λ z. z ≤ 64) (sym es) (known .fits sort)) (subst (λ z. z ≤ 1024) (sym eb) (known .fits binding))
+          (subst (λ z. z ≤ 1024) (sym et) (known .fits type)) (subst (λ z. z ≤ maxSorts) (sym es) (known .fits sort)) (subst (λ z. z ≤ 1024) (sym eb) (known .fits binding))
 
-      pub evidence-11 : b < bindings → (place : ℕ) → (4 ≤ getD index (2144 + b) 0 → place + 4 ≡ getD index (2144 + b) 0) → WholeEnds rs flags (is.Refused 11 place)
+      pub evidence-11 : b < bindings → (place : ℕ) → (4 ≤ getD index (bindingsAt + b) 0 → place + 4 ≡ getD index (bindingsAt + b) 0) → WholeEnds rs flags (is.Refused 11 place)
       unfolding WholeEnds number
       evidence-11 h place e =
           let l : b < getD counts 8 0 = subst (λ z. b < z) eb h in

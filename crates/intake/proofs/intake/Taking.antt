@@ -19,17 +19,18 @@ use Rattle.intake.specs.declared.evidence.Case.{Case}
 use Rattle.intake.specs.declared.evidence.Case.the-variants as is
 use Rattle.intake.specs.intake.Intake.{caseAs, Tables, Leaves, Examined}
 use Rattle.intake.specs.evidence.Whole.{WholeEnds, WholeTested, TestsWhole}
+use Rattle.index.specs.layout.Layout.{maxFile, endsSize}
 
 module _ (file : List ℕ) (flags : ℕ) (index lens counts ends : List ℕ) where
   -- 1
-  pub taken-long : 60000 < length file → Examined file flags index lens counts ends (is.Refused 1 0)
+  pub taken-long : maxFile < length file → Examined file flags index lens counts ends (is.Refused 1 0)
   unfolding caseAs Leaves caseOf tooLong
-  taken-long h = record { is-case = sym (simp (lt-ltb 60000 (length file) h)); tables = tt }
+  taken-long h = record { is-case = sym (simp (lt-ltb maxFile (length file) h)); tables = tt }
 
-  module _ (short : length file ≤ 60000) where
+  module _ (short : length file ≤ maxFile) where
     case-is : caseOf file flags ≡ caseFrom flags (recordsOf file) []
     unfolding caseOf tooLong
-    case-is = simp (le-ltb 60000 (length file) short)
+    case-is = simp (le-ltb maxFile (length file) short)
 
     -- 2 to 7
     pub taken-refused : (n p : ℕ) (w : Walked) → w ≡ walked.Refused n p → WalkEnds file index lens counts w → Examined file flags index lens counts ends (is.Refused n p)
@@ -37,7 +38,7 @@ module _ (file : List ℕ) (flags : ℕ) (index lens counts ends : List ℕ) whe
     taken-refused n p w e h = record { is-case = sym (case-is ∙ (let k : WalkEnds file index lens counts (walked.Refused n p) = rw e at h in k flags)); tables = tt }
 
     -- 8 to 12, or none
-    pub taken-whole : (w : Walked) → w ≡ walked.Read → WalkEnds file index lens counts w → (before : List ℕ) → 15000 ≤ length before → (r : Case) → TestsWhole file index counts flags before ends r → Examined file flags index lens counts ends r
+    pub taken-whole : (w : Walked) → w ≡ walked.Read → WalkEnds file index lens counts w → (before : List ℕ) → endsSize ≤ length before → (r : Case) → TestsWhole file index counts flags before ends r → Examined file flags index lens counts ends r
     unfolding WalkEnds WholeEnds caseAs Leaves unlessRefused acceptedCase
     taken-whole w e h before room r tests = by r (tested .verdict)
       where

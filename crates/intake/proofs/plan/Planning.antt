@@ -15,6 +15,7 @@ use Rattle.casefile.specs.Records.{Record}
 use Rattle.casefile.specs.Promises.{Bytes, Passed}
 use Rattle.casefile.specs.Kinds.{sort, constructor, nonterminal, rule, states, number, ofKind, payloads, count, placeOf}
 use Rattle.casefile.specs.Refusals.{first, wrongLength, wrongStart}
+use Rattle.index.specs.layout.Layout.{maxSorts, maxConstructors, maxNonterminals, nonterminalsAt, rulesAt}
 use Rattle.index.specs.entries.Index.{Indexed}
 use Rattle.rules.specs.reading.RuleBodies.{nodesIn}
 use Rattle.rules.specs.rules.Rules.{Filed, FindsWrongBody, BodiesRead}
@@ -53,21 +54,21 @@ module _ {file index counts lens : List ℕ} {rs : List Record} (known : Known f
     first-there = subst (λ z. 0 < z) (known .entries nonterminal .counted) some-nonterminal
 
     -- the start symbol's sort
-    module _ (start s : ℕ) (e-start : start ≡ getD index 96 0) (e-s : s ≡ word file start) where
+    module _ (start s : ℕ) (e-start : start ≡ getD index nonterminalsAt 0) (e-s : s ≡ word file start) where
       start-sort : s ≡ word (getD (payloads nonterminal rs) 0 []) 0
       unfolding wrongLength number
       start-sort =
           let two : length (getD (payloads nonterminal rs) 0 []) ≡ 2 = eqb-true (length (getD (payloads nonterminal rs) 0 [])) 2 (not-false (eqb (length (getD (payloads nonterminal rs) 0 [])) 2) (fitting file index lens counts rs known ok nonterminal 0 first-there)) in
-          e-s ∙ ap (word file) (e-start ∙ sym (add-zero (getD index 96 0))) ∙ known .entries nonterminal .field-there 0 first-there 2 0 (omega arith)
+          e-s ∙ ap (word file) (e-start ∙ sym (add-zero (getD index nonterminalsAt 0))) ∙ known .entries nonterminal .field-there 0 first-there 2 0 (omega arith)
 
-      start-place : (place : ℕ) → (4 ≤ getD index 96 0 → place + 4 ≡ getD index 96 0) → place ≡ placeOf nonterminal rs 0
+      start-place : (place : ℕ) → (4 ≤ getD index nonterminalsAt 0 → place + 4 ≡ getD index nonterminalsAt 0) → place ≡ placeOf nonterminal rs 0
       unfolding number
       start-place place h =
           let a = known .entries nonterminal .place-there 0 first-there in
           let b = h (known .entries nonterminal .behind-header 0 first-there) in
           omega arith
 
-      pub plan-start : (s ≡ 0 → ⊥) → (place : ℕ) → (4 ≤ getD index 96 0 → place + 4 ≡ getD index 96 0) → PlanEnds rs (plan.Refused 9 place)
+      pub plan-start : (s ≡ 0 → ⊥) → (place : ℕ) → (4 ≤ getD index nonterminalsAt 0 → place + 4 ≡ getD index nonterminalsAt 0) → PlanEnds rs (plan.Refused 9 place)
       unfolding PlanEnds
       plan-start ne place h flags = met-start rs flags no8 (record { number = 9; place = place }) (start-wrong rs 0 s place some-nonterminal start-sort (start-place place h) ne)
 
@@ -91,16 +92,16 @@ module _ {file index counts lens : List ℕ} {rs : List Record} (known : Known f
               constructors-there = subst (λ n. Indexed file index constructor n rs) (sym ec) (known .entries constructor);
               nonterminals-there = subst (λ n. Indexed file index nonterminal n rs) (sym rules-are) (known .entries nonterminal);
               rules-there = subst (λ n. Indexed file index rule n rs) (sym er) (known .entries rule);
-              few-sorts = subst (λ n. n ≤ 64) (sym es) (known .fits sort);
-              few-constructors = subst (λ n. n ≤ 32) (sym ec) (known .fits constructor);
-              few-nonterminals = subst (λ n. n ≤ 256) (sym rules-are) (known .fits nonterminal);
+              few-sorts = subst (λ n. n ≤ maxSorts) (sym es) (known .fits sort);
+              few-constructors = subst (λ n. n ≤ maxConstructors) (sym ec) (known .fits constructor);
+              few-nonterminals = subst (λ n. n ≤ maxNonterminals) (sym rules-are) (known .fits nonterminal);
               few-rules = omega arith;
             }
 
         found : BodiesRead rs rules ends′ g
         found = finds rs filed fits
 
-        pub plan-body : g < rules → (place : ℕ) → (4 ≤ getD index (352 + g) 0 → place + 4 ≡ getD index (352 + g) 0) → PlanEnds rs (plan.Refused 9 place)
+        pub plan-body : g < rules → (place : ℕ) → (4 ≤ getD index (rulesAt + g) 0 → place + 4 ≡ getD index (rulesAt + g) 0) → PlanEnds rs (plan.Refused 9 place)
         unfolding PlanEnds number
         plan-body h place k flags =
             let l : g < getD counts 4 0 = subst (λ n. g < n) er h in

@@ -7,6 +7,7 @@ use lib.ListN.{length}
 use Rattle.casefile.specs.Records.{Record}
 use Rattle.casefile.specs.Kinds.{Kind, payloads, count}
 use Rattle.casefile.specs.Refusals.{refuseWhole}
+use Rattle.index.specs.layout.Layout.{maxSorts, maxTypes, maxBindings}
 use Rattle.index.specs.entries.Index.{Indexed}
 use Rattle.fits.specs.misfits.Misfits.{FirstMisfit}
 use Rattle.rules.specs.reading.RuleBodies.{nodesIn}
@@ -30,7 +31,7 @@ TestsEvidence file index counts flags r = (lens : List ℕ) (rs : List Record) �
 abbrev pub FindsFirst : List ℕ → List ℕ → ℕ → ℕ → ℕ → ℕ → Type 0
 FindsFirst file index types sorts bindings r =
     (rs : List Record) → Passed rs → Indexed file index Kind.type types rs → Indexed file index Kind.sort sorts rs → Indexed file index Kind.binding bindings rs
-    → (n : ℕ) → Indexed file index Kind.nonterminal n rs → types ≤ 1024 → sorts ≤ 64 → bindings ≤ 1024 → FirstMisfit rs bindings r
+    → (n : ℕ) → Indexed file index Kind.nonterminal n rs → types ≤ maxTypes → sorts ≤ maxSorts → bindings ≤ maxBindings → FirstMisfit rs bindings r
 
 -- what the tests over the whole file come to, and the table of ends where none is met
 pub record WholeTested (rs : List Record) (flags : ℕ) (ends : List ℕ) (r : Case) : Type 0 where

@@ -18,6 +18,7 @@ use Rattle.casefile.specs.Refusals.{wrongLength, tooMany, tooLarge, outOfRange,
 use Rattle.scheme.proofs.Lists.{getD-map-in}
 use Rattle.casefile.proofs.Cells.{cells-length}
 use Rattle.casefile.proofs.TypeTable.{count-payloads}
+use Rattle.index.specs.layout.Layout.{maxNonterminals, maxNodes, maxBody, nonterminalsAt}
 use Rattle.index.specs.entries.Codes.{codeFor}
 use Rattle.index.specs.entries.Index.{Indexed}
 use Rattle.index.specs.entries.Tests.{Fitting, SortLens}
@@ -28,7 +29,7 @@ equal n m e = eqb-true n m (not-false (eqb n m) e)
 
 module _ (file index lens : List ℕ) (n sorts constructors nonterminals : ℕ) (p : List ℕ) (rs : List Record)
     (counted : count rule rs ≡ n) (sl : SortLens lens sorts rs) (cons : count constructor rs ≡ constructors)
-    (ix : Indexed file index nonterminal nonterminals rs) (fit : Fitting nonterminal nonterminals rs) (few : nonterminals ≤ 256)
+    (ix : Indexed file index nonterminal nonterminals rs) (fit : Fitting nonterminal nonterminals rs) (few : nonterminals ≤ maxNonterminals)
     (listed : (i : ℕ) → i < nonterminals → word (getD (payloads nonterminal rs) i []) 0 < suc sorts) where
   pub rule-short : length p < 4 → 4 ≡ codeFor rs p rule
   unfolding codeFor wrongLength
@@ -39,25 +40,25 @@ module _ (file index lens : List ℕ) (n sorts constructors nonterminals : ℕ) 
   rule-odd h e = simp (le-ltb (length p) 4 h, ne-eqb (length p % 4) 0 e)
 
   module _ (h : 4 ≤ length p) (e : length p % 4 ≡ 0) where
-    pub rule-large : 1024 < length p → 5 ≡ codeFor rs p rule
+    pub rule-large : maxBody < length p → 5 ≡ codeFor rs p rule
     unfolding codeFor wrongLength tooMany tooLarge
-    rule-large l = simp (le-ltb (length p) 4 h, eq-eqb (length p % 4) 0 e, cells-length p, lt-ltb 256 (length p / 4) (omega arith))
+    rule-large l = simp (le-ltb (length p) 4 h, eq-eqb (length p % 4) 0 e, cells-length p, lt-ltb maxNodes (length p / 4) (omega arith))
 
     signatures-many : length (signaturesOf rs) ≡ nonterminals
     unfolding signaturesOf
     signatures-many = length-map (payloads nonterminal rs) (λ (q : List ℕ). getD (sortsOf rs) (word q 0) o) ∙ sym (count-payloads nonterminal rs) ∙ ix .counted
 
-    pub rule-none : length p ≤ 1024 → nonterminals ≤ n → 6 ≡ codeFor rs p rule
+    pub rule-none : length p ≤ maxBody → nonterminals ≤ n → 6 ≡ codeFor rs p rule
     unfolding codeFor wrongLength tooMany tooLarge outOfRange
-    rule-none l k = simp (le-ltb (length p) 4 h, eq-eqb (length p % 4) 0 e, cells-length p, le-ltb 256 (length p / 4) (omega arith), signatures-many, counted, le-leb nonterminals n k)
+    rule-none l k = simp (le-ltb (length p) 4 h, eq-eqb (length p % 4) 0 e, cells-length p, le-ltb maxNodes (length p / 4) (omega arith), signatures-many, counted, le-leb nonterminals n k)
 
     -- the parameters of the rule's nonterminal
-    module _ (k : n < nonterminals) (at s a : ℕ) (e-at : at ≡ getD index (96 + n) 0) (e-s : s ≡ word file at) (e-a : a ≡ getD lens s 0) where
+    module _ (k : n < nonterminals) (at s a : ℕ) (e-at : at ≡ getD index (nonterminalsAt + n) 0) (e-s : s ≡ word file at) (e-a : a ≡ getD lens s 0) where
       own-sort : word (getD (payloads nonterminal rs) n []) 0 ≡ s
       unfolding wrongLength
       own-sort =
           let two : length (getD (payloads nonterminal rs) n []) ≡ 2 = equal (length (getD (payloads nonterminal rs) n [])) 2 (fit n k) in
-          sym (e-s ∙ ap (word file) (e-at ∙ sym (add-zero (getD index (96 + n) 0))) ∙ ix .field-there n k 2 0 (omega arith))
+          sym (e-s ∙ ap (word file) (e-at ∙ sym (add-zero (getD index (nonterminalsAt + n) 0))) ∙ ix .field-there n k 2 0 (omega arith))
 
       parameters : length (arguments (getD (signaturesOf rs) n o)) ≡ a
       unfolding signaturesOf
@@ -69,14 +70,14 @@ module _ (file index lens : List ℕ) (n sorts constructors nonterminals : ℕ) 
           signature-at : (i : ℕ) → i < nonterminals → getD (map (λ (q : List ℕ). getD (sortsOf rs) (word q 0) o) (payloads nonterminal rs)) i o ≡ getD (sortsOf rs) (word (getD (payloads nonterminal rs) i []) 0) o
           signature-at i j = getD-map-in (λ (q : List ℕ). getD (sortsOf rs) (word q 0) o) (payloads nonterminal rs) i o [] (subst (λ m. i < m) (sym (ix .counted) ∙ count-payloads nonterminal rs) j)
 
-      pub rule-rest : length p ≤ 1024 → (r : Bool) → r ≡ any (wrongCell constructors nonterminals a) (cellsOf p) → codeFor rs p rule ≡ (if r then 6 else 0)
+      pub rule-rest : length p ≤ maxBody → (r : Bool) → r ≡ any (wrongCell constructors nonterminals a) (cellsOf p) → codeFor rs p rule ≡ (if r then 6 else 0)
       unfolding codeFor wrongLength tooMany tooLarge outOfRange misplaced aritiesOf
       rule-rest l r er =
           simp (
             le-ltb (length p) 4 h,
             eq-eqb (length p % 4) 0 e,
             cells-length p,
-            le-ltb 256 (length p / 4) (omega arith),
+            le-ltb maxNodes (length p / 4) (omega arith),
             signatures-many,
             counted,
             lt-leb nonterminals n k,

@@ -16,6 +16,7 @@ use Rattle.casefile.specs.Tables.{sortsOf, sortFrom}
 use Rattle.casefile.specs.Refusals.{wrongLength, tooMany, tooLarge, outOfRange, misplaced}
 use Rattle.casefile.proofs.Growth.{grow-length}
 use Rattle.casefile.proofs.TypeTable.{count-payloads}
+use Rattle.index.specs.layout.Layout.{maxSorts}
 use Rattle.index.specs.entries.Codes.{codeFor}
 use Rattle.index.specs.entries.Index.{Indexed}
 use Rattle.index.specs.entries.Tests.{SortLens}
@@ -30,11 +31,11 @@ module _ (file index lens : List ℕ) (n : ℕ) (p : List ℕ) (rs : List Record
   unfolding codeFor wrongLength
   sort-4 h = simp (ne-eqb (length p) 4 h)
 
-  pub sort-many : length p ≡ 4 → 64 ≤ n → 5 ≡ codeFor rs p sort
+  pub sort-many : length p ≡ 4 → maxSorts ≤ n → 5 ≡ codeFor rs p sort
   unfolding codeFor wrongLength tooMany
-  sort-many h m = simp (eq-eqb (length p) 4 h, ix .counted, le-leb 64 n m)
+  sort-many h m = simp (eq-eqb (length p) 4 h, ix .counted, le-leb maxSorts n m)
 
-  module _ (h : length p ≡ 4) (m : n < 64) (from to a : ℕ) (ef : from ≡ word p 0) (et : to ≡ word p 2) (ea : a ≡ (if leb to n then getD lens to 0 else 0)) where
+  module _ (h : length p ≡ 4) (m : n < maxSorts) (from to a : ℕ) (ef : from ≡ word p 0) (et : to ≡ word p 2) (ea : a ≡ (if leb to n then getD lens to 0 else 0)) where
     -- the argument count of the sort that `to` names
     large : tooLarge rs p sort ≡ leb 8 a
     unfolding tooLarge
@@ -56,20 +57,20 @@ module _ (file index lens : List ℕ) (n : ℕ) (p : List ℕ) (rs : List Record
 
     pub sort-large : 8 ≤ a → 5 ≡ codeFor rs p sort
     unfolding codeFor wrongLength tooMany
-    sort-large l = simp (eq-eqb (length p) 4 h, ix .counted, lt-leb 64 n m, large, le-leb 8 a l)
+    sort-large l = simp (eq-eqb (length p) 4 h, ix .counted, lt-leb maxSorts n m, large, le-leb 8 a l)
 
     pub sort-from : a < 8 → n < from → 6 ≡ codeFor rs p sort
     unfolding codeFor wrongLength tooMany outOfRange
-    sort-from l k = simp (eq-eqb (length p) 4 h, ix .counted, lt-leb 64 n m, large, lt-leb 8 a l, sorts-many, ← ef, le-leb (suc n) from k)
+    sort-from l k = simp (eq-eqb (length p) 4 h, ix .counted, lt-leb maxSorts n m, large, lt-leb 8 a l, sorts-many, ← ef, le-leb (suc n) from k)
 
     pub sort-to : a < 8 → from ≤ n → n < to → 6 ≡ codeFor rs p sort
     unfolding codeFor wrongLength tooMany outOfRange
-    sort-to l k j = simp (eq-eqb (length p) 4 h, ix .counted, lt-leb 64 n m, large, lt-leb 8 a l, sorts-many, ← ef, ← et, lt-leb (suc n) from (omega arith), le-leb (suc n) to j)
+    sort-to l k j = simp (eq-eqb (length p) 4 h, ix .counted, lt-leb maxSorts n m, large, lt-leb 8 a l, sorts-many, ← ef, ← et, lt-leb (suc n) from (omega arith), le-leb (suc n) to j)
 
     pub sort-rest : a < 8 → from ≤ n → to ≤ n → (r : Bool) → Repeats file index 0 n p r → codeFor rs p sort ≡ (if r then 7 else 0)
     unfolding codeFor wrongLength tooMany outOfRange misplaced
     sort-rest l k j r rep =
-        simp (eq-eqb (length p) 4 h, ix .counted, lt-leb 64 n m, large, lt-leb 8 a l, sorts-many, ← ef, ← et, lt-leb (suc n) from (omega arith), lt-leb (suc n) to (omega arith), ← rep sort rs refl ix (omega arith) (omega arith))
+        simp (eq-eqb (length p) 4 h, ix .counted, lt-leb maxSorts n m, large, lt-leb 8 a l, sorts-many, ← ef, ← et, lt-leb (suc n) from (omega arith), lt-leb (suc n) to (omega arith), ← rep sort rs refl ix (omega arith) (omega arith))
 
 -- the argument count of a listed sort
 pub arguments-none : (lens : List ℕ) (n s : ℕ) → n < s → 0 ≡ (if leb s n then getD lens s 0 else 0)

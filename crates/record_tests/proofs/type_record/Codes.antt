@@ -13,6 +13,7 @@ use Rattle.casefile.specs.Records.{Record}
 use Rattle.casefile.specs.Kinds.{type, count}
 use Rattle.casefile.specs.Tables.{stateCount, words}
 use Rattle.casefile.specs.Refusals.{wrongLength, tooMany, tooLarge, outOfRange, misplaced, ascends, repeats}
+use Rattle.index.specs.layout.Layout.{maxTypes, maxType}
 use Rattle.index.specs.entries.Codes.{codeFor}
 use Rattle.index.specs.entries.Tests.{TestsType}
 use Rattle.index.specs.chains.Listing.{Listed}
@@ -28,7 +29,7 @@ module _ (n states : ℕ) (p : List ℕ) where
   unfolding orRepeat
   refuses r h = record { decides = h; few = λ z. absurd (omega arith) }
 
-  passes : n < 1024 → length p ≤ 34 → ((rs : List Record) → count type rs ≡ n → stateCount rs ≡ states → codeFor rs p type ≡ (if repeats rs p type then 7 else 0)) → CodesAlone n states p 0
+  passes : n < maxTypes → length p ≤ maxType → ((rs : List Record) → count type rs ≡ n → stateCount rs ≡ states → codeFor rs p type ≡ (if repeats rs p type then 7 else 0)) → CodesAlone n states p 0
   unfolding orRepeat
   passes m l h = record { decides = h; few = λ z. (m, l) }
 
@@ -38,17 +39,17 @@ module _ (n states : ℕ) (p : List ℕ) where
     unfolding wrongLength
     right-length = simp (eq-eqb (length p) 1 h)
 
-    pub state-many : 1024 ≤ n → CodesAlone n states p 5
+    pub state-many : maxTypes ≤ n → CodesAlone n states p 5
     unfolding codeFor tooMany
-    state-many m = refuses 4 (λ rs c st. simp (right-length, c, le-leb 1024 n m))
+    state-many m = refuses 4 (λ rs c st. simp (right-length, c, le-leb maxTypes n m))
 
-    pub state-range : n < 1024 → (q : ℕ) → q ≡ byte p 0 → states ≤ q → CodesAlone n states p 6
+    pub state-range : n < maxTypes → (q : ℕ) → q ≡ byte p 0 → states ≤ q → CodesAlone n states p 6
     unfolding codeFor tooMany tooLarge outOfRange
-    state-range m q e l = refuses 5 (λ rs c st. simp (right-length, c, lt-leb 1024 n m, eq-eqb (length p) 1 h, st, ← e, le-leb states q l))
+    state-range m q e l = refuses 5 (λ rs c st. simp (right-length, c, lt-leb maxTypes n m, eq-eqb (length p) 1 h, st, ← e, le-leb states q l))
 
-    pub state-alone : n < 1024 → (q : ℕ) → q ≡ byte p 0 → q < states → CodesAlone n states p 0
+    pub state-alone : n < maxTypes → (q : ℕ) → q ≡ byte p 0 → q < states → CodesAlone n states p 0
     unfolding codeFor tooMany tooLarge outOfRange misplaced
-    state-alone m q e l = passes m (omega arith) (λ rs c st. simp (right-length, c, lt-leb 1024 n m, eq-eqb (length p) 1 h, st, ← e, lt-leb states q l, le-ltb 1 (length p) (omega arith)))
+    state-alone m q e l = passes m (omega arith) (λ rs c st. simp (right-length, c, lt-leb maxTypes n m, eq-eqb (length p) 1 h, st, ← e, lt-leb states q l, le-ltb 1 (length p) (omega arith)))
 
   -- an arrow
   module _ (ne : length p ≡ 1 → ⊥) where
@@ -56,36 +57,36 @@ module _ (n states : ℕ) (p : List ℕ) where
     unfolding codeFor wrongLength
     arrow-short h = refuses 3 (λ rs c st. simp (ne-eqb (length p) 1 ne, lt-leb 2 (length p) h))
 
-    pub arrow-long : 2 ≤ length p → 34 < length p → CodesAlone n states p 4
+    pub arrow-long : 2 ≤ length p → maxType < length p → CodesAlone n states p 4
     unfolding codeFor wrongLength
-    arrow-long h l = refuses 3 (λ rs c st. simp (ne-eqb (length p) 1 ne, le-leb 2 (length p) h, lt-leb (length p) 34 l))
+    arrow-long h l = refuses 3 (λ rs c st. simp (ne-eqb (length p) 1 ne, le-leb 2 (length p) h, lt-leb (length p) maxType l))
 
-    pub arrow-odd : 2 ≤ length p → length p ≤ 34 → (length p % 2 ≡ 0 → ⊥) → CodesAlone n states p 4
+    pub arrow-odd : 2 ≤ length p → length p ≤ maxType → (length p % 2 ≡ 0 → ⊥) → CodesAlone n states p 4
     unfolding codeFor wrongLength
-    arrow-odd h l e = refuses 3 (λ rs c st. simp (ne-eqb (length p) 1 ne, le-leb 2 (length p) h, le-leb (length p) 34 l, ne-eqb (length p % 2) 0 e))
+    arrow-odd h l e = refuses 3 (λ rs c st. simp (ne-eqb (length p) 1 ne, le-leb 2 (length p) h, le-leb (length p) maxType l, ne-eqb (length p % 2) 0 e))
 
-    module _ (h : 2 ≤ length p) (l : length p ≤ 34) (e : length p % 2 ≡ 0) where
+    module _ (h : 2 ≤ length p) (l : length p ≤ maxType) (e : length p % 2 ≡ 0) where
       even-length : wrongLength type (length p) ≡ false
       unfolding wrongLength
-      even-length = simp (ne-eqb (length p) 1 ne, le-leb 2 (length p) h, le-leb (length p) 34 l, eq-eqb (length p % 2) 0 e)
+      even-length = simp (ne-eqb (length p) 1 ne, le-leb 2 (length p) h, le-leb (length p) maxType l, eq-eqb (length p % 2) 0 e)
 
-      pub arrow-many : 1024 ≤ n → CodesAlone n states p 5
+      pub arrow-many : maxTypes ≤ n → CodesAlone n states p 5
       unfolding codeFor tooMany
-      arrow-many m = refuses 4 (λ rs c st. simp (even-length, c, le-leb 1024 n m))
+      arrow-many m = refuses 4 (λ rs c st. simp (even-length, c, le-leb maxTypes n m))
 
-      module _ (m : n < 1024) (later : Bool) (el : later ≡ any (λ (t : ℕ). leb n t) (words p)) where
+      module _ (m : n < maxTypes) (later : Bool) (el : later ≡ any (λ (t : ℕ). leb n t) (words p)) where
         pub arrow-later : later ≡ true → CodesAlone n states p 6
         unfolding codeFor tooMany tooLarge outOfRange
-        arrow-later e = refuses 5 (λ rs c st. simp (even-length, c, lt-leb 1024 n m, ne-eqb (length p) 1 ne, ← el, e))
+        arrow-later e = refuses 5 (λ rs c st. simp (even-length, c, lt-leb maxTypes n m, ne-eqb (length p) 1 ne, ← el, e))
 
         module _ (el′ : later ≡ false) (up : Bool) (eu : up ≡ ascends (words (drop 2 p))) where
           pub arrow-down : up ≡ false → CodesAlone n states p 7
           unfolding codeFor tooMany tooLarge outOfRange misplaced
-          arrow-down e = refuses 6 (λ rs c st. simp (even-length, c, lt-leb 1024 n m, ne-eqb (length p) 1 ne, ← el, el′, lt-ltb 1 (length p) h, ← eu, e))
+          arrow-down e = refuses 6 (λ rs c st. simp (even-length, c, lt-leb maxTypes n m, ne-eqb (length p) 1 ne, ← el, el′, lt-ltb 1 (length p) h, ← eu, e))
 
           pub arrow-alone : up ≡ true → CodesAlone n states p 0
           unfolding codeFor tooMany tooLarge outOfRange misplaced
-          arrow-alone e = passes m l (λ rs c st. simp (even-length, c, lt-leb 1024 n m, ne-eqb (length p) 1 ne, ← el, el′, lt-ltb 1 (length p) h, ← eu, e))
+          arrow-alone e = passes m l (λ rs c st. simp (even-length, c, lt-leb maxTypes n m, ne-eqb (length p) 1 ne, ← el, el′, lt-ltb 1 (length p) h, ← eu, e))
 
 -- The payload and the types before it.
 module _ (file index : List ℕ) (n states : ℕ) (p : List ℕ) (r : ℕ) (alone : CodesAlone n states p r) where

@@ -9,6 +9,7 @@ use Rattle.casefile.specs.Records.{Record}
 use Rattle.casefile.specs.Kinds.{type, count}
 use Rattle.casefile.specs.Tables.{stateCount}
 use Rattle.casefile.specs.Refusals.{repeats}
+use Rattle.index.specs.layout.Layout.{maxTypes, maxType}
 use Rattle.index.specs.entries.Codes.{codeFor}
 
 -- a code other than 0 stands; where it is 0, a repeat is refused by 7
@@ -19,4 +20,4 @@ orRepeat (suc r) again = suc r
 -- r and whether the payload is repeated decide; where r is 0, the payload and the types before it are few
 pub record CodesAlone (n states : ℕ) (p : List ℕ) (r : ℕ) : Type 0 where
   pub decides : (rs : List Record) → count type rs ≡ n → stateCount rs ≡ states → codeFor rs p type ≡ orRepeat r (repeats rs p type)
-  pub few : r ≡ 0 → (n < 1024) × (length p ≤ 34)
+  pub few : r ≡ 0 → (n < maxTypes) × (length p ≤ maxType)

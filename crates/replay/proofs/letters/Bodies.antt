@@ -14,6 +14,7 @@ use Rattle.casefile.specs.Kinds.{Kind, payloads}
 use Rattle.casefile.specs.Tables.{headOf, nodesOf, bodyOf, planOf}
 use Rattle.casefile.proofs.Cells.{nodeAt, nodes-length, nodes-drop}
 use Rattle.casefile.proofs.TypeTable.{count-payloads}
+use Rattle.index.specs.layout.Layout.{rulesAt}
 use Rattle.index.specs.Wholes.{Whole, Bodies}
 use Rattle.closures.specs.closures.Nodes.{headBy, NodeAt, NodesAt}
 
@@ -61,7 +62,7 @@ module _ {file index : List ℕ} {rules : ℕ} {rs : List Record} (b : Bodies fi
   rule-none h = List·getD-eq-default (map bodyOf (payloads Kind.rule rs)) (node (nt f) []ᵗ) (let c = rule-count in let m = length-map (payloads Kind.rule rs) bodyOf in omega arith)
 
   -- the body of a rule stands where the index says
-  pub rule-there : f < rules → (place : ℕ) → place ≡ getD index (352 + f) 0 → place < 65536 → NodesAt file place (flat (body (planOf rs) f))
+  pub rule-there : f < rules → (place : ℕ) → place ≡ getD index (rulesAt + f) 0 → place < 65536 → NodesAt file place (flat (body (planOf rs) f))
   rule-there h place e small =
       subst (λ (t : Term). NodesAt file place (flat t)) (sym (rule-body h))
       (term-there file (getD (payloads Kind.rule rs) f []) place small

@@ -37,6 +37,7 @@ use Rattle.replay.specs.declared.letters.Step.{Step}
 use Rattle.replay.specs.declared.letters.Step.the-variants.{Lost, TooLarge, At}
 use Rattle.replay.proofs.letters.Bodies.{rule-none, rule-there}
 use Rattle.replay.proofs.letters.Arguments.{descend-some}
+use Rattle.index.specs.layout.Layout.{maxTerm, rulesAt, nodeUnits, placeUnits, countUnits, blockUnits, countUnit, blockUnit}
 
 -- the letters that lead nowhere
 module _ (aut : Automaton) (plan : Plan) (tag number : ℕ) (ts : Terms) (q : ℕ) where
@@ -65,11 +66,11 @@ module _ (aut : Automaton) (plan : Plan) (tag number : ℕ) (ts : Terms) (q : �
   descended i (par j) e k = let z = parameter-tag tag number j e .0 in absurd (omega arith)
 
 -- a term within the limit, or after a letter that is not 0
-within-limit : (t : Term) → nodes t ≤ 4096 → exceeds 4096 0 t ≡ false
+within-limit : (t : Term) → nodes t ≤ maxTerm → exceeds maxTerm 0 t ≡ false
 unfolding exceeds
-within-limit t h = rw (le-ltb 4096 (nodes t) h)
+within-limit t h = rw (le-ltb maxTerm (nodes t) h)
 
-not-weighed : (i : ℕ) (t : Term) → exceeds 4096 (suc i) t ≡ false
+not-weighed : (i : ℕ) (t : Term) → exceeds maxTerm (suc i) t ≡ false
 unfolding exceeds
 not-weighed i t = rw (ne-eqb (suc i) 0 (λ z. omega arith))
 
@@ -78,7 +79,7 @@ unfolding argumentsᵗ
 few-there rs ok (node h ts) e = few-arguments rs ok h ts o e
 
 -- the term in front, gathered, is held in block `top`
-held-front : {file cells : List ℕ} {top q : ℕ} (front : Front) {t : Term} → IsFront file cells top front t → nodes t ≤ 4096
+held-front : {file cells : List ℕ} {top q : ℕ} (front : Front) {t : Term} → IsFront file cells top front t → nodes t ≤ maxTerm
     → Holding file cells (top + 1) (record { tag = front .tag; number = front .number; block = top; count = front .count; state = q }) t q
 held-front front w size = record { head = w .head; arguments = w .arguments; is = w .is; head-is = w .head-is; frame = w .frame; lower = omega arith; size = size; state-is = refl }
 
@@ -120,7 +121,7 @@ module _ (file index : List ℕ) (rules : ℕ) (cells : List ℕ) (held : Held) 
               let h = w .holding in
               let f = held .number in
               let z : put (h .arguments) (body (planOf rs) f) ≡ node (nt f) []ᵗ = ap (put (h .arguments)) (rule-none (s .bodies) f l) ∙ put-nonterminal (h .arguments) f in
-              let size : nodes (put (h .arguments) (body (planOf rs) f)) ≤ 4096 = let n = ap nodes z ∙ nodes-nonterminal f in omega arith in (
+              let size : nodes (put (h .arguments) (body (planOf rs) f)) ≤ maxTerm = let n = ap nodes z ∙ nodes-nonterminal f in omega arith in (
                 record { term = put (h .arguments) (body (planOf rs) f); state = q },
                 next-is rs t q h,
                 within-limit (put (h .arguments) (body (planOf rs) f)) size,
@@ -131,7 +132,7 @@ module _ (file index : List ℕ) (rules : ℕ) (cells : List ℕ) (held : Held) 
     pub unfold-over : 256 ≤ held .number → held .number < rules → Unfolds file index rules cells cells held top Lost
     unfold-over l m = record { long = refl; leads = λ constructors table rs s t q w. absurd (omega (arith, s .few-rules)) }
 
-    module _ (l : held .number < rules) (at : ℕ) (ea : at ≡ getD index (352 + held .number) 0) (small : at < 65536) (front : Front) {cells′ : List ℕ} (gathers : Gathers file cells cells′ at (held .block) (held .count) top front) where
+    module _ (l : held .number < rules) (at : ℕ) (ea : at ≡ getD index (rulesAt + held .number) 0) (small : at < 65536) (front : Front) {cells′ : List ℕ} (gathers : Gathers file cells cells′ at (held .block) (held .count) top front) where
       -- the body with the arguments put
       module _ (constructors : ℕ) (table : List (List (List ℕ))) (rs : List Record) (s : Replaying file index rules constructors table rs) (t : Term) (q : ℕ) (w : Ready file cells rs held top t q) where
         next : Term
@@ -157,11 +158,11 @@ module _ (file index : List ℕ) (rules : ℕ) (cells : List ℕ) (held : Held) 
         unfolding next
         next-size = gathers .total (body (planOf rs) (held .number)) (w .holding .arguments) gatherable
 
-        next-front : nodes next ≤ 4096 → IsFront file cells′ top front next
+        next-front : nodes next ≤ maxTerm → IsFront file cells′ top front next
         unfolding next
         next-front size = gathers .gathers (body (planOf rs) (held .number)) (w .holding .arguments) gatherable (omega arith)
 
-      pub unfold-large : 4096 < front .nodes → Unfolds file index rules cells cells′ held top TooLarge
+      pub unfold-large : maxTerm < front .nodes → Unfolds file index rules cells cells′ held top TooLarge
       unfolding LeadsTo
       unfold-large m =
           record {
@@ -170,14 +171,14 @@ module _ (file index : List ℕ) (rules : ℕ) (cells : List ℕ) (held : Held) 
                 (refl, (record { term = next constructors table rs s t q w; state = q }, next-there constructors table rs s t q w, next-size constructors table rs s t q w .over m));
           }
 
-      pub unfold-does : front .nodes ≤ 4096 → Unfolds file index rules cells cells′ held top (At (record { tag = front .tag; number = front .number; block = top; count = front .count; state = held .state }))
+      pub unfold-does : front .nodes ≤ maxTerm → Unfolds file index rules cells cells′ held top (At (record { tag = front .tag; number = front .number; block = top; count = front .count; state = held .state }))
       unfolding LeadsTo
       unfold-does m =
           record {
             long = gathers .long;
             leads = λ constructors table rs s t q w.
                 let u = next constructors table rs s t q w in
-                let size : nodes u ≤ 4096 = let e = next-size constructors table rs s t q w .exact m in omega arith in (
+                let size : nodes u ≤ maxTerm = let e = next-size constructors table rs s t q w .exact m in omega arith in (
                   record { term = u; state = q },
                   next-there constructors table rs s t q w,
                   within-limit u size,
@@ -221,7 +222,7 @@ module _ {file index : List ℕ} {constructors : ℕ} {row cells : List ℕ} {he
         }
 
     module _ (e : r ≡ 256 → ⊥) (v : ℕ) (cell : IsClosureAt cells (held .block) (held .count) i v) (front : Front) {cells′ : List ℕ}
-        (gathers : Gathers file cells cells′ (v / 8192 % 131072) (v / 17179869184) (v / 1073741824 % 16) top front) where
+        (gathers : Gathers file cells cells′ (v / nodeUnits % placeUnits) (v / blockUnit) (v / countUnit % countUnits) top front) where
       next-at : (rules : ℕ) (table : List (List (List ℕ))) (rs : List Record) → Replaying file index rules constructors table rs → IsRow table constructors (held .state) (held .number) row → (t : Term) (q : ℕ) (h : Holding file cells top held t q)
           → Replay.follow (automatonOf rs) (planOf rs) (suc i) t q ≡ some (record { term = termAt (h .arguments) i lone; state = r })
       next-at rules table rs s is-row t q h =
@@ -230,14 +231,14 @@ module _ {file index : List ℕ} {constructors : ℕ} {row cells : List ℕ} {he
           let four = is-row .four rs (s .table-is) in
           by-row rules table rs s is-row t q h ∙ descend-some i (h .arguments) row arity lone there (omega arith) inside (omega arith) ∙ ap (λ p. some (record { term = termAt (h .arguments) i lone; state = p })) is
 
-      closure-there : (t : Term) (q : ℕ) (h : Holding file cells top held t q) → top < 1048576 → Closure file cells (held .block) v (termAt (h .arguments) i lone)
+      closure-there : (t : Term) (q : ℕ) (h : Holding file cells top held t q) → top < blockUnits → Closure file cells (held .block) v (termAt (h .arguments) i lone)
       closure-there t q h few =
           let (there, below, inside, four, same) = is-target .goes e in
           let l = h .lower in
           let is : v ≡ getD cells _ 0 = cell (omega arith) (h .frame .few) below in
           subst (λ u. Closure file cells (held .block) u (termAt (h .arguments) i lone)) (sym is) (h .frame .closures i below)
 
-      small-there : (t : Term) (q : ℕ) (h : Holding file cells top held t q) → nodes (termAt (h .arguments) i lone) ≤ 4096
+      small-there : (t : Term) (q : ℕ) (h : Holding file cells top held t q) → nodes (termAt (h .arguments) i lone) ≤ maxTerm
       small-there t q h =
           let (there, below, inside, few, is) = is-target .goes e in
           let c = h .frame .counted in

@@ -39,6 +39,7 @@ use Rattle.casefile.specs.PathCases.{refutedPath, pathAnswer, replayed}
 use Rattle.replay.specs.replay.Replays.{pathAs, stoppedAt, Arrives, Runs}
 use Rattle.replay.specs.declared.replay.Replayed.{Replayed}
 use Rattle.replay.specs.declared.replay.Replayed.the-variants.{Refuted, Refused}
+use Rattle.index.specs.layout.Layout.{maxConstructors, maxLetters, maxTerm}
 
 -- the refusal of a letter
 module _ (s : Step) (i : ℕ) where
@@ -55,7 +56,7 @@ module _ (s : Step) (i : ℕ) where
   stop-none h e = sym (ap (λ x. stoppedAt x i) e)
 
 -- no row past the last constructor
-pub row-past-room : {table : List (List (List ℕ))} {constructors q c : ℕ} → 32 ≤ c → IsRow table constructors q c noRow
+pub row-past-room : {table : List (List (List ℕ))} {constructors q c : ℕ} → maxConstructors ≤ c → IsRow table constructors q c noRow
 row-past-room {table} {constructors} {q} {c} h =
     record {
       targets = λ rs ok t e few. let w : IsRow table constructors q c noRow = row-past-constructors (omega arith) in w .targets rs ok t e few;
@@ -122,13 +123,13 @@ pub record Onward (file : List ℕ) (path cells : List ℕ) (held : Held) (i : �
   pub state : ℕ
   pub holding : Holding file cells (i + 1) held term state
   pub sorted : sortOf (closedSorts rs) term ≡ some o
-  pub same : replay 4096 (automatonOf rs) (planOf rs) i (drop i path) term state ≡ replay 4096 (automatonOf rs) (planOf rs) 0 path start 0
+  pub same : replay maxTerm (automatonOf rs) (planOf rs) i (drop i path) term state ≡ replay maxTerm (automatonOf rs) (planOf rs) 0 path start 0
 
 -- while the letters are followed
 pub record Running (file index : List ℕ) (rules constructors : ℕ) (table : List (List (List ℕ))) (path cells₀ cells : List ℕ) (held : Held) (i : ℕ) : Type 0 where
   pub upTo : i ≤ length path
   pub long : length cells ≡ length cells₀
-  pub onward : (rs : List Record) → Replaying file index rules constructors table rs → length path * 8 + 8 ≤ length cells₀ → length path ≤ 4096 → Onward file path cells held i rs
+  pub onward : (rs : List Record) → Replaying file index rules constructors table rs → length path * 8 + 8 ≤ length cells₀ → length path ≤ maxLetters → Onward file path cells held i rs
 
 abbrev pub startHeld : Held
 startHeld = record { tag = 1; number = 0; block = 0; count = 0; state = 0 }
@@ -153,12 +154,12 @@ byte-get s i = omega arith
 module _ {file index : List ℕ} {rules constructors : ℕ} {table : List (List (List ℕ))} {path cells₀ cells : List ℕ} {held : Held} {i : ℕ} (w : Running file index rules constructors table path cells₀ cells held i) where
   module _ (h : i < length path) (letter : ℕ) (el : letter ≡ byte path i) (cells′ : List ℕ) (step : Step) (i′ : ℕ) (ei : i′ ≡ i + 1) (row : List ℕ) (is-row : IsRow table constructors (held .state) (held .number) row) (follows : Follows file index rules constructors row cells cells′ held letter i′ step) where
     -- the letters from number i on are this one and the others
-    one-more : (rs : List Record) (t : Term) (q : ℕ) → replay 4096 (automatonOf rs) (planOf rs) i (drop i path) t q
-        ≡ followed 4096 i letter (λ a. replay 4096 (automatonOf rs) (planOf rs) (i + 1) (drop (suc i) path) (a .term) (a .state)) (follow (automatonOf rs) (planOf rs) letter t q)
+    one-more : (rs : List Record) (t : Term) (q : ℕ) → replay maxTerm (automatonOf rs) (planOf rs) i (drop i path) t q
+        ≡ followed maxTerm i letter (λ a. replay maxTerm (automatonOf rs) (planOf rs) (i + 1) (drop (suc i) path) (a .term) (a .state)) (follow (automatonOf rs) (planOf rs) letter t q)
     unfolding replay
-    one-more rs t q = ap (λ l. replay 4096 (automatonOf rs) (planOf rs) i l t q) (drop-cons path i 0 h ∙ ap (_∷ drop (suc i) path) (sym (el ∙ byte-get path i)))
+    one-more rs t q = ap (λ l. replay maxTerm (automatonOf rs) (planOf rs) i l t q) (drop-cons path i 0 h ∙ ap (_∷ drop (suc i) path) (sym (el ∙ byte-get path i)))
 
-    reached : (rs : List Record) → Replaying file index rules constructors table rs → length path * 8 + 8 ≤ length cells₀ → length path ≤ 4096 → (x : Onward file path cells held i rs)
+    reached : (rs : List Record) → Replaying file index rules constructors table rs → length path * 8 + 8 ≤ length cells₀ → length path ≤ maxLetters → (x : Onward file path cells held i rs)
         → LeadsTo file cells′ i′ letter (follow (automatonOf rs) (planOf rs) letter (x .term) (x .state)) step
     reached rs s room short x =
         follows .leads table rs s is-row (x .term) (x .state)
@@ -180,22 +181,22 @@ module _ {file index : List ℕ} {rules constructors : ℕ} {table : List (List 
                 holding = y;
                 sorted = follow-sorted rs (s .flags) (s .passed) (s .whole) letter (x .term) (x .state) a (x .sorted) eo;
                 same =
-                    ap (λ j. replay 4096 (automatonOf rs) (planOf rs) j (drop j path) (a .term) (a .state)) e
-                    ∙ ap (λ j. replay 4096 (automatonOf rs) (planOf rs) j (drop (suc i) path) (a .term) (a .state)) (sym e ∙ ei)
-                    ∙ sym (ap (λ b. if b then outgrown i else replay 4096 (automatonOf rs) (planOf rs) (i + 1) (drop (suc i) path) (a .term) (a .state)) limit)
-                    ∙ sym (ap (followed 4096 i letter (λ a. replay 4096 (automatonOf rs) (planOf rs) (i + 1) (drop (suc i) path) (a .term) (a .state))) eo)
+                    ap (λ j. replay maxTerm (automatonOf rs) (planOf rs) j (drop j path) (a .term) (a .state)) e
+                    ∙ ap (λ j. replay maxTerm (automatonOf rs) (planOf rs) j (drop (suc i) path) (a .term) (a .state)) (sym e ∙ ei)
+                    ∙ sym (ap (λ b. if b then outgrown i else replay maxTerm (automatonOf rs) (planOf rs) (i + 1) (drop (suc i) path) (a .term) (a .state)) limit)
+                    ∙ sym (ap (followed maxTerm i letter (λ a. replay maxTerm (automatonOf rs) (planOf rs) (i + 1) (drop (suc i) path) (a .term) (a .state))) eo)
                     ∙ sym (one-more rs (x .term) (x .state))
                     ∙ x .same;
               };
         }
 
     -- a letter that does not lead to a term within the limit
-    stop-at : (s : Step) → OneOf (0 ∷ 1 ∷ []) (tagOf the-type s) → (a : Option Replay.At) (others : Replay.At → Ending) → LeadsTo file cells′ i′ letter a s → pathAs (stoppedAt s i) ≡ pathAnswer (followed 4096 i letter others a)
+    stop-at : (s : Step) → OneOf (0 ∷ 1 ∷ []) (tagOf the-type s) → (a : Option Replay.At) (others : Replay.At → Ending) → LeadsTo file cells′ i′ letter a s → pathAs (stoppedAt s i) ≡ pathAnswer (followed maxTerm i letter others a)
     unfolding followed LeadsTo pathAs stoppedAt pathAnswer exceeds
-    stop-at Lost keys a others e = ap (λ x. pathAnswer (followed 4096 i letter others x)) (sym e)
+    stop-at Lost keys a others e = ap (λ x. pathAnswer (followed maxTerm i letter others x)) (sym e)
     stop-at TooLarge keys a others (z, (b, eo, large)) =
-        let over : exceeds 4096 letter (b .term) ≡ true = rw (eq-eqb letter 0 z, lt-ltb 4096 (nodes (b .term)) large) in
-        sym (ap (λ x. pathAnswer (followed 4096 i letter others x)) eo ∙ ap (λ c. pathAnswer (if c then outgrown i else others b)) over)
+        let over : exceeds maxTerm letter (b .term) ≡ true = rw (eq-eqb letter 0 z, lt-ltb maxTerm (nodes (b .term)) large) in
+        sym (ap (λ x. pathAnswer (followed maxTerm i letter others x)) eo ∙ ap (λ c. pathAnswer (if c then outgrown i else others b)) over)
     stop-at (At next) keys a others x = absurd (⊎-elim (λ (e : 2 ≡ 0). omega arith) (λ (e : 2 ≡ 1). omega arith) keys)
 
     pub run-stop : OneOf (0 ∷ 1 ∷ []) (tagOf the-type step) → (r : Replayed) → r ≡ stoppedAt step i → Runs file index rules constructors table path cells₀ r
@@ -205,7 +206,7 @@ module _ {file index : List ℕ} {rules constructors : ℕ} {table : List (List 
           answer = λ rs s room short.
               let x = w .onward rs s room short in
               ap pathAs er
-              ∙ stop-at step keys (follow (automatonOf rs) (planOf rs) letter (x .term) (x .state)) (λ a. replay 4096 (automatonOf rs) (planOf rs) (i + 1) (drop (suc i) path) (a .term) (a .state)) (reached rs s room short x)
+              ∙ stop-at step keys (follow (automatonOf rs) (planOf rs) letter (x .term) (x .state)) (λ a. replay maxTerm (automatonOf rs) (planOf rs) (i + 1) (drop (suc i) path) (a .term) (a .state)) (reached rs s room short x)
               ∙ ap pathAnswer (sym (one-more rs (x .term) (x .state)) ∙ x .same);
         }
 
@@ -218,5 +219,5 @@ module _ {file index : List ℕ} {rules constructors : ℕ} {table : List (List 
             let x = w .onward rs s room short in
             let e : drop i path ≡ [] = drop-of-length-le path h in
             arrives .answer file index rules rs s cells (i + 1) (x .term) (x .state) (x .holding)
-            ∙ ap pathAnswer (sym (ap (λ l. replay 4096 (automatonOf rs) (planOf rs) i l (x .term) (x .state)) e) ∙ x .same);
+            ∙ ap pathAnswer (sym (ap (λ l. replay maxTerm (automatonOf rs) (planOf rs) i l (x .term) (x .state)) e) ∙ x .same);
       }

@@ -16,6 +16,7 @@ use Rattle.casefile.specs.Tables.{planOf, automatonOf}
 use Rattle.casefile.specs.Refusals.{refuseWhole}
 use Rattle.casefile.specs.Promises.{Passed}
 use Rattle.casefile.specs.Sorted.{closedSorts}
+use Rattle.index.specs.layout.Layout.{maxConstructors, maxNonterminals, maxTerm, blockUnits}
 use Rattle.index.specs.entries.Index.{Indexed}
 use Rattle.index.specs.Wholes.{Bodies}
 use Rattle.transitions.specs.table.Moves.{targetsIn, TableFor}
@@ -32,9 +33,9 @@ pub record Replaying (file index : List ℕ) (rules constructors : ℕ) (table :
   pub flags : ℕ
   pub whole : refuseWhole rs flags ≡ none
   pub bodies : Bodies file index rules rs
-  pub few-rules : rules ≤ 256
+  pub few-rules : rules ≤ maxNonterminals
   pub constructors-there : Indexed file index Kind.constructor constructors rs
-  pub few-constructors : constructors ≤ 32
+  pub few-constructors : constructors ≤ maxConstructors
   pub table-is : TableFor rs table
 
 -- a term is held, at a state: its head, and its arguments in a block below `top`
@@ -45,18 +46,18 @@ pub record Holding (file cells : List ℕ) (top : ℕ) (held : Held) (t : Term) 
   pub head-is : headBy (held .tag) (held .number) ≡ head
   pub frame : Frame file cells (held .block) (held .count) arguments
   pub lower : held .block < top
-  pub size : nodes t ≤ 4096
+  pub size : nodes t ≤ maxTerm
   pub state-is : held .state ≡ q
 
 -- what a letter leads to, the next term's arguments being in block `top`
 unfoldable pub LeadsTo : List ℕ → List ℕ → ℕ → ℕ → Option Replay.At → Step → Type 0
 LeadsTo file cells top letter a Lost = a ≡ none
-LeadsTo file cells top letter a TooLarge = (letter ≡ 0) × ((b : Replay.At) × (a ≡ some b) × (4096 < nodes (b .term)))
-LeadsTo file cells top letter a (At next) = (b : Replay.At) × (a ≡ some b) × (exceeds 4096 letter (b .term) ≡ false) × Holding file cells (top + 1) next (b .term) (b .state)
+LeadsTo file cells top letter a TooLarge = (letter ≡ 0) × ((b : Replay.At) × (a ≡ some b) × (maxTerm < nodes (b .term)))
+LeadsTo file cells top letter a (At next) = (b : Replay.At) × (a ≡ some b) × (exceeds maxTerm letter (b .term) ≡ false) × Holding file cells (top + 1) next (b .term) (b .state)
 
 -- a sorted term is held, and there is room for the next term's arguments
 pub record Ready (file cells : List ℕ) (rs : List Record) (held : Held) (top : ℕ) (t : Term) (q : ℕ) : Type 0 where
-  pub few : top < 1048576
+  pub few : top < blockUnits
   pub room : top * 8 + 8 ≤ length cells
   pub sorted : sortOf (closedSorts rs) t ≡ some o
   pub holding : Holding file cells top held t q

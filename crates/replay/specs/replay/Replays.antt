@@ -13,6 +13,7 @@ use Rattle.casefile.specs.Kinds.{Kind, payloads, count}
 use Rattle.casefile.specs.Tables.{planOf, automatonOf}
 use Rattle.casefile.specs.Refusals.{refuseWhole}
 use Rattle.casefile.specs.Promises.{Passed}
+use Rattle.index.specs.layout.Layout.{maxLetters, pathAt}
 use Rattle.index.specs.entries.Known.{Known}
 use Rattle.index.specs.lookup.Lookup.{entryOf}
 use Rattle.replay.specs.letters.Letters.{Replaying, Holding}
@@ -41,7 +42,7 @@ pub record Arrives (table : List (List (List ℕ))) (constructors : ℕ) (held :
 
 -- the answer to a path, where there is a block of cells for the start symbol and one for each letter
 pub record Runs (file index : List ℕ) (rules constructors : ℕ) (table : List (List (List ℕ))) (path cells : List ℕ) (r : Replayed) : Type 0 where
-  pub answer : (rs : List Record) → Replaying file index rules constructors table rs → length path * 8 + 8 ≤ length cells → length path ≤ 4096
+  pub answer : (rs : List Record) → Replaying file index rules constructors table rs → length path * 8 + 8 ≤ length cells → length path ≤ maxLetters
       → pathAs r ≡ replayed (automatonOf rs) (planOf rs) path
 
 -- the answer to the path of a file, whose records all passed and which 8 to 12 do not refuse
@@ -51,7 +52,7 @@ pub record ReplaysPath (file index counts : List ℕ) (r : Replayed) : Type 0 wh
 
 -- whether the path of a file, by its index, has at most 64 letters
 unfoldable pub isShort : List ℕ → List ℕ → Bool
-isShort file index = leb (length (entryOf file index 3169)) 64
+isShort file index = leb (length (entryOf file index pathAt)) 64
 
 -- the same for a path of at most 64 letters
 pub record ReplaysShort (file index counts : List ℕ) (r : Replayed) : Type 0 where

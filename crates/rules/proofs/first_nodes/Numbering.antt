@@ -7,11 +7,12 @@ use mathlib.Core.Path.{_≡_, refl, sym, ap, _∙_}
 use mathlib.Core.List.{List}
 use lib.ListN.{length, getD, set, length-set}
 use lib.Seq.{getD-set-same, getD-set-other}
-use Rattle.casefile.specs.Fields.{word}
 use Rattle.casefile.specs.Records.{Record}
 use Rattle.casefile.specs.Kinds.{Kind, payloads}
 use Rattle.casefile.specs.Promises.{Passed}
 use Rattle.casefile.proofs.TypeTable.{count-payloads}
+use Rattle.records.specs.fields.Promises.{HasLength}
+use Rattle.index.specs.layout.Layout.{maxNonterminals, maxNodes, maxBody, rulesAt, mostNodesAt, rowsSize}
 use Rattle.index.specs.entries.Index.{Indexed}
 use Rattle.rules.specs.reading.RuleBodies.{nodesIn, ruleOf, firstNode}
 use Rattle.rules.proofs.reading.AllRules.{nodes-more}
@@ -23,42 +24,39 @@ rule-there {rules = rules} {rs = rs} ix f h = let many = sym (count-payloads Kin
 
 -- the nodes of one rule
 module _ {file index : List ℕ} {f : ℕ} where
-  nodes-not : ((rules : ℕ) (rs : List Record) → Passed rs → Indexed file index Kind.rule rules rs → rules ≤ 256 → f < rules → ⊥) → CountsNodes file index f 0
+  nodes-not : ((rules : ℕ) (rs : List Record) → Passed rs → Indexed file index Kind.rule rules rs → rules ≤ maxNonterminals → f < rules → ⊥) → CountsNodes file index f 0
   nodes-not z = record { few = omega arith; nodes = λ rules rs ok ix l h. absurd (z rules rs ok ix l h) }
 
   pub nodes-none : 255 < f → CountsNodes file index f 0
   nodes-none x = nodes-not (λ rules rs ok ix l h. omega arith)
 
-  module _ (place : ℕ) (ep : place ≡ getD index (352 + f) 0) where
-    pub nodes-header : place < 4 → CountsNodes file index f 0
-    nodes-header x = nodes-not (λ rules rs ok ix l h. let y : 4 ≤ getD index (352 + f) 0 = ix .behind-header f h in omega arith)
-
-    module _ (len : ℕ) (el : len ≡ word file (place - 4)) where
+  module _ (place : ℕ) (ep : place ≡ getD index (rulesAt + f) 0) where
+    module _ (len : ℕ) (el : HasLength file place len) where
       length-is : (rules : ℕ) (rs : List Record) → Indexed file index Kind.rule rules rs → f < rules → len ≡ length (ruleOf rs f)
       length-is rules rs ix h =
-          let y : 4 ≤ getD index (352 + f) 0 = ix .behind-header f h in
-          let z : (place - 4) + 4 ≡ getD index (352 + f) 0 = omega arith in
-          el ∙ ix .length-there f (place - 4) h z
+          let y : 4 ≤ getD index (rulesAt + f) 0 = ix .behind-header f h in
+          let z : (place - 4) + 4 ≡ getD index (rulesAt + f) 0 = omega arith in
+          el .headed (omega arith) ∙ ix .length-there f (place - 4) h z
 
-      pub nodes-long : 1024 < len → CountsNodes file index f 0
+      pub nodes-long : maxBody < len → CountsNodes file index f 0
       nodes-long x = nodes-not (λ rules rs ok ix l h. let y = rule-fits ok f (rule-there ix f h) in let z = length-is rules rs ix h in omega arith)
 
-      pub nodes-counted : len ≤ 1024 → CountsNodes file index f (len / 4)
+      pub nodes-counted : len ≤ maxBody → CountsNodes file index f (len / 4)
       nodes-counted x = record { few = omega arith; nodes = λ rules rs ok ix l h. ap (λ n. n / 4) (length-is rules rs ix h) }
 
 -- while the table is filled: the entries below f are in it, and the rules below f have so many nodes, none more than `most`
 pub record Sofar (file index : List ℕ) (rules : ℕ) (before after : List ℕ) (at most f : ℕ) : Type 0 where
-  pub few : rules ≤ 256
-  pub room : 257 ≤ length after
+  pub few : rules ≤ maxNonterminals
+  pub room : rowsSize ≤ length after
   pub long : length after ≡ length before
   pub upTo : f ≤ rules
-  pub small : at ≤ 256 * f
-  pub most-small : most ≤ 256
+  pub small : at ≤ maxNodes * f
+  pub most-small : most ≤ maxNodes
   pub counted : (rs : List Record) → Passed rs → Indexed file index Kind.rule rules rs → at ≡ firstNode rs f
   pub entries : (rs : List Record) → Passed rs → Indexed file index Kind.rule rules rs → (g : ℕ) → g < f → getD after g 0 ≡ firstNode rs g
   pub none-more : (rs : List Record) → Passed rs → Indexed file index Kind.rule rules rs → (g : ℕ) → g < f → length (ruleOf rs g) / 4 ≤ most
 
-pub numbers-none : (file index : List ℕ) (rules : ℕ) (before : List ℕ) → rules ≤ 256 → 257 ≤ length before → Sofar file index rules before before 0 0 0
+pub numbers-none : (file index : List ℕ) (rules : ℕ) (before : List ℕ) → rules ≤ maxNonterminals → rowsSize ≤ length before → Sofar file index rules before before 0 0 0
 unfolding nodesIn
 numbers-none file index rules before h k =
     record {
@@ -73,7 +71,7 @@ numbers-none file index rules before h k =
       none-more = λ rs ok ix g l. absurd (omega arith);
     }
 
-pub not-numbered : (file index : List ℕ) (rules : ℕ) (before : List ℕ) → (rules ≤ 256 → 257 ≤ length before → ⊥) → FillsFirsts file index rules before before
+pub not-numbered : (file index : List ℕ) (rules : ℕ) (before : List ℕ) → (rules ≤ maxNonterminals → rowsSize ≤ length before → ⊥) → FillsFirsts file index rules before before
 not-numbered file index rules before z = record { firsts = λ rs ok ix h k f l. absurd (z h k); most = λ rs ok ix h k f l. absurd (z h k) }
 
 module _ {file index : List ℕ} {rules : ℕ} {before after : List ℕ} {at most f : ℕ} (so : Sofar file index rules before after at most f) where
@@ -100,9 +98,9 @@ module _ {file index : List ℕ} {rules : ℕ} {before after : List ℕ} {at mos
       by rs ok ix g l (yes z) = let b = c .nodes rules rs ok ix (so .few) h in let d = ap (λ x. length (ruleOf rs x) / 4) z in omega arith
       by rs ok ix g l (no z) = let b = so .none-more rs ok ix g (let w = z in omega arith) in omega arith
 
-  pub numbers-all : rules ≤ f → FillsFirsts file index rules before (set after 256 most)
+  pub numbers-all : rules ≤ f → FillsFirsts file index rules before (set after mostNodesAt most)
   numbers-all h =
       record {
-        firsts = λ rs ok ix l k g m. getD-set-other after 256 g most 0 (λ z. omega (arith, so .few)) ∙ so .entries rs ok ix g (omega arith);
-        most = λ rs ok ix l k g m. let e = getD-set-same after 256 most 0 (omega (arith, so .room)) in let b = so .none-more rs ok ix g (omega arith) in omega arith;
+        firsts = λ rs ok ix l k g m. getD-set-other after mostNodesAt g most 0 (λ z. omega (arith, so .few)) ∙ so .entries rs ok ix g (omega arith);
+        most = λ rs ok ix l k g m. let e = getD-set-same after mostNodesAt most 0 (omega (arith, so .room)) in let b = so .none-more rs ok ix g (omega arith) in omega arith;
       }

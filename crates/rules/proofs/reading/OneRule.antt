@@ -9,12 +9,14 @@ use lib.ListN.{length, getD}
 use Rattle.scheme.specs.Sorts.{Sort, o}
 use Rattle.casefile.specs.Fields.{word}
 use Rattle.casefile.specs.Records.{Record}
+use Rattle.records.specs.fields.Promises.{HasLength}
 use Rattle.records.specs.cursor.Reading.{partOf}
 use Rattle.casefile.specs.Kinds.{nonterminal, payloads}
 use Rattle.casefile.specs.Tables.{sortsOf, aritiesOf, signaturesOf}
 use Rattle.casefile.specs.Refusals.{wrongBody}
 use Rattle.bodies.specs.Bodies.{BodyDecided}
 use Rattle.rules.specs.reading.RuleBodies.{ruleOf, numbersOf, wrongAt, Judged, RuleRead}
+use Rattle.index.specs.layout.Layout.{maxBody, rulesAt}
 
 map-twice : {A B C : Type 0} (g : B → C) (f : A → B) (l : List A) → map g (map f l) ≡ map (λ x. g (f x)) l
 map-twice g f [] = refl
@@ -26,12 +28,12 @@ unfolding signaturesOf
 numbers-sorts rs = map-twice (λ (n : ℕ). getD (sortsOf rs) n o) (λ (p : List ℕ). word p 0) (payloads nonterminal rs)
 
 -- its length, four bytes before it
-length-is : {file index froms tos trees arities signatures : List ℕ} {f : ℕ} (place : ℕ) → place ≡ getD index (352 + f) 0 → (len : ℕ) → len ≡ word file (place - 4)
+length-is : {file index froms tos trees arities signatures : List ℕ} {f : ℕ} (place : ℕ) → place ≡ getD index (rulesAt + f) 0 → (len : ℕ) → HasLength file place len
     → (rules : ℕ) (rs : List Record) → Judged file index froms tos trees arities signatures rules rs → f < rules → len ≡ length (ruleOf rs f)
 length-is {index = index} {f = f} place ep len el rules rs j h =
-    let y : 4 ≤ getD index (352 + f) 0 = j .there .behind-header f h in
-    let z : (place - 4) + 4 ≡ getD index (352 + f) 0 = omega arith in
-    el ∙ j .there .length-there f (place - 4) h z
+    let y : 4 ≤ getD index (rulesAt + f) 0 = j .there .behind-header f h in
+    let z : (place - 4) + 4 ≡ getD index (rulesAt + f) 0 = omega arith in
+    el .headed (omega arith) ∙ j .there .length-there f (place - 4) h z
 
 module _ {file index froms tos trees arities signatures : List ℕ} {f : ℕ} {before : List ℕ} where
   -- nothing is read, since the arrays hold no such rule
@@ -42,12 +44,9 @@ module _ {file index froms tos trees arities signatures : List ℕ} {f : ℕ} {b
   pub rule-none : 255 < f → RuleRead file index froms tos trees arities signatures f before before 0
   rule-none x = rule-not (λ rules rs j h l. let y = j .few in omega arith)
 
-  module _ (place : ℕ) (ep : place ≡ getD index (352 + f) 0) where
-    pub rule-header : place < 4 → RuleRead file index froms tos trees arities signatures f before before 0
-    rule-header x = rule-not (λ rules rs j h l. let y : 4 ≤ getD index (352 + f) 0 = j .there .behind-header f h in omega arith)
-
-    module _ (len : ℕ) (el : len ≡ word file (place - 4)) where
-      pub rule-long : 1024 < len → RuleRead file index froms tos trees arities signatures f before before 0
+  module _ (place : ℕ) (ep : place ≡ getD index (rulesAt + f) 0) where
+    module _ (len : ℕ) (el : HasLength file place len) where
+      pub rule-long : maxBody < len → RuleRead file index froms tos trees arities signatures f before before 0
       rule-long x = rule-not (λ rules rs j h l. let y = j .few-nodes f h in let z = length-is place ep len el rules rs j h in omega arith)
 
       pub rule-room : length before < len / 4 → RuleRead file index froms tos trees arities signatures f before before 0

@@ -22,6 +22,7 @@ use Rattle.casefile.proofs.Passed.{entry}
 use Rattle.casefile.specs.Promises.{Passed}
 use Rattle.casefile.proofs.Payloads.{payloads-append, arity-small}
 use Rattle.casefile.proofs.TypeTable.{count-payloads}
+use Rattle.index.specs.layout.Layout.{maxConstructors, maxNonterminals, maxNodes, maxBody, sortsAt, constructorsAt, nonterminalsAt, allSorts}
 use Rattle.index.specs.entries.Index.{base, Indexed}
 use Rattle.sorts.specs.codes.Sorted.{SortArrays, TreeCodes}
 use Rattle.bodies.specs.Bodies.{BodyTables}
@@ -125,16 +126,16 @@ module _ {rs : List Record} (ok : Passed rs) (f : ℕ) (h : f < length (payloads
   unfolding wrongLength
   rule-some = let p = ruleOf rs f in ltb-false (length p) 4 (or-false (ltb (length p) 4) (not (eqb (length p % 4) 0)) (whole ok rule f h) .0)
 
-  pub rule-fits : length (ruleOf rs f) ≤ 1024
+  pub rule-fits : length (ruleOf rs f) ≤ maxBody
   unfolding wrongLength tooMany tooLarge
   rule-fits =
       let n = entry ok rule f h in
       let p = n .payload in
-      let few = ltb-false 256 (length (cellsOf p)) (or-false false (ltb 256 (length (cellsOf p))) (n .passed-tests .few) .1) in
+      let few = ltb-false maxNodes (length (cellsOf p)) (or-false false (ltb maxNodes (length (cellsOf p))) (n .passed-tests .few) .1) in
       let e = cells-length p in
       let q = or-false (ltb (length p) 4) (not (eqb (length p % 4) 0)) (n .passed-tests .fits) .1 in
       let m = eqb-true (length p % 4) 0 (not-false (eqb (length p % 4) 0) q) in
-      subst (λ z. length z ≤ 1024) (sym (n .here)) (omega arith)
+      subst (λ z. length z ≤ maxBody) (sym (n .here)) (omega arith)
 
   pub rule-in-range : any (wrongCell (length (aritiesOf rs)) (length (numbersOf rs)) (length (arguments (getD (signaturesOf rs) f o)))) (cellsOf (ruleOf rs f)) ≡ false
   unfolding outOfRange
@@ -187,9 +188,9 @@ module _ {file index : List ℕ} {rs : List Record} (k : Kind) (n : ℕ) (there 
       (λ i hi. getD-take (length vs) t i 0 (omega arith) ∙ field-at z t fi room i (omega arith) (long i (omega arith)) ∙ sym (getD-map-in (λ (p : List ℕ). field w p 0) (payloads k rs) i 0 [] (omega arith)))
 
 module _ {file index : List ℕ} {sorts constructors nonterminals rules : ℕ} {rs : List Record} (fi : Filed file index sorts constructors nonterminals rules rs)
-    (z₁ z₂ z₃ z₄ froms tos trees arities signatures : List ℕ) (l₁ : length z₁ ≡ 65) (l₂ : length z₂ ≡ 65) (l₃ : length z₃ ≡ 32) (l₄ : length z₄ ≡ 256)
-    (from-filled : Filled 2 file index 0 0 sorts 1 z₁ froms) (to-filled : Filled 2 file index 0 2 sorts 1 z₂ tos)
-    (arity-filled : Filled 1 file index 64 0 constructors 0 z₃ arities) (signature-filled : Filled 2 file index 96 0 nonterminals 0 z₄ signatures)
+    (z₁ z₂ z₃ z₄ froms tos trees arities signatures : List ℕ) (l₁ : length z₁ ≡ allSorts) (l₂ : length z₂ ≡ allSorts) (l₃ : length z₃ ≡ maxConstructors) (l₄ : length z₄ ≡ maxNonterminals)
+    (from-filled : Filled 2 file index sortsAt 0 sorts 1 z₁ froms) (to-filled : Filled 2 file index sortsAt 2 sorts 1 z₂ tos)
+    (arity-filled : Filled 1 file index constructorsAt 0 constructors 0 z₃ arities) (signature-filled : Filled 2 file index nonterminalsAt 0 nonterminals 0 z₄ signatures)
     (codes : (ss : List Sort) → SortArrays ss (sorts + 1) froms tos → TreeCodes ss trees) where
   sorts-counted : length (payloads sort rs) ≡ sorts
   sorts-counted = sym (count-payloads sort rs) ∙ fi .sorts-there .counted

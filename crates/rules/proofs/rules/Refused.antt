@@ -19,6 +19,7 @@ use Rattle.sorts.specs.codes.Sorted.{SortArrays, TreeCodes}
 use Rattle.rules.specs.rules.Rules.{Filled, Filed, BodiesRead, WithinLimits, FindsWrongBody}
 use Rattle.rules.specs.reading.RuleBodies.{FirstWrong, ReadsRules}
 use Rattle.rules.proofs.rules.Judging.{signatures-length, judged}
+use Rattle.index.specs.layout.Layout.{maxSorts, maxConstructors, maxNonterminals, sortsAt, constructorsAt, nonterminalsAt, allSorts}
 
 module _ (arities : List ℕ) (signatures : List Sort) where
   abbrev payloadAt : List Record → ℕ → List ℕ
@@ -78,8 +79,8 @@ module _ {file index : List ℕ} {sorts constructors nonterminals rules : ℕ} {
 
 -- the answer of the loop over the filled arrays
 pub finds : (file index : List ℕ) (sorts constructors nonterminals rules : ℕ) (z₁ z₂ z₃ z₄ froms tos trees arities signatures : List ℕ) (before after : List ℕ) (r : ℕ)
-    → length z₁ ≡ 65 → length z₂ ≡ 65 → length z₃ ≡ 32 → length z₄ ≡ 256
-    → Filled 2 file index 0 0 sorts 1 z₁ froms → Filled 2 file index 0 2 sorts 1 z₂ tos → Filled 1 file index 64 0 constructors 0 z₃ arities → Filled 2 file index 96 0 nonterminals 0 z₄ signatures
+    → length z₁ ≡ allSorts → length z₂ ≡ allSorts → length z₃ ≡ maxConstructors → length z₄ ≡ maxNonterminals
+    → Filled 2 file index sortsAt 0 sorts 1 z₁ froms → Filled 2 file index sortsAt 2 sorts 1 z₂ tos → Filled 1 file index constructorsAt 0 constructors 0 z₃ arities → Filled 2 file index nonterminalsAt 0 nonterminals 0 z₄ signatures
     → ((ss : List Sort) → SortArrays ss (sorts + 1) froms tos → TreeCodes ss trees)
     → ReadsRules file index froms tos trees arities signatures rules before after r → FindsWrongBody file index sorts constructors nonterminals rules before after r
 finds file index sorts constructors nonterminals rules z₁ z₂ z₃ z₄ froms tos trees arities signatures before after r l₁ l₂ l₃ l₄ a b c d codes answer rs fi room =
@@ -87,15 +88,15 @@ finds file index sorts constructors nonterminals rules z₁ z₂ z₃ z₄ froms
 
 -- no file has so many records
 pub finds-not : (file index : List ℕ) (sorts constructors nonterminals rules : ℕ) (before after : List ℕ) (r : ℕ)
-    → (sorts ≤ 64 → constructors ≤ 32 → nonterminals ≤ 256 → rules ≤ nonterminals → ⊥) → FindsWrongBody file index sorts constructors nonterminals rules before after r
+    → (sorts ≤ maxSorts → constructors ≤ maxConstructors → nonterminals ≤ maxNonterminals → rules ≤ nonterminals → ⊥) → FindsWrongBody file index sorts constructors nonterminals rules before after r
 finds-not file index sorts constructors nonterminals rules before after r z rs fi room = absurd (z (fi .few-sorts) (fi .few-constructors) (fi .few-nonterminals) (fi .few-rules))
 
 -- one count is beyond its limit
-pub beyond-limits : (sorts constructors nonterminals rules : ℕ) → (sorts ≤ 64 → constructors ≤ 32 → nonterminals ≤ 256 → rules ≤ nonterminals → ⊥) → WithinLimits sorts constructors nonterminals rules false
+pub beyond-limits : (sorts constructors nonterminals rules : ℕ) → (sorts ≤ maxSorts → constructors ≤ maxConstructors → nonterminals ≤ maxNonterminals → rules ≤ nonterminals → ⊥) → WithinLimits sorts constructors nonterminals rules false
 beyond-limits sorts constructors nonterminals rules z = record { within = λ e. absurd (true≢false (sym e)); beyond = λ e. z }
 
 -- the last count decides
-pub last-limit : (sorts constructors nonterminals rules : ℕ) → sorts ≤ 64 → constructors ≤ 32 → nonterminals ≤ 256 → WithinLimits sorts constructors nonterminals rules (leb rules nonterminals)
+pub last-limit : (sorts constructors nonterminals rules : ℕ) → sorts ≤ maxSorts → constructors ≤ maxConstructors → nonterminals ≤ maxNonterminals → WithinLimits sorts constructors nonterminals rules (leb rules nonterminals)
 last-limit sorts constructors nonterminals rules a b c = record {
   within = λ e. (a, b, c, leb-true rules nonterminals e);
   beyond = λ e a b c d. let l = leb-false rules nonterminals e in omega arith;

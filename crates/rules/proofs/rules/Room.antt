@@ -14,6 +14,7 @@ use Rattle.casefile.proofs.Walk.{walk-end, walk-cut, walk-next}
 use Rattle.records.proofs.cursor.Reading.{whole-end, payload-length}
 use Rattle.casefile.specs.Kinds.{Kind, rule, number, ofKind, payloads}
 use Rattle.rules.specs.reading.RuleBodies.{nodesIn}
+use Rattle.index.specs.layout.Layout.{maxFile, endsSize}
 
 module _ (s : List ℕ) (k : Kind) where
   -- the payloads from a place on, four bytes a node, end with the file
@@ -53,5 +54,5 @@ module _ (s : List ℕ) (k : Kind) where
   nodes-in-file = let r = rooms (length s) 0 (omega arith) in omega arith
 
 -- 15,000 entries are enough for the rules of a file of 60,000 bytes
-pub room-enough : (s ends : List ℕ) → length s ≤ 60000 → 15000 ≤ length ends → nodesIn (payloads rule (listed (recordsOf s))) ≤ length ends
+pub room-enough : (s ends : List ℕ) → length s ≤ maxFile → endsSize ≤ length ends → nodesIn (payloads rule (listed (recordsOf s))) ≤ length ends
 room-enough s ends h l = let n = nodes-in-file s rule in omega arith

@@ -12,6 +12,7 @@ use Rattle.casefile.specs.Records.{Record}
 use Rattle.casefile.specs.Kinds.{nonterminal, rule, payloads}
 use Rattle.casefile.specs.Tables.{sortsOf, aritiesOf, signaturesOf, nodesOf, firstTerm}
 use Rattle.casefile.specs.Refusals.{wrongBody}
+use Rattle.index.specs.layout.Layout.{maxNonterminals, maxBody}
 use Rattle.index.specs.entries.Index.{Indexed}
 use Rattle.bodies.specs.Bodies.{BodyTables}
 
@@ -43,9 +44,9 @@ endAt rs f i = i + nodes (firstTerm (terms (drop i (nodesOf (ruleOf rs f)))))
 -- the arrays hold what the bodies of so many rules are judged by, and the index has the rules
 pub record Judged (file index froms tos trees arities signatures : List ℕ) (rules : ℕ) (rs : List Record) : Type 0 where
   pub there : Indexed file index rule rules rs
-  pub few : rules ≤ 256
+  pub few : rules ≤ maxNonterminals
   pub some-nodes : (f : ℕ) → f < rules → 4 ≤ length (ruleOf rs f)
-  pub few-nodes : (f : ℕ) → f < rules → length (ruleOf rs f) ≤ 1024
+  pub few-nodes : (f : ℕ) → f < rules → length (ruleOf rs f) ≤ maxBody
   pub setting : (f : ℕ) → f < rules → BodyTables (sortsOf rs) (aritiesOf rs) (numbersOf rs) (ruleOf rs f) froms tos trees arities signatures (getD signatures f 0)
   pub sort-is : (f : ℕ) → f < rules → getD (sortsOf rs) (getD signatures f 0) o ≡ getD (signaturesOf rs) f o
 

@@ -11,6 +11,7 @@ use Rattle.casefile.specs.Promises.{Bytes, Passed}
 use Rattle.casefile.specs.Kinds.{sort, constructor, nonterminal, rule, ofKind, payloads, placeOf}
 use Rattle.casefile.specs.Tables.{aritiesOf, signaturesOf}
 use Rattle.casefile.specs.Refusals.{first, wrongBodies}
+use Rattle.index.specs.layout.Layout.{maxSorts, maxConstructors, maxNonterminals}
 use Rattle.index.specs.entries.Index.{Indexed}
 use Rattle.rules.specs.reading.RuleBodies.{nodesIn, ruleOf, firstNode, endAt}
 
@@ -27,8 +28,8 @@ pub record Filled (width : ℕ) (file index : List ℕ) (from at n to : ℕ) (be
 
 -- r says whether the counts are within the limits of their kinds, with a nonterminal for each rule
 pub record WithinLimits (sorts constructors nonterminals rules : ℕ) (r : Bool) : Type 0 where
-  pub within : r ≡ true → (sorts ≤ 64) × (constructors ≤ 32) × (nonterminals ≤ 256) × (rules ≤ nonterminals)
-  pub beyond : r ≡ false → sorts ≤ 64 → constructors ≤ 32 → nonterminals ≤ 256 → rules ≤ nonterminals → ⊥
+  pub within : r ≡ true → (sorts ≤ maxSorts) × (constructors ≤ maxConstructors) × (nonterminals ≤ maxNonterminals) × (rules ≤ nonterminals)
+  pub beyond : r ≡ false → sorts ≤ maxSorts → constructors ≤ maxConstructors → nonterminals ≤ maxNonterminals → rules ≤ nonterminals → ⊥
 
 -- the records passed their tests, and the index has their sorts, constructors, nonterminals and rules
 pub record Filed (file index : List ℕ) (sorts constructors nonterminals rules : ℕ) (rs : List Record) : Type 0 where
@@ -38,9 +39,9 @@ pub record Filed (file index : List ℕ) (sorts constructors nonterminals rules 
   pub constructors-there : Indexed file index constructor constructors rs
   pub nonterminals-there : Indexed file index nonterminal nonterminals rs
   pub rules-there : Indexed file index rule rules rs
-  pub few-sorts : sorts ≤ 64
-  pub few-constructors : constructors ≤ 32
-  pub few-nonterminals : nonterminals ≤ 256
+  pub few-sorts : sorts ≤ maxSorts
+  pub few-constructors : constructors ≤ maxConstructors
+  pub few-nonterminals : nonterminals ≤ maxNonterminals
   pub few-rules : rules ≤ nonterminals
 
 -- r says which of so many rules is refused by 9, the number of rules where none is; then `ends` has the end of each subterm of each rule

@@ -17,6 +17,7 @@ use Rattle.casefile.specs.Records.{Record}
 use Rattle.casefile.specs.Kinds.{Kind, payloads, count}
 use Rattle.casefile.specs.Tables.{headOf, nodesOf, firstTerm, automatonOf, bindingsOf}
 use Rattle.casefile.specs.Promises.{cellAt}
+use Rattle.index.specs.layout.Layout.{maxBindings}
 use Rattle.index.specs.entries.Index.{Indexed}
 use Rattle.goals.specs.groups.Groups.{Grouped}
 use Rattle.transitions.specs.places.RowPlaces.{RowsFor}
@@ -61,7 +62,7 @@ pub record Setting (x : Body) (rs : List Record) (τ : Ty) : Type 0 where
   pub one-states : length (payloads Kind.states rs) ≤ 1
   pub rows-are : RowsFor (x .file) (x .index) rs
   pub bindings-there : Indexed (x .file) (x .index) Kind.binding (count Kind.binding rs) rs
-  pub bindings-few : count Kind.binding rs ≤ 1024
+  pub bindings-few : count Kind.binding rs ≤ maxBindings
   pub groups-long : count Kind.nonterminal rs < length (x .groups)
   pub grouped : Grouped rs (count Kind.binding rs) (x .groups)
   pub own-type : Goal rs (x .test .types) (x .test .own) τ

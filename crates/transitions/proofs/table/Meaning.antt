@@ -20,6 +20,7 @@ use Rattle.casefile.proofs.Passed.{entry, passed-tested, payloads-more, payload
 use Rattle.casefile.specs.Promises.{Passed, nothing, also}
 use Rattle.transitions.specs.table.Moves.{rowAt, fourAt, rowFor, targetsIn, Sofar, Holds}
 use Rattle.transitions.proofs.table.Filling.{six}
+use Rattle.index.specs.layout.Layout.{maxConstructors, maxStates}
 
 last-more : (d : ℕ) (l : List ℕ) (x : ℕ) → lastOr d (l ++ (x ∷ [])) ≡ x
 unfolding lastOr
@@ -27,7 +28,7 @@ last-more d [] x = refl
 last-more d (y ∷ l) x = last-more y l x
 
 -- "how many (1)" states: at most 16
-pub states-few : {rs : List Record} → Passed rs → stateCount rs ≤ 16
+pub states-few : {rs : List Record} → Passed rs → stateCount rs ≤ maxStates
 unfolding stateCount lastOr outOfRange number payloads ofKind select
 states-few nothing = let none-yet : stateCount [] ≡ 0 = refl in omega arith
 states-few (also {rs} r ok e) = go (eqb (r .kind) 5) refl (states-few ok)
@@ -35,12 +36,12 @@ states-few (also {rs} r ok e) = go (eqb (r .kind) 5) refl (states-few ok)
     first : List ℕ → ℕ
     first p = byte p 0
 
-    go : (b : Bool) → eqb (r .kind) 5 ≡ b → stateCount rs ≤ 16 → stateCount (rs ++ (r ∷ [])) ≤ 16
+    go : (b : Bool) → eqb (r .kind) 5 ≡ b → stateCount rs ≤ maxStates → stateCount (rs ++ (r ∷ [])) ≤ maxStates
     go true f before =
         let here : stateCount (rs ++ (r ∷ [])) ≡ byte (r .payload) 0 = ap (λ l. lastOr 0 (map first l)) (payloads-more Kind.states rs r f) ∙ ap (lastOr 0) (map-append first (payloads Kind.states rs) (r .payload ∷ [])) ∙ last-more 0 (map first (payloads Kind.states rs)) (byte (r .payload) 0) in
-        let small = ltb-false 16 (byte (r .payload) 0) (or-false (eqb (byte (r .payload) 0) 0) (ltb 16 (byte (r .payload) 0)) (passed-tested rs r Kind.states e f .ranges) .1) in
+        let small = ltb-false maxStates (byte (r .payload) 0) (or-false (eqb (byte (r .payload) 0) 0) (ltb maxStates (byte (r .payload) 0)) (passed-tested rs r Kind.states e f .ranges) .1) in
         omega arith
-    go false f before = subst (λ l. lastOr 0 (map first l) ≤ 16) (sym (payloads-other Kind.states rs r f)) before
+    go false f before = subst (λ l. lastOr 0 (map first l) ≤ maxStates) (sym (payloads-other Kind.states rs r f)) before
 
 -- six bytes: two, and four targets
 six-four : (p : List ℕ) → length p ≡ 6 → drop 2 p ≡ fourAt p 0
@@ -55,7 +56,7 @@ six-four (a ∷ b ∷ c ∷ d ∷ e ∷ []) h = absurd (omega arith)
 six-four (a ∷ b ∷ c ∷ d ∷ e ∷ f ∷ g ∷ p) h = absurd (omega arith)
 
 -- the first target is a state or 0
-first-small : (qs n x : ℕ) (xs : List ℕ) → qs ≤ 16 → wrongTargets qs n (x ∷ xs) ≡ false → x ≤ 16
+first-small : (qs n x : ℕ) (xs : List ℕ) → qs ≤ maxStates → wrongTargets qs n (x ∷ xs) ≡ false → x ≤ maxStates
 unfolding wrongTargets any
 first-small qs zero x xs h e = let a = ltb-false 0 x (or-false (ltb 0 x) (any (λ (t : ℕ). ltb 0 t) xs) e .0) in omega arith
 first-small qs (suc n) x xs h e =
@@ -63,7 +64,7 @@ first-small qs (suc n) x xs h e =
     let c = leb-false qs x (or-false (leb qs x) (any (λ (t : ℕ). leb qs t) (take n xs)) a .0) in
     omega arith
 
-target-small : {rs : List Record} → Passed rs → (i : ℕ) → i < length (payloads Kind.transition rs) → byte (getD (payloads Kind.transition rs) i []) 2 ≤ 16
+target-small : {rs : List Record} → Passed rs → (i : ℕ) → i < length (payloads Kind.transition rs) → byte (getD (payloads Kind.transition rs) i []) 2 ≤ maxStates
 unfolding outOfRange
 target-small {rs} ok i h =
     let e = entry ok Kind.transition i h in
@@ -72,11 +73,11 @@ target-small {rs} ok i h =
     let qs = stateCount (e .earlier) in
     let ns = aritiesOf (e .earlier) in
     let ranges = or-false (leb qs (byte p 0) || leb (length ns) (byte p 1)) (wrongTargets qs (getD ns (byte p 1) 0) (drop 2 p)) (e .passed-tests .ranges) .1 in
-    subst (λ l. byte l 2 ≤ 16) (sym (e .here)) (first-small qs (getD ns (byte p 1) 0) (byte p 2) (byte p 3 ∷ byte p 4 ∷ byte p 5 ∷ []) (states-few (e .passed)) (subst (λ l. wrongTargets qs (getD ns (byte p 1) 0) l ≡ false) (six-four p long) ranges))
+    subst (λ l. byte l 2 ≤ maxStates) (sym (e .here)) (first-small qs (getD ns (byte p 1) 0) (byte p 2) (byte p 3 ∷ byte p 4 ∷ byte p 5 ∷ []) (states-few (e .passed)) (subst (λ l. wrongTargets qs (getD ns (byte p 1) 0) l ≡ false) (six-four p long) ranges))
 
 module _ (arities : List ℕ) (q c : ℕ) where
   -- rows of six bytes with a small first target
-  row-targets : (ps : List (List ℕ)) → ((i : ℕ) → i < length ps → (length (getD ps i []) ≡ 6) × (byte (getD ps i []) 2 ≤ 16)) → targetsIn (getD arities c 0) (rowFor ps q c) ≡ targetsAt (map (transitionOf arities) ps) q c
+  row-targets : (ps : List (List ℕ)) → ((i : ℕ) → i < length ps → (length (getD ps i []) ≡ 6) × (byte (getD ps i []) 2 ≤ maxStates)) → targetsIn (getD arities c 0) (rowFor ps q c) ≡ targetsAt (map (transitionOf arities) ps) q c
   unfolding rowFor targetsIn targetsAt transitionOf
   row-targets [] h = refl
   row-targets (p ∷ ps) h = go (eqb (byte p 0) q) (eqb (byte p 1) c) refl (row-targets ps (λ i l. h (suc i) (omega arith)))
@@ -107,7 +108,7 @@ row-four (p ∷ ps) q c = go (eqb (byte p 0) q && eqb (byte p 1) c) (row-four ps
 pub all-rows : (file index : List ℕ) (n : ℕ) (t : List (List (List ℕ))) (k : ℕ) → Sofar file index n t k → k ≤ 0 → Holds file index n t
 all-rows file index n t k so h rs ok ix few =
     let none-left : k ≡ 0 = omega arith in
-    let row : (q c : ℕ) → q < 16 → c < 32 → rowAt t q c ≡ rowFor (payloads Kind.transition rs) q c = λ q c hq hc. so .rows rs ok ix q c hq hc ∙ ap (λ m. rowFor (drop m (payloads Kind.transition rs)) q c) none-left in
+    let row : (q c : ℕ) → q < maxStates → c < maxConstructors → rowAt t q c ≡ rowFor (payloads Kind.transition rs) q c = λ q c hq hc. so .rows rs ok ix q c hq hc ∙ ap (λ m. rowFor (drop m (payloads Kind.transition rs)) q c) none-left in
     record {
       targets = λ q c hq hc. ap (targetsIn (getD (aritiesOf rs) c 0)) (row q c hq hc) ∙ row-means ok q c;
       four = λ q c hq hc. ap length (row q c hq hc) ∙ row-four (payloads Kind.transition rs) q c;
@@ -126,7 +127,7 @@ fewer-arities a b =
     omega arith
 
 -- the state and the constructor of a transition
-transition-known : {rs : List Record} → Passed rs → (i : ℕ) → i < length (payloads Kind.transition rs) → (byte (getD (payloads Kind.transition rs) i []) 0 < 16) × (byte (getD (payloads Kind.transition rs) i []) 1 < length (aritiesOf rs))
+transition-known : {rs : List Record} → Passed rs → (i : ℕ) → i < length (payloads Kind.transition rs) → (byte (getD (payloads Kind.transition rs) i []) 0 < maxStates) × (byte (getD (payloads Kind.transition rs) i []) 1 < length (aritiesOf rs))
 unfolding outOfRange
 transition-known {rs} ok i h =
     let e = entry ok Kind.transition i h in
@@ -138,7 +139,7 @@ transition-known {rs} ok i h =
     let constructor = leb-false (length ns) (byte p 1) (or-false (leb qs (byte p 0)) (leb (length ns) (byte p 1)) known .1) in
     let few = states-few (e .passed) in
     let fewer = subst (λ l. length ns ≤ length (aritiesOf l)) (e .together) (fewer-arities (e .earlier) (e .later)) in
-    subst (λ l. (byte l 0 < 16) × (byte l 1 < length (aritiesOf rs))) (sym (e .here)) (omega arith, omega arith)
+    subst (λ l. (byte l 0 < maxStates) × (byte l 1 < length (aritiesOf rs))) (sym (e .here)) (omega arith, omega arith)
 
 -- no transition names a state or a constructor that is not there
 unnamed : (arities : List ℕ) (ps : List (List ℕ)) (q c : ℕ) → ((i : ℕ) → i < length ps → (byte (getD ps i []) 0 ≡ q) × (byte (getD ps i []) 1 ≡ c) → ⊥) → targetsAt (map (transitionOf arities) ps) q c ≡ none
@@ -152,7 +153,7 @@ unnamed arities (p ∷ ps) q c h = go (eqb (byte p 0) q) (eqb (byte p 1) c) refl
     go false b e f others = others
 
 module _ {rs : List Record} (ok : Passed rs) (q c : ℕ) where
-  pub no-state : 16 ≤ q → targetsAt (transitionsOf rs) q c ≡ none
+  pub no-state : maxStates ≤ q → targetsAt (transitionsOf rs) q c ≡ none
   unfolding transitionsOf
   no-state h = unnamed (aritiesOf rs) (payloads Kind.transition rs) q c (λ i l (x, y). let k = transition-known ok i l .0 in omega arith)
 

@@ -24,6 +24,7 @@ use Rattle.casefile.specs.Promises.{Passed}
 use Rattle.casefile.proofs.Payloads.{payloads-append, arity-small}
 use Rattle.transitions.proofs.table.Filling.{six}
 use Rattle.transitions.proofs.table.Meaning.{states-few}
+use Rattle.index.specs.layout.Layout.{maxStates}
 
 -- where there is one states record at most, and records before some have states, those are the states of all
 states-all : (a b : List Record) → length (payloads Kind.states (a ++ b)) ≤ 1 → 0 < stateCount a → stateCount (a ++ b) ≡ stateCount a
@@ -39,11 +40,11 @@ states-all a b h = go (payloads Kind.states a) (payloads Kind.states b) (payload
     go (x ∷ xs) (y ∷ ys) e f l = absurd (let many = ap length e ∙ length-append (x ∷ xs) (y ∷ ys) in omega arith)
 
 -- a target is a state, or it is 0
-targets-small : (states n : ℕ) (targets : List ℕ) → states ≤ 16 → wrongTargets states n targets ≡ false → (i : ℕ) → getD targets i 0 < 16
+targets-small : (states n : ℕ) (targets : List ℕ) → states ≤ maxStates → wrongTargets states n targets ≡ false → (i : ℕ) → getD targets i 0 < maxStates
 unfolding wrongTargets
 targets-small states n targets few e i = go (decLt i (length targets)) (decLt i n)
   where
-    go : Dec (i < length targets) → Dec (i < n) → getD targets i 0 < 16
+    go : Dec (i < length targets) → Dec (i < n) → getD targets i 0 < maxStates
     go (no h) d = let past = List·getD-eq-default targets 0 {n = i} (omega arith) in omega arith
     go (yes h) (yes k) =
         let long : i < length (take n targets) = omega (arith, length-take n targets) in
@@ -83,7 +84,7 @@ of arities (p ∷ ps) q c qs e = go (eqb (byte p 0) q) (eqb (byte p 1) c) refl r
     go false b f g others e = later (others e)
 
 pub targets-some : {rs : List Record} → Passed rs → length (payloads Kind.states rs) ≤ 1 → (q c : ℕ) (qs : List ℕ) → targetsAt (transitionsOf rs) q c ≡ some qs
-    → (q < stateCount rs) × (length qs ≡ getD (aritiesOf rs) c 0) × ((i : ℕ) → getD qs i 0 < 16)
+    → (q < stateCount rs) × (length qs ≡ getD (aritiesOf rs) c 0) × ((i : ℕ) → getD qs i 0 < maxStates)
 unfolding transitionsOf outOfRange
 targets-some {rs} ok one q c qs found =
     let o = of (aritiesOf rs) (payloads Kind.transition rs) q c qs found in
@@ -101,12 +102,12 @@ targets-some {rs} ok one q c qs found =
     let four : length (drop 2 p) ≡ 4 = length-drop 2 p ∙ ap (λ m. m - 2) long in
     let arity = arity-small ok c in
     let small = targets-small states (getD ns (byte p 1) 0) (drop 2 p) (states-few (e .passed)) targets in
-    (omega arith, ap length are ∙ length-take-le (getD (aritiesOf rs) c 0) (drop 2 p) (omega arith), λ i. subst (λ l. getD l i 0 < 16) (sym are) (taken (getD (aritiesOf rs) c 0) (drop 2 p) small i))
+    (omega arith, ap length are ∙ length-take-le (getD (aritiesOf rs) c 0) (drop 2 p) (omega arith), λ i. subst (λ l. getD l i 0 < maxStates) (sym are) (taken (getD (aritiesOf rs) c 0) (drop 2 p) small i))
   where
     -- what holds of each, holds of the first n
-    taken : (n : ℕ) (l : List ℕ) → ((i : ℕ) → getD l i 0 < 16) → (i : ℕ) → getD (take n l) i 0 < 16
+    taken : (n : ℕ) (l : List ℕ) → ((i : ℕ) → getD l i 0 < maxStates) → (i : ℕ) → getD (take n l) i 0 < maxStates
     taken n l h i = by (decLt i n)
       where
-        by : Dec (i < n) → getD (take n l) i 0 < 16
-        by (yes k) = subst (λ x. x < 16) (sym (getD-take n l i 0 k)) (h i)
+        by : Dec (i < n) → getD (take n l) i 0 < maxStates
+        by (yes k) = subst (λ x. x < maxStates) (sym (getD-take n l i 0 k)) (h i)
         by (no k) = let past = List·getD-eq-default (take n l) 0 {n = i} (omega (arith, length-take n l)) in omega arith

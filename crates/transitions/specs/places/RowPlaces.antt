@@ -10,16 +10,17 @@ use Rattle.casefile.specs.Records.{Record}
 use Rattle.casefile.specs.Kinds.{Kind}
 use Rattle.casefile.specs.Tables.{aritiesOf, transitionsOf, targetsAt}
 use Rattle.casefile.specs.Promises.{Passed}
+use Rattle.index.specs.layout.Layout.{maxConstructors, maxStates, maxTransitions, placesAt, indexSize}
 use Rattle.index.specs.entries.Index.{Indexed}
 use Rattle.transitions.specs.table.Moves.{fourAt}
 
 -- where these places begin in the index, 32 for each of the 16 states
 abbrev pub rowBase : ℕ
-rowBase = 7522
+rowBase = placesAt
 
 -- the place of the transition of a state and a constructor
 abbrev pub placeIn : List ℕ → ℕ → ℕ → ℕ
-placeIn index q c = getD index (rowBase + (q * 32 + c)) 0
+placeIn index q c = getD index (rowBase + (q * maxConstructors + c)) 0
 
 -- the targets of a transition of so many arguments whose payload lies at a place; none at place 0
 unfoldable pub targetsFrom : List ℕ → ℕ → ℕ → Option (List ℕ)
@@ -27,22 +28,16 @@ targetsFrom file arity place = if eqb place 0 then none else some (take arity (f
 
 -- the index has the targets of the definitions
 pub record RowsFor (file index : List ℕ) (rs : List Record) : Type 0 where
-  pub targets : (q c : ℕ) → q < 16 → c < 32 → targetsFrom file (getD (aritiesOf rs) c 0) (placeIn index q c) ≡ targetsAt (transitionsOf rs) q c
+  pub targets : (q c : ℕ) → q < maxStates → c < maxConstructors → targetsFrom file (getD (aritiesOf rs) c 0) (placeIn index q c) ≡ targetsAt (transitionsOf rs) q c
 
 -- r is the place of the transition of a state and a constructor; 0 past the states and the constructors
 pub record IsPlaceIn (index : List ℕ) (q c r : ℕ) : Type 0 where
-  pub place : q < 16 → c < 32 → r ≡ placeIn index q c
-  pub inside : (r ≡ 0 → ⊥) → (q < 16) × (c < 32)
+  pub place : q < maxStates → c < maxConstructors → r ≡ placeIn index q c
+  pub inside : (r ≡ 0 → ⊥) → (q < maxStates) × (c < maxConstructors)
   pub bound : r < 65536
-
--- the index with no transition at any state and constructor
-pub record Emptied (before after : List ℕ) : Type 0 where
-  pub long : length after ≡ length before
-  pub stays : (i : ℕ) → i < rowBase → getD after i 0 ≡ getD before i 0
-  pub none : 8034 ≤ length before → (i : ℕ) → i < 512 → getD after (rowBase + i) 0 ≡ 0
 
 -- the index after the places of n transitions were entered: all up to them is as it was
 pub record FillsRows (file before : List ℕ) (n : ℕ) (after : List ℕ) : Type 0 where
   pub long : length after ≡ length before
   pub stays : (i : ℕ) → i < rowBase → getD after i 0 ≡ getD before i 0
-  pub rows : (rs : List Record) → Passed rs → Indexed file before Kind.transition n rs → n ≤ 512 → 8034 ≤ length before → RowsFor file after rs
+  pub rows : (rs : List Record) → Passed rs → Indexed file before Kind.transition n rs → n ≤ maxTransitions → indexSize ≤ length before → RowsFor file after rs

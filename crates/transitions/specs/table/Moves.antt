@@ -12,6 +12,7 @@ use Rattle.casefile.specs.Records.{Record}
 use Rattle.casefile.specs.Kinds.{Kind, payloads}
 use Rattle.casefile.specs.Tables.{aritiesOf, transitionsOf, targetsAt}
 use Rattle.casefile.specs.Promises.{Passed}
+use Rattle.index.specs.layout.Layout.{maxConstructors, maxStates, maxTransitions}
 use Rattle.index.specs.entries.Index.{Indexed}
 
 -- the row of a state and a constructor
@@ -33,21 +34,21 @@ targetsIn arity row = if eqb (getD row 0 0) 255 then none else some (take arity 
 
 -- a table holds the targets of the definitions
 pub record TableFor (rs : List Record) (t : List (List (List ℕ))) : Type 0 where
-  pub targets : (q c : ℕ) → q < 16 → c < 32 → targetsIn (getD (aritiesOf rs) c 0) (rowAt t q c) ≡ targetsAt (transitionsOf rs) q c
-  pub four : (q c : ℕ) → q < 16 → c < 32 → length (rowAt t q c) ≡ 4
+  pub targets : (q c : ℕ) → q < maxStates → c < maxConstructors → targetsIn (getD (aritiesOf rs) c 0) (rowAt t q c) ≡ targetsAt (transitionsOf rs) q c
+  pub four : (q c : ℕ) → q < maxStates → c < maxConstructors → length (rowAt t q c) ≡ 4
 
 -- the promise: the table is that of the file
 abbrev pub Holds : List ℕ → List ℕ → ℕ → List (List (List ℕ)) → Type 0
-Holds file index n t = (rs : List Record) → Passed rs → Indexed file index Kind.transition n rs → n ≤ 512 → TableFor rs t
+Holds file index n t = (rs : List Record) → Passed rs → Indexed file index Kind.transition n rs → n ≤ maxTransitions → TableFor rs t
 
 -- a table of 16 times 32 rows
 pub record Shaped (t : List (List (List ℕ))) : Type 0 where
-  pub states : length t ≡ 16
-  pub constructors : (q : ℕ) → q < 16 → length (getD t q []) ≡ 32
+  pub states : length t ≡ maxStates
+  pub constructors : (q : ℕ) → q < maxStates → length (getD t q []) ≡ maxConstructors
 
 -- while the table is filled: the transitions from number k on are in it
 pub record Sofar (file index : List ℕ) (n : ℕ) (t : List (List (List ℕ))) (k : ℕ) : Type 0 where
   pub count : k ≤ n
-  pub few : n ≤ 512
+  pub few : n ≤ maxTransitions
   pub shaped : Shaped t
-  pub rows : (rs : List Record) → Passed rs → Indexed file index Kind.transition n rs → (q c : ℕ) → q < 16 → c < 32 → rowAt t q c ≡ rowFor (drop k (payloads Kind.transition rs)) q c
+  pub rows : (rs : List Record) → Passed rs → Indexed file index Kind.transition n rs → (q c : ℕ) → q < maxStates → c < maxConstructors → rowAt t q c ≡ rowFor (drop k (payloads Kind.transition rs)) q c

@@ -18,6 +18,7 @@ use Rattle.casefile.proofs.Passed.{entry, kindOf-number}
 use Rattle.casefile.specs.Promises.{Passed}
 use Rattle.casefile.proofs.Growth.{grow-length}
 use Rattle.casefile.proofs.TypeTable.{count-payloads}
+use Rattle.index.specs.layout.Layout.{maxNonterminals}
 use Rattle.index.specs.entries.Codes.{codeFor}
 use Rattle.index.specs.entries.Index.{Indexed}
 use Rattle.index.specs.entries.Chains.{Chained}
@@ -89,7 +90,7 @@ module _ (file index lens counts : List ℕ) (rs : List Record) (known : Known f
       unfolding number
       of-rule e cs ns ec en t =
           as-kind rule r (t (many sort) rs (here rule n e r .counted) (known .sort-lens) (here constructor cs ec r .counted) (here nonterminal ns en r) (fit nonterminal ns en r)
-          (subst (λ z. z ≤ 256) (sym en) (known .fits nonterminal)) (λ i h. sort-listed i (subst (λ z. i < z) en h)))
+          (subst (λ z. z ≤ maxNonterminals) (sym en) (known .fits nonterminal)) (λ i h. sort-listed i (subst (λ z. i < z) en h)))
 
       pub of-transition : n ≡ many transition → (states constructors : ℕ) → states ≡ stateCount rs → constructors ≡ many constructor → TestsTransition file index n states constructors p r → r ≡ codeAs rs p (kindOf (number transition))
       of-transition e qs cs eq ec t = as-kind transition r (t rs (here transition n e r) (fit transition n e r) (sym eq) (here constructor cs ec r) (fit constructor cs ec r))

@@ -14,6 +14,7 @@ use Rattle.casefile.specs.Kinds.{states, payloads}
 use Rattle.casefile.specs.Tables.{stateCount}
 use Rattle.casefile.specs.Refusals.{wrongLength}
 use Rattle.casefile.proofs.TypeTable.{count-payloads}
+use Rattle.index.specs.layout.Layout.{statesAt}
 use Rattle.index.specs.entries.Index.{Indexed}
 use Rattle.index.specs.entries.Tests.{Fitting}
 
@@ -34,11 +35,11 @@ module _ (file index : List ℕ) (n : ℕ) (rs : List Record) (ix : Indexed file
   unfolding stateCount
   no-states e = sym (none-of (payloads states rs) (sym (count-payloads states rs) ∙ ix .counted ∙ e))
 
-  pub some-states : (n ≡ 0 → ⊥) → n ≤ 1 → Fitting states n rs → (at r : ℕ) → at ≡ getD index 3168 0 → r ≡ byte file at → r ≡ stateCount rs
+  pub some-states : (n ≡ 0 → ⊥) → n ≤ 1 → Fitting states n rs → (at r : ℕ) → at ≡ getD index statesAt 0 → r ≡ byte file at → r ≡ stateCount rs
   unfolding stateCount wrongLength
   some-states ne few fit at r e f =
       let one : n ≡ 1 = omega arith in
       let h : 0 < n = omega arith in
       let long : length (getD (payloads states rs) 0 []) ≡ 1 = eqb-true (length (getD (payloads states rs) 0 [])) 1 (not-false (eqb (length (getD (payloads states rs) 0 [])) 1) (fit 0 h)) in
-      let there : byte file (getD index 3168 0 + 0) ≡ byte (getD (payloads states rs) 0 []) 0 = ix .field-there 0 h 1 0 (omega arith) in
-      f ∙ ap (byte file) (e ∙ sym (add-zero (getD index 3168 0))) ∙ there ∙ sym (one-of (payloads states rs) (sym (count-payloads states rs) ∙ ix .counted ∙ one))
+      let there : byte file (getD index statesAt 0 + 0) ≡ byte (getD (payloads states rs) 0 []) 0 = ix .field-there 0 h 1 0 (omega arith) in
+      f ∙ ap (byte file) (e ∙ sym (add-zero (getD index statesAt 0))) ∙ there ∙ sym (one-of (payloads states rs) (sym (count-payloads states rs) ∙ ix .counted ∙ one))

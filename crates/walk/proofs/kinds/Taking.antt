@@ -1,6 +1,7 @@
 -- A record that is taken, from its code and from what was stored.
 use Prim.Native.Nat.{ℕ, zero, suc, _+_}
 use native.Mathlib.Omega.{arith}
+use native.Mathlib.Decide.{ℕ-discrete}
 use mathlib.Core.Path.{_≡_, refl, sym, ap, ap₂, subst, _∙_}
 use mathlib.Core.Bool.{false}
 use mathlib.Core.List.{List}
@@ -14,11 +15,15 @@ use Rattle.index.specs.enter.Entering.{stored, lensAfter, chainsAfter}
 use Rattle.index.proofs.enter.Storing.{number-inj}
 use Rattle.index.specs.entries.Known.{Known}
 use Rattle.walk.specs.kinds.Codes.{codeAs}
-use Rattle.walk.specs.kinds.Taking.{Taken}
+use Rattle.walk.specs.kinds.Taking.{Adds, Taken}
 
--- the entries of the first kind
-pub from-first : (index index′ : List ℕ) (n start : ℕ) → index′ ≡ stored index n start → index′ ≡ stored index (0 + n) start
-from-first index index′ n start e = let z : n ≡ 0 + n = omega arith in e ∙ ap (λ m. stored index m start) z
+-- an entry more, or none, by the code
+module _ {index counts : List ℕ} {kind base n start : ℕ} where
+  pub nothing-added : {code : ℕ} → (code ≡ 0 → ⊥) → Adds index counts kind base n code start index counts code
+  nothing-added ne = record { same = refl; added = λ z. absurd (ne z); stay = λ _. (refl, refl) }
+
+  pub one-added : {code : ℕ} {index′ counts′ : List ℕ} → code ≡ 0 → index′ ≡ stored index (base + n) start → counts′ ≡ stored counts kind (n + 1) → Adds index counts kind base n code start index′ counts′ 0
+  one-added z ei ec = record { same = sym z; added = λ _. (ei, ec); stay = λ ne. absurd (ne z) }
 
 module _ (file index lens counts : List ℕ) (start : ℕ) (p : List ℕ) (k : Kind) (r : ℕ) (code : (rs : List Record) → Known file index lens counts rs → Passed rs → r ≡ codeAs rs p (kindOf (number k))) where
   abbrev Takes : List ℕ → List ℕ → List ℕ → ℕ → Type 0
@@ -40,18 +45,34 @@ module _ (file index lens counts : List ℕ) (start : ℕ) (p : List ℕ) (k : K
       stay = λ ne. absurd (ne refl);
     }
 
-    -- a sort has its argument count entered, a type is chained, and another record changes no other table
-    pub entered-sort : {lens′ : List ℕ} → eqb (number k) 7 ≡ false → lens′ ≡ lensAfter lens (number k) n p → Takes index₁ lens′ counts′ 0
-    unfolding chainsAfter
-    entered-sort no-type el = entered (simp no-type) el
+  -- the record with one entry more in the index, or with none
+  module _ (n r′ : ℕ) (so-many : n ≡ getD counts (number k) 0) {index₁ counts′ : List ℕ} (adds : Adds index counts (number k) (base k) n r start index₁ counts′ r′) where
+    pub turned-away : (r′ ≡ 0 → ⊥) → Takes index₁ lens counts′ r′
+    turned-away ne =
+        let no : r ≡ 0 → ⊥ = λ z. ne (adds .same ∙ z) in
+        let (i, c) = adds .stay no in
+        rw (i, c, adds .same) (refused no)
 
-    pub entered-type : {index′ : List ℕ} → eqb (number k) 1 ≡ false → index′ ≡ chainsAfter index₁ (number k) n p → Takes index′ lens counts′ 0
-    unfolding lensAfter
-    entered-type no-sort ei′ = entered ei′ (simp no-sort)
+    module _ (z : r ≡ 0) where
+      passes : {index′ lens′ : List ℕ} → index′ ≡ chainsAfter index₁ (number k) n p → lens′ ≡ lensAfter lens (number k) n p → Takes index′ lens′ counts′ 0
+      passes = entered z n so-many (adds .added z .0) (adds .added z .1)
 
-    pub entered-plain : eqb (number k) 1 ≡ false → eqb (number k) 7 ≡ false → Takes index₁ lens counts′ 0
+      -- a sort has its argument count entered, a type is chained, and another record changes no other table
+      pub sort-added : {lens′ : List ℕ} → eqb (number k) 7 ≡ false → lens′ ≡ lensAfter lens (number k) n p → Takes index₁ lens′ counts′ 0
+      unfolding chainsAfter
+      sort-added no-type el = passes (simp no-type) el
+
+      pub type-added : {index′ : List ℕ} → eqb (number k) 1 ≡ false → index′ ≡ chainsAfter index₁ (number k) n p → Takes index′ lens counts′ 0
+      unfolding lensAfter
+      type-added no-sort ei = passes ei (simp no-sort)
+
+    pub plain-added : eqb (number k) 1 ≡ false → eqb (number k) 7 ≡ false → Takes index₁ lens counts′ r′
     unfolding chainsAfter
-    entered-plain no-sort no-type = entered-type no-sort (simp no-type)
+    plain-added no-sort no-type = go (ℕ-discrete r 0)
+      where
+        go : Dec (r ≡ 0) → Takes index₁ lens counts′ r′
+        go (yes z) = subst (Takes index₁ lens counts′) (sym (adds .same ∙ z)) (type-added z no-sort (simp no-type))
+        go (no ne) = turned-away (λ z. ne (sym (adds .same) ∙ z))
 
 -- A record by the number of its kind.
 module _ (file index lens counts : List ℕ) (kind start : ℕ) (p : List ℕ) where
@@ -75,3 +96,7 @@ module _ (file index lens counts : List ℕ) (kind start : ℕ) (p : List ℕ) w
       by rs (suc (suc (suc (suc (suc (suc (suc (suc zero)))))))) a b c d e f g h i = absurd (h refl)
       by rs (suc (suc (suc (suc (suc (suc (suc (suc (suc zero))))))))) a b c d e f g h i = absurd (i refl)
       by rs (suc (suc (suc (suc (suc (suc (suc (suc (suc (suc n)))))))))) a b c d e f g h i = refl
+
+  -- kind 0
+  pub no-kind : kind ≡ 0 → Taken file index lens counts kind start p index lens counts 3
+  no-kind z = unknown (λ e. omega arith) (λ e. omega arith) (λ e. omega arith) (λ e. omega arith) (λ e. omega arith) (λ e. omega arith) (λ e. omega arith) (λ e. omega arith) (λ e. omega arith)

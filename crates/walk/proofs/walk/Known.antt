@@ -24,6 +24,7 @@ use Rattle.casefile.specs.Tables.{grow, sortFrom, sortsOf}
 use Rattle.casefile.proofs.Passed.{payloads-more, payloads-other}
 use Rattle.casefile.proofs.Growth.{grow-append, grow-length}
 use Rattle.casefile.proofs.TypeTable.{count-payloads}
+use Rattle.index.specs.layout.Layout.{maxSorts, maxTypes, sortsAt, constructorsAt, nonterminalsAt, rulesAt, transitionsAt, typesAt, bindingsAt, statesAt, pathAt, hashesAt, linksAt, goalsAt, kinds, allSorts}
 use Rattle.index.specs.entries.Index.{base, Indexed}
 use Rattle.index.proofs.entries.Stays.{indexed-same}
 use Rattle.index.specs.entries.Chains.{hashOf, Chained}
@@ -33,19 +34,19 @@ use Rattle.walk.proofs.walk.Chains.{chained-below, chained-more}
 
 -- the number of the kind whose block holds a place of the index
 blockOf : ℕ → ℕ
-blockOf n = if ltb n 64 then 1 else (if ltb n 96 then 2 else (if ltb n 352 then 3 else (if ltb n 608 then 4 else (if ltb n 1120 then 6 else (if ltb n 2144 then 7 else (if ltb n 3168 then 8 else (if ltb n 3169 then 5 else 9)))))))
+blockOf n = if ltb n constructorsAt then 1 else (if ltb n nonterminalsAt then 2 else (if ltb n rulesAt then 3 else (if ltb n transitionsAt then 4 else (if ltb n typesAt then 6 else (if ltb n bindingsAt then 7 else (if ltb n statesAt then 8 else (if ltb n pathAt then 5 else 9)))))))
 
 block : (k : Kind) (i : ℕ) → i < room k → blockOf (base k + i) ≡ number k
 unfolding blockOf number
-block sort i h = simp (lt-ltb (0 + i) 64 (omega arith))
-block constructor i h = simp (le-ltb (64 + i) 64 (omega arith), lt-ltb (64 + i) 96 (omega arith))
-block nonterminal i h = simp (le-ltb (96 + i) 64 (omega arith), le-ltb (96 + i) 96 (omega arith), lt-ltb (96 + i) 352 (omega arith))
-block rule i h = simp (le-ltb (352 + i) 64 (omega arith), le-ltb (352 + i) 96 (omega arith), le-ltb (352 + i) 352 (omega arith), lt-ltb (352 + i) 608 (omega arith))
-block states i h = simp (le-ltb (3168 + i) 64 (omega arith), le-ltb (3168 + i) 96 (omega arith), le-ltb (3168 + i) 352 (omega arith), le-ltb (3168 + i) 608 (omega arith), le-ltb (3168 + i) 1120 (omega arith), le-ltb (3168 + i) 2144 (omega arith), le-ltb (3168 + i) 3168 (omega arith), lt-ltb (3168 + i) 3169 (omega arith))
-block transition i h = simp (le-ltb (608 + i) 64 (omega arith), le-ltb (608 + i) 96 (omega arith), le-ltb (608 + i) 352 (omega arith), le-ltb (608 + i) 608 (omega arith), lt-ltb (608 + i) 1120 (omega arith))
-block type i h = simp (le-ltb (1120 + i) 64 (omega arith), le-ltb (1120 + i) 96 (omega arith), le-ltb (1120 + i) 352 (omega arith), le-ltb (1120 + i) 608 (omega arith), le-ltb (1120 + i) 1120 (omega arith), lt-ltb (1120 + i) 2144 (omega arith))
-block binding i h = simp (le-ltb (2144 + i) 64 (omega arith), le-ltb (2144 + i) 96 (omega arith), le-ltb (2144 + i) 352 (omega arith), le-ltb (2144 + i) 608 (omega arith), le-ltb (2144 + i) 1120 (omega arith), le-ltb (2144 + i) 2144 (omega arith), lt-ltb (2144 + i) 3168 (omega arith))
-block path i h = simp (le-ltb (3169 + i) 64 (omega arith), le-ltb (3169 + i) 96 (omega arith), le-ltb (3169 + i) 352 (omega arith), le-ltb (3169 + i) 608 (omega arith), le-ltb (3169 + i) 1120 (omega arith), le-ltb (3169 + i) 2144 (omega arith), le-ltb (3169 + i) 3168 (omega arith), le-ltb (3169 + i) 3169 (omega arith))
+block sort i h = simp (lt-ltb (sortsAt + i) constructorsAt (omega arith))
+block constructor i h = simp (le-ltb (constructorsAt + i) constructorsAt (omega arith), lt-ltb (constructorsAt + i) nonterminalsAt (omega arith))
+block nonterminal i h = simp (le-ltb (nonterminalsAt + i) constructorsAt (omega arith), le-ltb (nonterminalsAt + i) nonterminalsAt (omega arith), lt-ltb (nonterminalsAt + i) rulesAt (omega arith))
+block rule i h = simp (le-ltb (rulesAt + i) constructorsAt (omega arith), le-ltb (rulesAt + i) nonterminalsAt (omega arith), le-ltb (rulesAt + i) rulesAt (omega arith), lt-ltb (rulesAt + i) transitionsAt (omega arith))
+block states i h = simp (le-ltb (statesAt + i) constructorsAt (omega arith), le-ltb (statesAt + i) nonterminalsAt (omega arith), le-ltb (statesAt + i) rulesAt (omega arith), le-ltb (statesAt + i) transitionsAt (omega arith), le-ltb (statesAt + i) typesAt (omega arith), le-ltb (statesAt + i) bindingsAt (omega arith), le-ltb (statesAt + i) statesAt (omega arith), lt-ltb (statesAt + i) pathAt (omega arith))
+block transition i h = simp (le-ltb (transitionsAt + i) constructorsAt (omega arith), le-ltb (transitionsAt + i) nonterminalsAt (omega arith), le-ltb (transitionsAt + i) rulesAt (omega arith), le-ltb (transitionsAt + i) transitionsAt (omega arith), lt-ltb (transitionsAt + i) typesAt (omega arith))
+block type i h = simp (le-ltb (typesAt + i) constructorsAt (omega arith), le-ltb (typesAt + i) nonterminalsAt (omega arith), le-ltb (typesAt + i) rulesAt (omega arith), le-ltb (typesAt + i) transitionsAt (omega arith), le-ltb (typesAt + i) typesAt (omega arith), lt-ltb (typesAt + i) bindingsAt (omega arith))
+block binding i h = simp (le-ltb (bindingsAt + i) constructorsAt (omega arith), le-ltb (bindingsAt + i) nonterminalsAt (omega arith), le-ltb (bindingsAt + i) rulesAt (omega arith), le-ltb (bindingsAt + i) transitionsAt (omega arith), le-ltb (bindingsAt + i) typesAt (omega arith), le-ltb (bindingsAt + i) bindingsAt (omega arith), lt-ltb (bindingsAt + i) statesAt (omega arith))
+block path i h = simp (le-ltb (pathAt + i) constructorsAt (omega arith), le-ltb (pathAt + i) nonterminalsAt (omega arith), le-ltb (pathAt + i) rulesAt (omega arith), le-ltb (pathAt + i) transitionsAt (omega arith), le-ltb (pathAt + i) typesAt (omega arith), le-ltb (pathAt + i) bindingsAt (omega arith), le-ltb (pathAt + i) statesAt (omega arith), le-ltb (pathAt + i) pathAt (omega arith))
 
 -- places of two kinds differ
 apart : (k k′ : Kind) (i j : ℕ) → i < room k → j < room k′ → (number k ≡ number k′ → ⊥) → base k + i ≢ base k′ + j
@@ -160,7 +161,7 @@ module _ (file index : List ℕ) (rs : List Record) (r : Record) (k : Kind) (n :
           field-there = each (λ b p. (w off : ℕ) → off + w ≤ length p → field w file (b + off) ≡ field w p off) (λ i h. old .field-there i h) new-field;
         }
 
-pub number-few : (k : Kind) → number k < 10
+pub number-few : (k : Kind) → number k < kinds
 unfolding number
 number-few sort = omega arith
 number-few constructor = omega arith
@@ -172,7 +173,7 @@ number-few type = omega arith
 number-few binding = omega arith
 number-few path = omega arith
 
-pub base-room : (k : Kind) (i : ℕ) → i < room k → base k + i < 3170
+pub base-room : (k : Kind) (i : ℕ) → i < room k → base k + i < hashesAt
 base-room sort i h = omega arith
 base-room constructor i h = omega arith
 base-room nonterminal i h = omega arith
@@ -187,7 +188,7 @@ base-room path i h = omega arith
 module _ (file index lens counts : List ℕ) (rs : List Record) (known : Known file index lens counts rs)
     (r : Record) (at start : ℕ) (is-record : r ≡ recordAt file at) (fits : whole file at ≡ true) (is-start : start ≡ at + 4)
     (k : Kind) (is-kind : r .kind ≡ number k) (many : getD counts (number k) 0 < room k)
-    (index-long : 4450 ≤ length index) (counts-long : length counts ≡ 10) where
+    (index-long : goalsAt ≤ length index) (counts-long : length counts ≡ kinds) where
   abbrev n : ℕ
   n = getD counts (number k) 0
 
@@ -250,10 +251,10 @@ module _ (file index lens counts : List ℕ) (rs : List Record) (known : Known f
   -- a type, chained by the hash of its payload
   module _ (is-type : number k ≡ 7) where
     abbrev head : ℕ
-    head = 3170 + hashOf (r .payload)
+    head = hashesAt + hashOf (r .payload)
 
     abbrev index⁺⁺ : List ℕ
-    index⁺⁺ = set (set index⁺ (3426 + n) (getD index⁺ head 0)) head (n + 1)
+    index⁺⁺ = set (set index⁺ (linksAt + n) (getD index⁺ head 0)) head (n + 1)
 
     pub chained-before : Chained (set index (base k + n) start) (payloads type rs) n
     chained-before = subst (Chained index⁺ (payloads type rs)) (ap (λ z. getD counts z 0) (sym is-type)) chained⁺
@@ -262,23 +263,23 @@ module _ (file index lens counts : List ℕ) (rs : List Record) (known : Known f
     unfolding number
     types-many = sym (count-payloads type rs) ∙ known .entries type .counted ∙ ap (λ z. getD counts z 0) (sym is-type)
 
-    few : n < 1024
+    few : n < maxTypes
     unfolding number
     few = subst (λ z. n < room z) (number-inj k type is-type) many
 
     outside : (k′ : Kind) (i : ℕ) → i < getD counts⁺ (number k′) 0 → getD index⁺⁺ (base k′ + i) 0 ≡ getD index⁺ (base k′ + i) 0
     outside k′ i h =
         let below = base-room k′ i (let f = fits-all k′ in omega arith) in
-        getD-set-other (set index⁺ (3426 + n) (getD index⁺ head 0)) head (base k′ + i) (n + 1) 0 (omega arith) ∙ getD-set-other index⁺ (3426 + n) (base k′ + i) (getD index⁺ head 0) 0 (omega arith)
+        getD-set-other (set index⁺ (linksAt + n) (getD index⁺ head 0)) head (base k′ + i) (n + 1) 0 (omega arith) ∙ getD-set-other index⁺ (linksAt + n) (base k′ + i) (getD index⁺ head 0) 0 (omega arith)
 
     chained-type : Chained index⁺⁺ (payloads type (rs ++ (r ∷ []))) (getD counts⁺ 7 0)
     unfolding number
     chained-type =
         let one : suc n ≡ getD counts⁺ 7 0 = (let a = counted-here in let b = ap (λ z. getD counts⁺ z 0) is-type in omega arith) in
         rw (payloads-more type rs r (eq-eqb (r .kind) 7 (is-kind ∙ is-type)), ← one)
-        (chained-more index⁺ (payloads type rs) n (r .payload) (subst (λ z. 4450 ≤ z) (sym (length-set index (base k + n) start)) index-long) types-many few chained-before)
+        (chained-more index⁺ (payloads type rs) n (r .payload) (subst (λ z. goalsAt ≤ z) (sym (length-set index (base k + n) start)) index-long) types-many few chained-before)
 
-    pub known-type : Known file (set (set (set index (base k + n) start) (3426 + n) (getD (set index (base k + n) start) (3170 + hashOf (r .payload)) 0)) (3170 + hashOf (r .payload)) (n + 1)) lens (set counts (number k) (n + 1)) (rs ++ (r ∷ []))
+    pub known-type : Known file (set (set (set index (base k + n) start) (linksAt + n) (getD (set index (base k + n) start) (hashesAt + hashOf (r .payload)) 0)) (hashesAt + hashOf (r .payload)) (n + 1)) lens (set counts (number k) (n + 1)) (rs ++ (r ∷ []))
     known-type =
         record {
           entries = λ k′. indexed-same (outside k′) (entries-all k′);
@@ -288,7 +289,7 @@ module _ (file index lens counts : List ℕ) (rs : List Record) (known : Known f
         }
 
   -- a sort, of one argument more than the sort its `to` names
-  module _ (is-sort : k ≡ sort) (len : ℕ) (to-listed : word (r .payload) 2 ≤ n) (is-len : len ≡ getD lens (word (r .payload) 2) 0 + 1) (lens-long : length lens ≡ 65) where
+  module _ (is-sort : k ≡ sort) (len : ℕ) (to-listed : word (r .payload) 2 ≤ n) (is-len : len ≡ getD lens (word (r .payload) 2) 0 + 1) (lens-long : length lens ≡ allSorts) where
     sorts : List Sort
     sorts = sortsOf rs
 
@@ -333,7 +334,7 @@ module _ (file index lens counts : List ℕ) (rs : List Record) (known : Known f
             go (yes l) = inl l
             go (no l) = inr (omega arith)
 
-        room-left : n < 64
+        room-left : n < maxSorts
         room-left = subst (λ z. n < room z) is-sort many
 
         lens-by : (i : ℕ) → (i < suc n) ⊎ (i ≡ n + 1) → getD (set lens (n + 1) len) i 0 ≡ length (arguments (getD (sortsOf (rs ++ (r ∷ []))) i o))

@@ -1,6 +1,7 @@
 -- The walk under way: how it starts, what a record does to it, how it ends, and what a turn comes to.
 use Prim.Native.Nat.{ℕ, zero, suc, _+_, _-_, _<_, _≤_, _^_}
 use native.Mathlib.Omega.{arith}
+use native.Mathlib.Nat.{zero-add}
 use mathlib.Core.Path.{_≡_, refl, sym, ap, ap₂, subst, _∙_}
 use mathlib.Core.Logic.{⊎-elim}
 use mathlib.Core.Bool.{Bool, true, false, not, _||_}
@@ -13,7 +14,7 @@ use denote.Enum.Declared.{tagOf}
 use mathlib.Core.WellFounded.{WellFounded, InvImage·wf}
 use lib.WfN.{Nat·lt-wfRel}
 use lib.Dec.{T, ltb, leb, eqb}
-use lib.ListN.{length, getD, set, replicate, length-set, getD-replicate}
+use lib.ListN.{length, getD, set, length-set}
 use lib.Seq.{getD-set-same}
 use Rattle.scheme.specs.Lists.{if_then_else_, lastOr, select}
 use Rattle.scheme.specs.Sorts.{o, arguments}
@@ -34,6 +35,7 @@ use Rattle.casefile.specs.Promises.{Passed, nothing, also}
 use Rattle.casefile.proofs.Plans.{signatures-length}
 use Rattle.walk.proofs.kinds.Dispatch.{sorts-length}
 use Rattle.scheme.proofs.Lists.{or-false, and-false}
+use Rattle.index.specs.layout.Layout.{maxFile, maxSorts, maxConstructors, maxNonterminals, maxTransitions, maxTypes, maxBindings, hashes, hashesAt, goalsAt, kinds, allSorts}
 use Rattle.index.specs.entries.Codes.{codeFor}
 use Rattle.index.specs.entries.Index.{base, Indexed}
 use Rattle.index.specs.entries.Chains.{hashOf}
@@ -44,9 +46,9 @@ use Rattle.walk.specs.declared.walk.Walked.the-variants as walked
 use Rattle.index.specs.entries.Known.{room, Known}
 use Rattle.walk.specs.kinds.Codes.{codeAs}
 use Rattle.walk.specs.kinds.Taking.{Taken}
-use Rattle.index.specs.enter.Entering.{stored, lensAfter, chainsAfter}
+use Rattle.index.specs.enter.Entering.{Clears, stored, lensAfter, chainsAfter}
 use Rattle.walk.specs.declared.walk.Turned.{Turned}
-use Rattle.walk.specs.walk.Walking.{Emptied, Walking, WalkEnds, endOf, ended, GoesOn, endsOr, TurnsTo, PassesTo, WalksTo}
+use Rattle.walk.specs.walk.Walking.{Walking, WalkEnds, endOf, ended, GoesOn, endsOr, TurnsTo, PassesTo, WalksTo}
 use Rattle.walk.proofs.walk.Chains.{chained-none}
 use Rattle.walk.proofs.walk.Known.{known-more, known-sort, known-type, chained-before, number-few}
 use Rattle.index.proofs.enter.Storing.{number-inj, stored-set, lens-length, lens-other, chains-other, chains-set, chains-length}
@@ -64,25 +66,26 @@ none-indexed file index k n e =
       field-there = λ i h w a l. absurd (omega arith);
     }
 
-zero-count : (k : ℕ) → k < 10 → (counts : List ℕ) → counts ≡ replicate 10 0 → getD counts k 0 ≡ 0
-zero-count k h counts e = ap (λ z. getD z k 0) e ∙ getD-replicate 10 k 0 0 h
+-- the counts of the kinds when all are cleared
+zero-count : (counts counts′ : List ℕ) → length counts ≡ kinds → Clears counts 0 kinds counts′ → (k : ℕ) → k < kinds → getD counts′ k 0 ≡ 0
+zero-count counts counts′ ten c k h = ap (λ j. getD counts′ j 0) (sym (zero-add k)) ∙ c .zeros (omega arith) k h
 
-pub starts : (file index lens lens′ counts counts′ : List ℕ) → 4450 ≤ length index → ((h : ℕ) → h < 256 → getD index (3170 + h) 0 ≡ 0) → length lens ≡ 65 → length counts ≡ 10 → counts′ ≡ replicate (length counts) 0 → lens′ ≡ stored lens 0 0
+pub starts : (file index lens lens′ counts counts′ : List ℕ) → goalsAt ≤ length index → ((h : ℕ) → h < hashes → getD index (hashesAt + h) 0 ≡ 0) → length lens ≡ allSorts → length counts ≡ kinds → Clears counts 0 kinds counts′ → lens′ ≡ stored lens 0 0
     → Walking file index lens′ counts′ 0 0
 unfolding lastKind lastOr recordsOf sortsOf payloads ofKind select grow arguments
 starts file index lens lens′ counts counts′ hi hz hl hc ec el =
-    let ten : counts′ ≡ replicate 10 0 = ec ∙ ap (λ n. replicate n 0) hc in
+    let none : (k : ℕ) → k < kinds → getD counts′ k 0 ≡ 0 = zero-count counts counts′ hc ec in
     let is : lens′ ≡ set lens 0 0 = el ∙ stored-set lens 0 0 (omega arith) in
     record {
       rs = [];
       known = record {
-        entries = λ k. none-indexed file index k (getD counts′ (number k) 0) (zero-count (number k) (number-few k) counts′ ten);
-        fits = λ k. let z = zero-count (number k) (number-few k) counts′ ten in omega arith;
+        entries = λ k. none-indexed file index k (getD counts′ (number k) 0) (none (number k) (number-few k));
+        fits = λ k. let z = none (number k) (number-few k) in omega arith;
         sort-lens = λ i h.
-            let none-there = zero-count 1 (omega arith) counts′ ten in
+            let none-there = none 1 (omega arith) in
             let first : i ≡ 0 = omega arith in
             rw first (ap (λ z. getD z 0 0) is ∙ getD-set-same lens 0 0 0 (omega arith));
-        chained = rw (zero-count 7 (omega arith) counts′ ten) (chained-none index hz);
+        chained = rw (none 7 (omega arith)) (chained-none index hz);
       };
       passed = nothing;
       lastly = refl;
@@ -93,7 +96,7 @@ starts file index lens lens′ counts counts′ hi hz hl hc ec el =
       all = refl;
       index-long = hi;
       lens-long = ap length is ∙ length-set lens 0 0 ∙ hl;
-      counts-long = ap length ten;
+      counts-long = ec .long ∙ hc;
     }
 
 -- The code of a record is its refusal.
@@ -147,16 +150,16 @@ module _ (rs : List Record) (r : Record) (up : lastKind rs ≤ r .kind) where
       by (some k) f g = (as-kind ∙ ap (refuseKind rs r) f ∙ code-none rs r k g, (k, refl))
 
 -- There is room for a record that passed.
-room-left : (k : Kind) (rs : List Record) (p : List ℕ) → Tested rs p k → count nonterminal rs ≤ 256 → count k rs < room k
+room-left : (k : Kind) (rs : List Record) (p : List ℕ) → Tested rs p k → count nonterminal rs ≤ maxNonterminals → count k rs < room k
 unfolding tooMany outOfRange
-room-left sort rs p t h = leb-false 64 (count sort rs) (or-false (leb 64 (count sort rs)) (tooLarge rs p sort) (t .few) .0)
-room-left constructor rs p t h = leb-false 32 (count constructor rs) (or-false (leb 32 (count constructor rs)) (tooLarge rs p constructor) (t .few) .0)
-room-left nonterminal rs p t h = leb-false 256 (count nonterminal rs) (or-false (leb 256 (count nonterminal rs)) (tooLarge rs p nonterminal) (t .few) .0)
+room-left sort rs p t h = leb-false maxSorts (count sort rs) (or-false (leb maxSorts (count sort rs)) (tooLarge rs p sort) (t .few) .0)
+room-left constructor rs p t h = leb-false maxConstructors (count constructor rs) (or-false (leb maxConstructors (count constructor rs)) (tooLarge rs p constructor) (t .few) .0)
+room-left nonterminal rs p t h = leb-false maxNonterminals (count nonterminal rs) (or-false (leb maxNonterminals (count nonterminal rs)) (tooLarge rs p nonterminal) (t .few) .0)
 room-left rule rs p t h = let below = leb-false (length (signaturesOf rs)) (count rule rs) (or-false (leb (length (signaturesOf rs)) (count rule rs)) _ (t .ranges) .0) in let e = signatures-length rs in omega arith
 room-left states rs p t h = leb-false 1 (count states rs) (or-false (leb 1 (count states rs)) (tooLarge rs p states) (t .few) .0)
-room-left transition rs p t h = leb-false 512 (count transition rs) (or-false (leb 512 (count transition rs)) (tooLarge rs p transition) (t .few) .0)
-room-left type rs p t h = leb-false 1024 (count type rs) (or-false (leb 1024 (count type rs)) (tooLarge rs p type) (t .few) .0)
-room-left binding rs p t h = leb-false 1024 (count binding rs) (or-false (leb 1024 (count binding rs)) (tooLarge rs p binding) (t .few) .0)
+room-left transition rs p t h = leb-false maxTransitions (count transition rs) (or-false (leb maxTransitions (count transition rs)) (tooLarge rs p transition) (t .few) .0)
+room-left type rs p t h = leb-false maxTypes (count type rs) (or-false (leb maxTypes (count type rs)) (tooLarge rs p type) (t .few) .0)
+room-left binding rs p t h = leb-false maxBindings (count binding rs) (or-false (leb maxBindings (count binding rs)) (tooLarge rs p binding) (t .few) .0)
 room-left path rs p t h = leb-false 1 (count path rs) (or-false (leb 1 (count path rs)) (tooLarge rs p path) (t .few) .0)
 
 -- the sort that `to` names is listed
@@ -283,7 +286,7 @@ module _ {file index lens counts : List ℕ} {at last : ℕ} (w : Walking file i
     turned p n ep up en ne = as-place n (refused-code (w .rs) r (not-lower up) n (code-of p n ep en) ne)
 
     -- a record that passes
-    module _ (p index′ lens′ counts′ : List ℕ) (ep : p ≡ partOf file start len) (up : last ≤ kind) (ez : 0 ≡ codeAs (w .rs) p (kindOf kind)) (few : length file ≤ 60000)
+    module _ (p index′ lens′ counts′ : List ℕ) (ep : p ≡ partOf file start len) (up : last ≤ kind) (ez : 0 ≡ codeAs (w .rs) p (kindOf kind)) (few : length file ≤ maxFile)
         (ei : (k : Kind) → kind ≡ number k → index′ ≡ chainsAfter (stored index (base k + getD counts kind 0) start) kind (getD counts kind 0) p)
         (el : lens′ ≡ lensAfter lens kind (getD counts kind 0) p) (ec : counts′ ≡ stored counts kind (getD counts kind 0 + 1)) where
       passes : (refuseRecord (w .rs) r ≡ none) × ((k : Kind) × (kindOf (r .kind) ≡ some k))
@@ -387,7 +390,7 @@ module _ {file index lens counts : List ℕ} {at last : ℕ} (w : Walking file i
             enough = let a = w .enough in let b = step-of (w .fuel) (w .enough) .1 in let d = rr .next-is in omega (arith, left-is);
             same = λ flags. sym (ap (λ z. unlessRefused z (caseFrom flags (walk left file (c .at)) next-records)) (passes .0)) ∙ sym (ap (λ z. caseFrom flags z (w .rs)) stepped) ∙ w .same flags;
             all = append-assoc (w .rs) (r ∷ []) (listed (walk left file (c .at))) ∙ sym (ap (λ z. w .rs ++ listed z) stepped) ∙ w .all;
-            index-long = subst (λ z. 4450 ≤ z) (sym (ap length index-is ∙ chains-length (set index (base k + n) start) kind n (r .payload) ∙ length-set index (base k + n) start)) (w .index-long);
+            index-long = subst (λ z. goalsAt ≤ z) (sym (ap length index-is ∙ chains-length (set index (base k + n) start) kind n (r .payload) ∙ length-set index (base k + n) start)) (w .index-long);
             lens-long = ap length el ∙ lens-length lens kind (getD counts kind 0) p ∙ w .lens-long;
             counts-long = ap length counts-is ∙ length-set counts (number k) (n + 1) ∙ w .counts-long;
           }
@@ -396,7 +399,7 @@ module _ {file index lens counts : List ℕ} {at last : ℕ} (w : Walking file i
 module _ {file index lens counts : List ℕ} {last : ℕ} where
   -- the walk is over
   over-at : (g : Rattle.records.specs.declared.cursor.Read.Read) (p index′ lens′ counts′ : List ℕ) (t : Turned) (w : Walked) → t ≡ ended w
-      → ((at : ℕ) → g ≡ readAt file at → p ≡ payloadOf file g → length file ≤ 60000 → Walking file index lens counts at last → WalkEnds file index′ lens′ counts′ w) → TurnsTo file g p last index lens counts index′ lens′ counts′ t
+      → ((at : ℕ) → g ≡ readAt file at → p ≡ payloadOf file g → length file ≤ maxFile → Walking file index lens counts at last → WalkEnds file index′ lens′ counts′ w) → TurnsTo file g p last index lens counts index′ lens′ counts′ t
   over-at g p index′ lens′ counts′ t w e h = subst (TurnsTo file g p last index lens counts index′ lens′ counts′) (sym e) (record { comes-to = h })
 
   pub turn-stops : (g : Rattle.records.specs.declared.cursor.Read.Read) (p : List ℕ) → OneOf (1 ∷ 2 ∷ []) (tagOf the-type g) → (t : Turned) → t ≡ ended (endOf g) → TurnsTo file g p last index lens counts index lens counts t
@@ -434,7 +437,7 @@ pub record Carried (file index₀ lens₀ counts₀ : List ℕ) : Type 0 where
   pub index-same : length index ≡ length index₀
   pub lens-same : length lens ≡ length lens₀
   pub counts-same : length counts ≡ length counts₀
-  pub walking : length file ≤ 60000 → Walking file index₀ lens₀ counts₀ 0 0 → Walking file index lens counts at last
+  pub walking : length file ≤ maxFile → Walking file index₀ lens₀ counts₀ 0 0 → Walking file index lens counts at last
 
 -- the bytes that are left fall from turn to turn
 abbrev pub Below : (file index₀ lens₀ counts₀ : List ℕ) → Carried file index₀ lens₀ counts₀ → Carried file index₀ lens₀ counts₀ → Type 0
@@ -493,7 +496,7 @@ module _ {file index₀ lens₀ counts₀ : List ℕ} (c : Carried file index₀
   carried-less y = still-on y .less
 
 -- The walk, from what its functions promise.
-pub whole-walk : (file index index′ lens lens′ counts counts′ index″ lens″ counts″ : List ℕ) (t : Turned) → counts′ ≡ replicate (length counts) 0 → lens′ ≡ stored lens 0 0 → Emptied index index′
+pub whole-walk : (file index index′ lens lens′ counts counts′ index″ lens″ counts″ : List ℕ) (t : Turned) → Clears counts 0 kinds counts′ → lens′ ≡ stored lens 0 0 → Clears index hashesAt hashes index′
     → PassesTo file index′ lens′ counts′ index″ lens″ counts″ t → WalksTo file index lens counts index″ lens″ counts″ (t .walked)
 whole-walk file index index′ lens lens′ counts counts′ index″ lens″ counts″ t ec el empty passes = λ hi hl hc few.
-    passes few (starts file index′ lens lens′ counts counts′ (subst (λ z. 4450 ≤ z) (sym (empty .long)) hi) (empty .none (omega arith)) hl hc ec el)
+    passes few (starts file index′ lens lens′ counts counts′ (subst (λ z. goalsAt ≤ z) (sym (empty .long)) hi) (empty .zeros (omega arith)) hl hc ec el)

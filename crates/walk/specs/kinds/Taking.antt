@@ -11,6 +11,12 @@ use Rattle.index.specs.enter.Entering.{stored, lensAfter, chainsAfter}
 use Rattle.index.specs.entries.Known.{Known}
 use Rattle.walk.specs.kinds.Codes.{codeAs}
 
+-- the index and the counts with one entry more behind n others of a kind, whose entries begin at `base`, where the code is 0; r is the code
+pub record Adds (index counts : List ℕ) (kind base n code start : ℕ) (index′ counts′ : List ℕ) (r : ℕ) : Type 0 where
+  pub same : r ≡ code
+  pub added : code ≡ 0 → (index′ ≡ stored index (base + n) start) × (counts′ ≡ stored counts kind (n + 1))
+  pub stay : (code ≡ 0 → ⊥) → (index′ ≡ index) × (counts′ ≡ counts)
+
 -- a record of a kind with the payload p, which begins at start, is entered behind the others of its kind
 pub record Entered (index lens counts : List ℕ) (kind start : ℕ) (p index′ lens′ counts′ : List ℕ) : Type 0 where
   pub index-is : (k : Kind) → kind ≡ number k → index′ ≡ chainsAfter (stored index (base k + getD counts kind 0) start) kind (getD counts kind 0) p

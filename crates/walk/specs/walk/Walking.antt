@@ -11,15 +11,11 @@ use Rattle.casefile.specs.Kinds.{Kind, payloads}
 use Rattle.casefile.specs.Refusals.{lastKind, refuseWhole}
 use Rattle.casefile.specs.Cases.{refusedCase, unlessRefused, acceptedCase, caseFrom}
 use Rattle.casefile.specs.Promises.{Passed}
+use Rattle.index.specs.layout.Layout.{maxFile, goalsAt, kinds, allSorts}
 use Rattle.index.specs.entries.Known.{Known}
 use Rattle.walk.specs.declared.walk.Walked.{Walked}
 use Rattle.walk.specs.declared.walk.Walked.the-variants.{Refused, Read}
 use Rattle.walk.specs.declared.walk.Turned.{Turned}
-
--- no type is chained: the heads of all hashes are 0
-pub record Emptied (index index′ : List ℕ) : Type 0 where
-  pub long : length index′ ≡ length index
-  pub none : 3426 ≤ length index → (h : ℕ) → h < 256 → getD index′ (3170 + h) 0 ≡ 0
 
 -- the walk is under way: the tables hold the records before `at`, whose last kind is `last`, and what is left of the file decides
 pub record Walking (file index lens counts : List ℕ) (at last : ℕ) : Type 0 where
@@ -32,9 +28,9 @@ pub record Walking (file index lens counts : List ℕ) (at last : ℕ) : Type 0 
   pub enough : length file ≤ at + fuel
   pub same : (flags : ℕ) → caseFrom flags (walk fuel file at) rs ≡ caseFrom flags (recordsOf file) []
   pub all : rs ++ listed (walk fuel file at) ≡ listed (recordsOf file)
-  pub index-long : 4450 ≤ length index
-  pub lens-long : length lens ≡ 65
-  pub counts-long : length counts ≡ 10
+  pub index-long : goalsAt ≤ length index
+  pub lens-long : length lens ≡ allSorts
+  pub counts-long : length counts ≡ kinds
 
 -- every record passed: they are all in the arrays, and 8 to 12 are left
 pub record AllRead (file index lens counts : List ℕ) : Type 0 where
@@ -60,7 +56,7 @@ ended w = record { over = true; walked = w; next = 0; kind = 0 }
 -- the walk goes on behind a record: the place moves, and the tables hold one record more
 pub record GoesOn (file index lens counts index′ lens′ counts′ : List ℕ) (at last next kind : ℕ) : Type 0 where
   pub less : length file - next < length file - at
-  pub walking : length file ≤ 60000 → Walking file index lens counts at last → Walking file index′ lens′ counts′ next kind
+  pub walking : length file ≤ maxFile → Walking file index lens counts at last → Walking file index′ lens′ counts′ next kind
 
 -- what one turn comes to at a place: the end of the walk, or that it goes on
 abbrev pub endsOr : Bool → Type 0 → Type 0 → Type 0
@@ -69,7 +65,7 @@ endsOr false a b = b
 
 abbrev pub TurnEnds : List ℕ → List ℕ → List ℕ → List ℕ → List ℕ → List ℕ → List ℕ → ℕ → ℕ → Turned → Type 0
 TurnEnds file index lens counts index′ lens′ counts′ at last t =
-    endsOr (t .over) (length file ≤ 60000 → Walking file index lens counts at last → WalkEnds file index′ lens′ counts′ (t .walked)) (GoesOn file index lens counts index′ lens′ counts′ at last (t .next) (t .kind))
+    endsOr (t .over) (length file ≤ maxFile → Walking file index lens counts at last → WalkEnds file index′ lens′ counts′ (t .walked)) (GoesOn file index lens counts index′ lens′ counts′ at last (t .next) (t .kind))
 
 -- the promise of a turn, at whatever place its answer was read, with the payload that goes with the answer
 pub record TurnsTo (file : List ℕ) (got : Rattle.records.specs.declared.cursor.Read.Read) (payload : List ℕ) (last : ℕ) (index lens counts index′ lens′ counts′ : List ℕ) (t : Turned) : Type 0 where
@@ -77,8 +73,8 @@ pub record TurnsTo (file : List ℕ) (got : Rattle.records.specs.declared.curso
 
 -- the promise of a pass: all turns from the start of a file on
 abbrev pub PassesTo : List ℕ → List ℕ → List ℕ → List ℕ → List ℕ → List ℕ → List ℕ → Turned → Type 0
-PassesTo file index lens counts index′ lens′ counts′ t = length file ≤ 60000 → Walking file index lens counts 0 0 → WalkEnds file index′ lens′ counts′ (t .walked)
+PassesTo file index lens counts index′ lens′ counts′ t = length file ≤ maxFile → Walking file index lens counts 0 0 → WalkEnds file index′ lens′ counts′ (t .walked)
 
 -- the promise of the walk, for tables of the right sizes
 abbrev pub WalksTo : List ℕ → List ℕ → List ℕ → List ℕ → List ℕ → List ℕ → List ℕ → Walked → Type 0
-WalksTo file index lens counts index′ lens′ counts′ r = 4450 ≤ length index → length lens ≡ 65 → length counts ≡ 10 → length file ≤ 60000 → WalkEnds file index′ lens′ counts′ r
+WalksTo file index lens counts index′ lens′ counts′ r = goalsAt ≤ length index → length lens ≡ allSorts → length counts ≡ kinds → length file ≤ maxFile → WalkEnds file index′ lens′ counts′ r

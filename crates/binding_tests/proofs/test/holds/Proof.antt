@@ -1,7 +1,8 @@
 -- `holds` meets its contract.
 use mathlib.Core.Path.{refl}
 use native.Mathlib.Omega.{arith}
-use Rattle.binding_tests.proofs.test.Testing.{entry-part, binding-far, binding-tested}
+use Rattle.binding_tests.proofs.test.Testing.{binding-far, binding-tested}
+use Rattle.index.proofs.lookup.Found.{entry-is}
 use borrow.Author.Needs.{needs}
 use Rattle.binding_tests.proofs.test.holds.Statement.{statement}
 use Rattle.binding_tests.proofs.test.holds.Tie as tie
@@ -43,7 +44,7 @@ same-length : tie.Need-same-length
 same-length c = search needs
 
 returns-2 : tie.Need-returns-2
-returns-2 c = binding-tested _ _ _ _ _ _ _ _ _ _ _ _ _ _ _ _ _ _ (c .before .before .before .before .before .before .before .before .before .before .before .before .before .before .before .before .place-at .ensures .value) (c .before .before .before .before .before .before .before .before .before .before .before .before .before .before .before .place-at2 .ensures .value) (c .before .before .before .before .before .before .before .before .before .before .before .before .before .symbol-of .ensures) (c .before .before .before .before .before .before .before .before .before .before .before .own-of .ensures) (let h = c .before .before .before .before .before .before .before .before .before .before .before .before .before .before .before .before .before .if1 .left in omega arith) (c .before .before .before .before .before .before .before .before .before .final-of .ensures) (entry-part _ _ _ _ _ (c .before .before .before .before .before .before .before .place-at3 .ensures .value) (c .before .before .before .before .before .before .length-at .ensures)) (c .before .before .before .before .before .place-at4 .ensures .value) refl _ _ (c .before .before .check-term .ensures)
+returns-2 c = binding-tested _ _ _ _ _ _ _ _ _ _ _ _ _ _ _ _ _ _ (c .before .before .before .before .before .before .before .before .before .before .before .before .before .before .before .before .place-at .ensures .value) (c .before .before .before .before .before .before .before .before .before .before .before .before .before .before .before .place-at2 .ensures .value) (c .before .before .before .before .before .before .before .before .before .before .before .before .before .symbol-of .ensures) (c .before .before .before .before .before .before .before .before .before .before .before .own-of .ensures) (let h = c .before .before .before .before .before .before .before .before .before .before .before .before .before .before .before .before .before .if1 .left in omega arith) (c .before .before .before .before .before .before .before .before .before .final-of .ensures) (entry-is _ _ _ _ _ (c .before .before .before .before .before .before .before .place-at3 .ensures .value) (c .before .before .before .before .before .before .length-at .ensures)) (c .before .before .before .before .before .place-at4 .ensures .value) refl _ _ (c .before .before .check-term .ensures)
 
 pub holds-spec : {M : Type 1} → statement M
 holds-spec =

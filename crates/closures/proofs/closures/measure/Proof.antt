@@ -6,12 +6,13 @@ use Rattle.closures.proofs.closures.Measuring.{Measuring, measure-start
 use borrow.Author.Needs.{needs}
 use Rattle.closures.proofs.closures.measure.Statement.{statement}
 use Rattle.closures.proofs.closures.measure.Tie as tie
+use Rattle.index.specs.layout.Layout.{placeUnits}
 
 abbrev Inv-loop : tie.InvT-loop
 Inv-loop file cells at block count next₀ need₀ nodes₀ next need nodes = Measuring file cells at block count next need nodes
 
 abbrev μ-loop : tie.MeasureT-loop
-μ-loop file cells at block count next₀ need₀ nodes₀ next need nodes = 131072 - next
+μ-loop file cells at block count next₀ need₀ nodes₀ next need nodes = placeUnits - next
 
 loop-holds : tie.Need-loop-holds Inv-loop μ-loop
 loop-holds c = measure-start _ _ _ _ _

@@ -11,6 +11,7 @@ use Rattle.scheme.specs.Lists.{if_then_else_}
 use Rattle.casefile.specs.Records.{Record}
 use Rattle.casefile.specs.Kinds.{nonterminal, type, binding, count}
 use Rattle.casefile.specs.Refusals.{wrongLength, tooMany, tooLarge, outOfRange, misplaced}
+use Rattle.index.specs.layout.Layout.{maxBindings}
 use Rattle.index.specs.entries.Codes.{codeFor}
 use Rattle.index.specs.entries.Index.{Indexed}
 use Rattle.index.specs.entries.Tests.{Fitting}
@@ -24,7 +25,7 @@ returns c rs ix fit e t = simp (ne-eqb _ 4 (c .if1 .taken))
 
 returns-2 : tie.Need-returns-2
 unfolding codeFor wrongLength tooMany
-returns-2 c rs ix fit e t = simp (eq-eqb _ 4 (c .before .if1 .left), ix .counted, le-leb 1024 _ (c .if2 .taken))
+returns-2 c rs ix fit e t = simp (eq-eqb _ 4 (c .before .if1 .left), ix .counted, le-leb maxBindings _ (c .if2 .taken))
 
 word-at-requires : tie.Need-word-at-requires
 word-at-requires c κs = search needs
@@ -39,8 +40,8 @@ returns-3 c rs ix fit e t =
     let f = c .before .before .word-at .ensures .value in
     let u = c .before .word-at2 .ensures .value in
     ⊎-elim
-    (λ w. simp (eq-eqb _ 4 (b .before .if1 .left), ix .counted, lt-leb 1024 _ (b .if2 .left), e, t, ← f, ← u, le-leb _ _ (w .taken)))
-    (λ w. simp (eq-eqb _ 4 (b .before .if1 .left), ix .counted, lt-leb 1024 _ (b .if2 .left), e, t, ← f, ← u, lt-leb _ _ (w .0 .left), w .1 .taken))
+    (λ w. simp (eq-eqb _ 4 (b .before .if1 .left), ix .counted, lt-leb maxBindings _ (b .if2 .left), e, t, ← f, ← u, le-leb _ _ (w .taken)))
+    (λ w. simp (eq-eqb _ 4 (b .before .if1 .left), ix .counted, lt-leb maxBindings _ (b .if2 .left), e, t, ← f, ← u, lt-leb _ _ (w .0 .left), w .1 .taken))
     (c .if3 .came)
 
 -- where 4 to 6 are not met, 7 decides
@@ -52,7 +53,7 @@ decided c rs n e t =
     let b = c .before .before .before .before in
     let f = c .before .before .before .word-at .ensures .value in
     let u = c .before .before .word-at2 .ensures .value in
-    simp (eq-eqb _ 4 (b .before .if1 .left), n, lt-leb 1024 _ (b .if2 .left), e, t, ← f, ← u, lt-leb _ _ (c .before .if3 .left), c .if4 .left)
+    simp (eq-eqb _ 4 (b .before .if1 .left), n, lt-leb maxBindings _ (b .if2 .left), e, t, ← f, ← u, lt-leb _ _ (c .before .if3 .left), c .if4 .left)
 
 returns-4 : tie.Need-returns-4
 returns-4 c rs ix fit e t = rw (first-binding _ ix (c .if5 .taken)) at (decided (c .before) rs (ix .counted) e t)

@@ -12,6 +12,7 @@ use Rattle.casefile.specs.Records.{Record}
 use Rattle.casefile.specs.Kinds.{constructor, transition, count}
 use Rattle.casefile.specs.Tables.{stateCount}
 use Rattle.casefile.specs.Refusals.{wrongLength, tooMany, tooLarge, outOfRange, misplaced}
+use Rattle.index.specs.layout.Layout.{maxTransitions}
 use Rattle.index.specs.entries.Codes.{codeFor}
 use Rattle.index.specs.entries.Index.{Indexed}
 use Rattle.index.specs.entries.Tests.{Fitting}
@@ -25,7 +26,7 @@ returns c rs ix fit e is fits = simp (ne-eqb _ 6 (c .if1 .taken))
 
 returns-2 : tie.Need-returns-2
 unfolding codeFor wrongLength tooMany
-returns-2 c rs ix fit e is fits = simp (eq-eqb _ 6 (c .before .if1 .left), ix .counted, le-leb 512 _ (c .if2 .taken))
+returns-2 c rs ix fit e is fits = simp (eq-eqb _ 6 (c .before .if1 .left), ix .counted, le-leb maxTransitions _ (c .if2 .taken))
 
 byte-at-requires : tie.Need-byte-at-requires
 byte-at-requires c κs = search needs
@@ -40,8 +41,8 @@ returns-3 c rs ix fit e is fits =
     let q = c .before .before .byte-at .ensures .value in
     let a = c .before .byte-at2 .ensures .value in
     ⊎-elim
-    (λ w. simp (eq-eqb _ 6 (b .before .if1 .left), ix .counted, lt-leb 512 _ (b .if2 .left), e, ← q, le-leb _ _ (w .taken)))
-    (λ w. simp (eq-eqb _ 6 (b .before .if1 .left), ix .counted, lt-leb 512 _ (b .if2 .left), e, arities-length is, ← q, ← a, lt-leb _ _ (w .0 .left), w .1 .taken))
+    (λ w. simp (eq-eqb _ 6 (b .before .if1 .left), ix .counted, lt-leb maxTransitions _ (b .if2 .left), e, ← q, le-leb _ _ (w .taken)))
+    (λ w. simp (eq-eqb _ 6 (b .before .if1 .left), ix .counted, lt-leb maxTransitions _ (b .if2 .left), e, arities-length is, ← q, ← a, lt-leb _ _ (w .0 .left), w .1 .taken))
     (c .if3 .came)
 
 add-place-at : tie.Need-add-place-at
@@ -82,7 +83,7 @@ returns-4 : tie.Need-returns-4
 unfolding codeFor wrongLength tooMany tooLarge
 returns-4 c rs ix fit e is fits =
     let b = c .before .before .before .before .before .before .before .before in
-    simp (eq-eqb _ 6 (b .before .if1 .left), ix .counted, lt-leb 512 _ (b .if2 .left), ranges (c .before) rs e is fits, c .if5 .taken)
+    simp (eq-eqb _ 6 (b .before .if1 .left), ix .counted, lt-leb maxTransitions _ (b .if2 .left), ranges (c .before) rs e is fits, c .if5 .taken)
 
 -- where 4 to 6 are not met, 7 decides
 decided : (c : tie.Else5) → let a = c .before .before .before .before .before .before .before .before .before .before .before .before .before .args in
@@ -91,7 +92,7 @@ decided : (c : tie.Else5) → let a = c .before .before .before .before .before 
 unfolding codeFor wrongLength tooMany tooLarge
 decided c rs n r =
     let b = c .before .before .before .before .before .before .before .before in
-    simp (eq-eqb _ 6 (b .before .if1 .left), n, lt-leb 512 _ (b .if2 .left), r, c .if5 .left)
+    simp (eq-eqb _ 6 (b .before .if1 .left), n, lt-leb maxTransitions _ (b .if2 .left), r, c .if5 .left)
 
 returns-5 : tie.Need-returns-5
 returns-5 c rs ix fit e is fits = rw (first-transition _ ix (c .if6 .taken)) at (decided (c .before) rs (ix .counted) (ranges (c .before .before) rs e is fits))

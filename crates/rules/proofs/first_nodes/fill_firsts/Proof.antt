@@ -8,6 +8,7 @@ use Rattle.rules.proofs.first_nodes.Numbering.{Sofar, numbers-none, not
 use borrow.Author.Needs.{needs}
 use Rattle.rules.proofs.first_nodes.fill_firsts.Statement.{statement}
 use Rattle.rules.proofs.first_nodes.fill_firsts.Tie as tie
+use Rattle.index.specs.layout.Layout.{mostNodesAt}
 
 abbrev Inv-loop : tie.InvT-loop
 Inv-loop file index rules firsts₀ at₀ most₀ f₀ firsts at most f = Sofar file index rules firsts₀ firsts at most f
@@ -58,7 +59,7 @@ slice-write-firsts-2 : tie.Need-slice-write-firsts-2 Inv-loop μ-loop
 slice-write-firsts-2 c = omega (arith, c .before .loop .inv .room)
 
 same-length : tie.Need-same-length Inv-loop μ-loop
-same-length c = length-set (c .before .loop .firsts) 256 (c .before .loop .most) ∙ c .before .loop .inv .long
+same-length c = length-set (c .before .loop .firsts) mostNodesAt (c .before .loop .most) ∙ c .before .loop .inv .long
 
 returns-3 : tie.Need-returns-3 Inv-loop μ-loop
 returns-3 c = numbers-all (c .before .loop .inv) (c .loop-test .left)

@@ -1,5 +1,5 @@
 -- `nodes_of` meets its contract.
-use Rattle.rules.proofs.first_nodes.Numbering.{nodes-none, nodes-header, nodes-long, nodes-counted}
+use Rattle.rules.proofs.first_nodes.Numbering.{nodes-none, nodes-long, nodes-counted}
 use borrow.Author.Needs.{needs}
 use Rattle.rules.proofs.first_nodes.nodes_of.Statement.{statement}
 use Rattle.rules.proofs.first_nodes.nodes_of.Tie as tie
@@ -13,17 +13,14 @@ add-place-at c = search needs
 place-at-requires : tie.Need-place-at-requires
 place-at-requires c κs = search needs
 
-returns-2 : tie.Need-returns-2
-returns-2 c = nodes-header _ (c .before .place-at .ensures .value) (c .if2 .taken)
+length-at-requires : tie.Need-length-at-requires
+length-at-requires c κs = search needs
 
-word-at-requires : tie.Need-word-at-requires
-word-at-requires c κs = search needs
+returns-2 : tie.Need-returns-2
+returns-2 c = nodes-long _ (c .before .before .place-at .ensures .value) _ (c .before .length-at .ensures) (c .if2 .taken)
 
 returns-3 : tie.Need-returns-3
-returns-3 c = nodes-long _ (c .before .before .before .place-at .ensures .value) _ (c .before .word-at .ensures .value) (c .if3 .taken)
-
-returns-4 : tie.Need-returns-4
-returns-4 c = nodes-counted _ (c .before .before .before .place-at .ensures .value) _ (c .before .word-at .ensures .value) (c .if3 .left)
+returns-3 c = nodes-counted _ (c .before .before .place-at .ensures .value) _ (c .before .length-at .ensures) (c .if2 .left)
 
 pub nodes-of-spec : {M : Type 1} → statement M
 nodes-of-spec =
@@ -32,7 +29,6 @@ nodes-of-spec =
     returns
     add-place-at
     place-at-requires
+    length-at-requires
     returns-2
-    word-at-requires
-    returns-3
-    returns-4)
+    returns-3)

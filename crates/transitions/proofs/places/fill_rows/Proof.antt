@@ -14,11 +14,11 @@ abbrev μ-loop : tie.MeasureT-loop
 returns : tie.Need-returns Inv-loop μ-loop
 returns c = rows-many (c .if1 .taken)
 
-empty-rows-requires : tie.Need-empty-rows-requires Inv-loop μ-loop
-empty-rows-requires c κs = search needs
+clear-requires : tie.Need-clear-requires Inv-loop μ-loop
+clear-requires c κs = search needs
 
 loop-holds : tie.Need-loop-holds Inv-loop μ-loop
-loop-holds c = sofar-none (c .before .before .before .before .if1 .left) (c .before .before .empty-rows .ensures)
+loop-holds c = sofar-none (c .before .before .before .before .if1 .left) (c .before .before .clear .ensures)
 
 sub-k : tie.Need-sub-k Inv-loop μ-loop
 sub-k c = search needs
@@ -69,10 +69,10 @@ loop-again-3 : tie.Need-loop-again-3 Inv-loop μ-loop
 loop-again-3 c = sofar-state (c .before .before .before .before .before .before .loop .inv) (c .before .before .before .before .before .loop-test .taken) _ (c .before .before .before .place-at .ensures) _ _ (c .before .before .byte-at .ensures .value) (c .before .byte-at2 .ensures .value) (c .if2 .left)
 
 same-length : tie.Need-same-length Inv-loop μ-loop
-same-length c = c .before .loop .inv .long ∙ c .before .before .before .before .empty-rows .ensures .long
+same-length c = c .before .loop .inv .long ∙ c .before .before .before .before .clear .ensures .long
 
 returns-2 : tie.Need-returns-2 Inv-loop μ-loop
-returns-2 c = all-rows (c .before .before .before .before .empty-rows .ensures) (c .before .loop .inv) (c .loop-test .left)
+returns-2 c = all-rows (c .before .before .before .before .clear .ensures) (c .before .loop .inv) (c .loop-test .left)
 
 pub fill-rows-spec : {M : Type 1} → statement M
 fill-rows-spec =
@@ -81,7 +81,7 @@ fill-rows-spec =
     Inv-loop
     μ-loop
     returns
-    empty-rows-requires
+    clear-requires
     loop-holds
     sub-k
     add-place-at

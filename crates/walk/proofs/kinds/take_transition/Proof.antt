@@ -1,7 +1,8 @@
+-- `take_transition` meets its contract.
 use mathlib.Core.Path.{refl}
 use Rattle.casefile.specs.Kinds.{Kind, number}
 use Rattle.walk.proofs.kinds.Dispatch.{of-transition, states-are}
-use Rattle.walk.proofs.kinds.Taking.{refused, entered-plain}
+use Rattle.walk.proofs.kinds.Taking.{plain-added}
 use borrow.Author.Needs.{needs}
 use Rattle.walk.proofs.kinds.take_transition.Statement.{statement}
 use Rattle.walk.proofs.kinds.take_transition.Tie as tie
@@ -21,6 +22,9 @@ place-at-requires-3 c κs = search needs
 test-transition-requires : tie.Need-test-transition-requires
 test-transition-requires c κs = search needs
 
+add-entry-requires : tie.Need-add-entry-requires
+add-entry-requires c κs = search needs
+
 same-length : tie.Need-same-length
 same-length c = search needs
 
@@ -29,29 +33,10 @@ same-length-2 c = search needs
 
 returns : tie.Need-returns
 unfolding number
-returns c = λ lens. refused _ _ lens _ _ _ Kind.transition _ (λ rs known ok. of-transition _ _ lens _ rs known ok _ _ _ (c .before .before .before .before .before .before .before .before .before .place-at .ensures .value) _ _ (states-are _ _ lens _ rs known ok _ _ (c .before .before .before .before .before .before .place-at2 .ensures .value) (c .before .before .before .before .before .state-count .ensures)) (c .before .before .place-at3 .ensures .value) (c .before .test-transition .ensures)) (c .if1 .taken)
-
-add-store : tie.Need-add-store
-add-store c = search needs
-
-store-requires : tie.Need-store-requires
-store-requires c κs = search needs
-
-add-store-2 : tie.Need-add-store-2
-add-store-2 c = search needs
-
-store-requires-2 : tie.Need-store-requires-2
-store-requires-2 c κs = search needs
-
-same-length-3 : tie.Need-same-length-3
-same-length-3 c = search needs
-
-same-length-4 : tie.Need-same-length-4
-same-length-4 c = search needs
-
-returns-2 : tie.Need-returns-2
-unfolding number
-returns-2 c = λ lens. entered-plain _ _ lens _ _ _ Kind.transition _ (λ rs known ok. of-transition _ _ lens _ rs known ok _ _ _ (c .before .before .before .before .before .before .before .before .before .before .before .before .before .before .before .before .before .place-at .ensures .value) _ _ (states-are _ _ lens _ rs known ok _ _ (c .before .before .before .before .before .before .before .before .before .before .before .before .before .before .place-at2 .ensures .value) (c .before .before .before .before .before .before .before .before .before .before .before .before .before .state-count .ensures)) (c .before .before .before .before .before .before .before .before .before .before .place-at3 .ensures .value) (c .before .before .before .before .before .before .before .before .before .test-transition .ensures)) (c .before .before .before .before .before .before .before .before .if1 .left) _ (c .before .before .before .before .before .before .before .before .before .before .before .before .before .before .before .before .before .place-at .ensures .value) (c .before .before .before .before .before .before .store .ensures) (c .before .before .store2 .ensures) refl refl
+returns c =
+    let tested = c .before .before .before .before .before .before .before in
+    let counted = tested .before .before .before .before .before .before .before .before .place-at .ensures .value in
+    λ lens. plain-added _ _ lens _ _ _ Kind.transition _ (λ rs known ok. of-transition _ _ lens _ rs known ok _ _ _ counted _ _ (states-are _ _ lens _ rs known ok _ _ (tested .before .before .before .before .before .place-at2 .ensures .value) (tested .before .before .before .before .state-count .ensures)) (tested .before .place-at3 .ensures .value) (tested .test-transition .ensures)) _ _ counted (c .before .before .before .before .add-entry .ensures) refl refl
 
 pub take-transition-spec : {M : Type 1} → statement M
 take-transition-spec =
@@ -62,13 +47,7 @@ take-transition-spec =
     state-count-requires
     place-at-requires-3
     test-transition-requires
+    add-entry-requires
     same-length
     same-length-2
-    returns
-    add-store
-    store-requires
-    add-store-2
-    store-requires-2
-    same-length-3
-    same-length-4
-    returns-2)
+    returns)

@@ -1,7 +1,8 @@
-use mathlib.Core.Path.{refl}
+-- `take_type` meets its contract.
+use mathlib.Core.Path.{refl, sym, _∙_}
 use Rattle.casefile.specs.Kinds.{Kind, number}
 use Rattle.walk.proofs.kinds.Dispatch.{of-type, states-are}
-use Rattle.walk.proofs.kinds.Taking.{refused, entered-type}
+use Rattle.walk.proofs.kinds.Taking.{turned-away, type-added}
 use borrow.Author.Needs.{needs}
 use Rattle.walk.proofs.kinds.take_type.Statement.{statement}
 use Rattle.walk.proofs.kinds.take_type.Tie as tie
@@ -21,6 +22,9 @@ hash-of-requires c κs = search needs
 test-type-requires : tie.Need-test-type-requires
 test-type-requires c κs = search needs
 
+add-entry-requires : tie.Need-add-entry-requires
+add-entry-requires c κs = search needs
+
 same-length : tie.Need-same-length
 same-length c = search needs
 
@@ -29,22 +33,13 @@ same-length-2 c = search needs
 
 returns : tie.Need-returns
 unfolding number
-returns c = λ lens. refused _ _ lens _ _ _ Kind.type _ (λ rs known ok. of-type _ _ lens _ rs known ok _ _ _ (c .before .before .before .before .before .before .before .before .place-at .ensures .value) _ (states-are _ _ lens _ rs known ok _ _ (c .before .before .before .before .before .place-at2 .ensures .value) (c .before .before .before .before .state-count .ensures)) (c .before .test-type .ensures (c .before .before .before .hash-of .ensures))) (c .if1 .taken)
-
-add-store : tie.Need-add-store
-add-store c = search needs
-
-store-requires : tie.Need-store-requires
-store-requires c κs = search needs
+returns c =
+    let tested = c .before .before .before .before .before .before .before .before in
+    let counted = tested .before .before .before .before .before .before .before .place-at .ensures .value in
+    λ lens. turned-away _ _ lens _ _ _ Kind.type _ (λ rs known ok. of-type _ _ lens _ rs known ok _ _ _ counted _ (states-are _ _ lens _ rs known ok _ _ (tested .before .before .before .before .place-at2 .ensures .value) (tested .before .before .before .state-count .ensures)) (tested .test-type .ensures (tested .before .before .hash-of .ensures))) _ _ counted (c .before .before .before .before .before .add-entry .ensures) (c .if1 .taken)
 
 enter-type-requires : tie.Need-enter-type-requires
 enter-type-requires c κs = search needs
-
-add-store-2 : tie.Need-add-store-2
-add-store-2 c = search needs
-
-store-requires-2 : tie.Need-store-requires-2
-store-requires-2 c κs = search needs
 
 same-length-3 : tie.Need-same-length-3
 same-length-3 c = search needs
@@ -54,7 +49,10 @@ same-length-4 c = search needs
 
 returns-2 : tie.Need-returns-2
 unfolding number
-returns-2 c = λ lens. entered-type _ _ lens _ _ _ Kind.type _ (λ rs known ok. of-type _ _ lens _ rs known ok _ _ _ (c .before .before .before .before .before .before .before .before .before .before .before .before .before .before .before .before .before .before .before .before .place-at .ensures .value) _ (states-are _ _ lens _ rs known ok _ _ (c .before .before .before .before .before .before .before .before .before .before .before .before .before .before .before .before .before .place-at2 .ensures .value) (c .before .before .before .before .before .before .before .before .before .before .before .before .before .before .before .before .state-count .ensures)) (c .before .before .before .before .before .before .before .before .before .before .before .before .before .test-type .ensures (c .before .before .before .before .before .before .before .before .before .before .before .before .before .before .before .hash-of .ensures))) (c .before .before .before .before .before .before .before .before .before .before .before .before .if1 .left) _ (c .before .before .before .before .before .before .before .before .before .before .before .before .before .before .before .before .before .before .before .before .place-at .ensures .value) (c .before .before .before .before .before .before .before .before .before .before .store .ensures) (c .before .before .store2 .ensures) refl (c .before .before .before .before .before .before .enter-type .ensures (c .before .before .before .before .before .before .before .before .before .before .before .before .before .before .before .before .before .before .before .before .place-at .ensures .bound) _ (c .before .before .before .before .before .before .before .before .before .before .before .before .before .before .before .hash-of .ensures))
+returns-2 c =
+    let tested = c .before .before .before .before .before .before .before .before .before .before .before .before in
+    let counted = tested .before .before .before .before .before .before .before .place-at .ensures .value in
+    λ lens. type-added _ _ lens _ _ _ Kind.type _ (λ rs known ok. of-type _ _ lens _ rs known ok _ _ _ counted _ (states-are _ _ lens _ rs known ok _ _ (tested .before .before .before .before .place-at2 .ensures .value) (tested .before .before .before .state-count .ensures)) (tested .test-type .ensures (tested .before .before .hash-of .ensures))) _ _ counted (c .before .before .before .before .before .before .before .before .before .add-entry .ensures) (sym (c .before .before .before .before .before .before .before .before .before .add-entry .ensures .same) ∙ c .before .before .before .before .if1 .left) refl (c .before .before .enter-type .ensures (tested .before .before .before .before .before .before .before .place-at .ensures .bound) _ (tested .before .before .hash-of .ensures))
 
 pub take-type-spec : {M : Type 1} → statement M
 take-type-spec =
@@ -65,14 +63,11 @@ take-type-spec =
     state-count-requires
     hash-of-requires
     test-type-requires
+    add-entry-requires
     same-length
     same-length-2
     returns
-    add-store
-    store-requires
     enter-type-requires
-    add-store-2
-    store-requires-2
     same-length-3
     same-length-4
     returns-2)

@@ -9,8 +9,8 @@ clear-requires c κs = search needs
 store-requires : tie.Need-store-requires
 store-requires c κs = search needs
 
-empty-chains-requires : tie.Need-empty-chains-requires
-empty-chains-requires c κs = search needs
+clear-requires-2 : tie.Need-clear-requires-2
+clear-requires-2 c κs = search needs
 
 pass-requires : tie.Need-pass-requires
 pass-requires c κs = search needs
@@ -25,7 +25,7 @@ same-length-3 : tie.Need-same-length-3
 same-length-3 c = search needs
 
 returns : tie.Need-returns
-returns c = whole-walk _ _ _ _ _ (c .before .before .before .before .before .before .before .before .before .before .before .before .before .before .before .before .before .before .before .before .before .before .before .before .before .before .args .counts .now) _ _ _ _ (c .before .before .before .before .before .before .pass .result) (c .before .before .before .before .before .before .before .before .before .before .before .before .before .before .before .before .before .before .before .before .clear .ensures) (c .before .before .before .before .before .before .before .before .before .before .before .before .before .before .before .before .store .ensures) (c .before .before .before .before .before .before .before .before .before .before .before .before .empty-chains .ensures) (c .before .before .before .before .before .before .pass .ensures)
+returns c = whole-walk _ _ _ _ _ (c .before .before .before .before .before .before .before .before .before .before .before .before .before .before .before .before .before .before .before .before .before .before .before .before .before .before .args .counts .now) _ _ _ _ (c .before .before .before .before .before .before .pass .result) (c .before .before .before .before .before .before .before .before .before .before .before .before .before .before .before .before .before .before .before .before .clear .ensures) (c .before .before .before .before .before .before .before .before .before .before .before .before .before .before .before .before .store .ensures) (c .before .before .before .before .before .before .before .before .before .before .before .before .clear2 .ensures) (c .before .before .before .before .before .before .pass .ensures)
 
 pub walk-spec : {M : Type 1} → statement M
 walk-spec =
@@ -33,7 +33,7 @@ walk-spec =
     (tie.spec
     clear-requires
     store-requires
-    empty-chains-requires
+    clear-requires-2
     pass-requires
     same-length
     same-length-2
