@@ -8,6 +8,7 @@ pub mod SortTable
 pub mod Steps
 pub mod Cells
 pub mod Plans
+pub mod Numbers
 pub mod Payloads
 pub mod Fields
 pub mod Walk

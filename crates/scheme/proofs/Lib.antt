@@ -6,6 +6,7 @@ pub mod Heads
 pub mod SubjectReduction
 pub mod Safety
 pub mod Monotone
+pub mod TypingRules
 pub mod Rounds
 pub mod Flags
 pub mod Paths

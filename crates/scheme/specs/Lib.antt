@@ -6,6 +6,7 @@ pub mod Sorting
 pub mod Reduction
 pub mod Types
 pub mod Typing
+pub mod TypingRules
 pub mod Rounds
 pub mod Flags
 pub mod Replay
