@@ -33,7 +33,7 @@ use Rattle.casefile.specs.PathCases.{nodeLimit, pathAnswer, replayed}
 use Rattle.casefile.specs.BindingCases.{shrunk}
 use Rattle.demands.specs.Answers.{Answer, proved, unproved, refuted, Outcome, refusal, bindingOutcome, pathOutcome, outcomeOf, answer, flagsAfter}
 use Rattle.demands.specs.Demands.{planIn, automatonIn, lettersIn, Shrinks, PathJudged, Demand1, Demand2, Demand3}
-use Rattle.demands.proofs.PlainWords.{over, binding-says, not-refuted}
+use Rattle.demands.proofs.PlainWords.{over, answer-of, binding-says, not-refuted}
 
 -- Binding cases.
 module _ (aut : Automaton) (plan : Plan) (offered : List Binding) where
@@ -116,18 +116,13 @@ unfolding outcomeOf
 of-path-case rs ls = replays (automatonOf rs) (planOf rs) ls
 
 module _ (file lent : List ℕ) where
-  -- the outcome of a file is that of its case
-  answer-of : (c : Case) → caseOf file (length lent) ≡ c → answer file (length lent) ≡ outcomeOf c
-  unfolding answer
-  answer-of c e = ap outcomeOf e
-
   pub meets2 : (a : Answer) (marks : List ℕ) → Demand1 file lent a marks → Demand2 file lent a marks
   unfolding flagsAfter
   meets2 a marks d =
       record {
         of-bindings = λ rs e.
             let (known, none-there) = binding-case (length lent) file rs e in
-            let out = answer-of (bindingCase rs) e in
+            let out = answer-of file lent (bindingCase rs) e in
             subst (λ z. Shrinks (automatonOf z) (planOf z) (bindingsOf z) marks a) (known .all-records)
             (subst₂ (Shrinks (automatonOf rs) (planOf rs) (bindingsOf rs))
             (ap (λ (z : Outcome). over (z .written) lent) (sym out) ∙ sym (d .are-marks))
@@ -135,7 +130,7 @@ module _ (file lent : List ℕ) where
             (of-binding-case rs lent));
         of-path = λ rs ls e.
             let (known, first-path) = path-case (length lent) file rs ls e in
-            let out = answer-of (pathCase rs ls) e in
+            let out = answer-of file lent (pathCase rs ls) e in
             subst (λ z. PathJudged (automatonOf z) (planOf z) (getD (payloads Kind.path z) 0 []) a) (known .all-records)
             (subst₂ (PathJudged (automatonOf rs) (planOf rs)) (sym first-path)
             (ap (λ (z : Outcome). z .answer) (sym out) ∙ sym (d .is-answer))
@@ -158,7 +153,7 @@ module _ (file lent : List ℕ) where
 
   pub meets3 : (a : Answer) (marks : List ℕ) → Demand1 file lent a marks → Demand3 file a
   meets3 a marks d k n m p =
-      safe-by (caseOf file (length lent)) refl k n m (ap (λ (z : Outcome). z .answer) (sym (answer-of (caseOf file (length lent)) refl)) ∙ sym (d .is-answer) ∙ p)
+      safe-by (caseOf file (length lent)) refl k n m (ap (λ (z : Outcome). z .answer) (sym (answer-of file lent (caseOf file (length lent)) refl)) ∙ sym (d .is-answer) ∙ p)
 
 -- Never both.
 refuted-error : (file : List ℕ) (flags : ℕ) (n q c : ℕ) (x : Case) → caseOf file flags ≡ x → outcomeOf x .answer ≡ refuted n q c → isErrorPath (automatonIn file) (planIn file) (lettersIn file) start 0 ≡ true

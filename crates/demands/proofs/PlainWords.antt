@@ -56,6 +56,11 @@ not-refuted a n q c (inl (k, t, r, e)) f = let z : _≡_ {A = ℕ} 0 1 = cc in o
 not-refuted a n q c (inr (k, t, r, e)) f = let z : _≡_ {A = ℕ} 0 1 = cc in omega arith
 
 module _ (file lent : List ℕ) where
+  -- the outcome of a file is that of its case
+  pub answer-of : (c : Case) → caseOf file (length lent) ≡ c → answer file (length lent) ≡ outcomeOf c
+  unfolding answer
+  answer-of c e = ap outcomeOf e
+
   -- an answer that leaves all bytes as they were
   leaves : (a : Answer) → ((n p : ℕ) → a ≡ refused n p → InTable n) → (pathsIn file ≡ [] → IsRefused a ⊎ (IsProved a ⊎ IsUnproved a)) → ((pathsIn file ≡ [] → ⊥) → IsRefused a ⊎ IsRefuted a)
       → InPlainWords file lent a lent
@@ -111,5 +116,8 @@ module _ (file lent : List ℕ) where
 
   -- DEMAND 1 of whatever equals the answer and the flags of the definitions
   pub meets1 : (a : Answer) (marks : List ℕ) → a ≡ answer file (length lent) .answer → marks ≡ flagsAfter file lent → Demand1 file lent a marks
-  unfolding answer flagsAfter
-  meets1 a marks ea em = record { is-answer = ea; are-marks = em; in-words = subst₂ (InPlainWords file lent) (sym ea) (sym em) (words (caseOf file (length lent)) refl) }
+  unfolding flagsAfter
+  meets1 a marks ea em =
+      let c = caseOf file (length lent) in
+      let said = subst (λ (z : Outcome). InPlainWords file lent (z .answer) (over (z .written) lent)) (sym (answer-of c refl)) (words c refl) in
+      record { is-answer = ea; are-marks = em; in-words = subst₂ (InPlainWords file lent) (sym ea) (sym em) said }

@@ -30,11 +30,23 @@ module _ (aut : Automaton) (env : List Binding) (given : List (List Ty)) where
 
 -- `Matches` is what the test `serves` decides, and `Heads` what the lists `heads` hold
 module _ (serves : Ty → Ty → Bool) (Matches : Ty → Ty → Type 0) (heads : Head → List Ty) (Heads : Head → Ty → Type 0) where
+  module _ (serves-in : (a b : Ty) → Matches a b → T (serves a b)) (heads-in : (h : Head) (τ : Ty) → Heads h τ → List·Memᴰ τ (heads h)) where
+    mutual
+      unfolding leads
+
+      -- a term that has the type by the rules passes the test
+      pub rules-has : (t : Term) (τ : Ty) → HasType Matches Heads t τ → T (has serves heads t τ)
+      rules-has (node h ts) τ (by-head {τ = σ} m l) = has-in serves heads (heads-in h σ m) ts τ (rules-leads ts σ τ l)
+
+      pub rules-leads : (ts : Terms) (σ τ : Ty) → LeadsTo Matches Heads ts σ τ → T (leads serves heads ts σ τ)
+      rules-leads []ᵗ σ τ (by-match m) = serves-in σ τ m
+      rules-leads (t ∷ᵗ ts) σ τ (by-argument {a = a} {r = r} h l) = leads-in serves heads t ts a r τ (λ m k. rules-has t m (h m k)) (rules-leads ts r τ l)
+
   module _ (serves-out : (a b : Ty) → T (serves a b) → Matches a b) (heads-out : (h : Head) (τ : Ty) → List·Memᴰ τ (heads h) → Heads h τ) where
     mutual
       unfolding leads
 
-      -- what passes the test has the type by the rules
+      -- and one that passes has the type by the rules
       pub has-rules : (t : Term) (τ : Ty) → T (has serves heads t τ) → HasType Matches Heads t τ
       has-rules (node h ts) τ l =
           let (σ, m, k) = has-out serves heads h ts τ l in
@@ -45,18 +57,6 @@ module _ (serves : Ty → Ty → Bool) (Matches : Ty → Ty → Type 0) (heads :
       leads-rules (t ∷ᵗ ts) (state q) τ l = absurd l
       leads-rules (t ∷ᵗ ts) (arrow a r) τ l =
           by-argument (λ m k. has-rules t m (leads-argument serves heads t ts a r τ l m k)) (leads-rules ts r τ (leads-rest serves heads t ts a r τ l))
-
-  module _ (serves-in : (a b : Ty) → Matches a b → T (serves a b)) (heads-in : (h : Head) (τ : Ty) → Heads h τ → List·Memᴰ τ (heads h)) where
-    mutual
-      unfolding leads
-
-      -- and what has the type by the rules passes
-      pub rules-has : (t : Term) (τ : Ty) → HasType Matches Heads t τ → T (has serves heads t τ)
-      rules-has (node h ts) τ (by-head {τ = σ} m l) = has-in serves heads (heads-in h σ m) ts τ (rules-leads ts σ τ l)
-
-      pub rules-leads : (ts : Terms) (σ τ : Ty) → LeadsTo Matches Heads ts σ τ → T (leads serves heads ts σ τ)
-      rules-leads []ᵗ σ τ (by-match m) = serves-in σ τ m
-      rules-leads (t ∷ᵗ ts) σ τ (by-argument {a = a} {r = r} h l) = leads-in serves heads t ts a r τ (λ m k. rules-has t m (h m k)) (rules-leads ts r τ l)
 
 -- a binding that passes holds by the rules, and one that holds by the rules passes
 module _ (serves : Ty → Ty → Bool) (Matches : Ty → Ty → Type 0) (aut : Automaton) (plan : Plan) (env : List Binding) (b : Binding) where
