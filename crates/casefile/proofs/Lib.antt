@@ -1,3 +1,4 @@
+-- The theorems about the records and tables of a case file.
 pub mod Passed
 pub mod Ascending
 pub mod Growth

@@ -218,7 +218,7 @@ module _ (flags : ℕ) where
             let (same, first-path) = accepted-path (listed (recordsOf s)) rs ls (payloads path (listed (recordsOf s))) (sym f ∙ e) in
             (subst (Accepted s flags) same a, subst (λ z. getD (payloads path z) 0 [] ≡ ls) same first-path)
 
-    -- which is there
+    -- and a path case has a path
     pub path-there : (rs : List Record) (ls : List ℕ) → caseOf s flags ≡ pathCase rs ls → payloads path (listed (recordsOf s)) ≡ [] → ⊥
     unfolding Known acceptedCase
     path-there rs ls e none-there = by from-case

@@ -7,7 +7,7 @@ use mathlib.Core.Path.{_≡_, refl, sym, ap, subst, subst₂, _∙_}
 use mathlib.Core.Logic.{_⊎_, inl, inr}
 use mathlib.Core.Bool.{Bool, true, false, false≢true}
 use mathlib.Core.List.{List, [], _++_, List·Memᴰ}
-use lib.ListN.{length, getD, drop}
+use lib.ListN.{length, getD, drop, List·getD-append}
 use Rattle.scheme.specs.Lists.{if_then_else_}
 use Rattle.scheme.specs.Reduction.{Plan, start}
 use Rattle.scheme.specs.Typing.{Automaton, Binding}
@@ -20,7 +20,7 @@ use Rattle.scheme.specs.Safety.{SafetyRule}
 use Rattle.scheme.proofs.TypingRules.{exactly-rules, rules-exactly}
 use Rattle.scheme.proofs.Rounds.{kept-sub, kept-stable, kept-ends, rounds-kept, rounds-least, rounds-dropped}
 use Rattle.scheme.specs.Flags.{keptFlags}
-use Rattle.scheme.proofs.Flags.{chosen-kept, chosen-prefix, keptFlags-length}
+use Rattle.scheme.proofs.Flags.{bits-at, chosen-kept, chosen-prefix, keptFlags-length, keptFlags-bits}
 use Rattle.scheme.proofs.Acceptance.{holds-greatest, accepts-out, accepts-in, accepted-safe}
 use Rattle.scheme.proofs.Paths.{replay-ends, replay-refutes, refutes-error}
 use Rattle.casefile.specs.Records.{Record}
@@ -54,6 +54,10 @@ module _ (aut : Automaton) (plan : Plan) (offered : List Binding) where
         is-consistent = λ b m. exactly-rules aut plan (kept test offered) b (kept-stable test offered b m);
         is-greatest = λ s c. holds-greatest aut plan s offered (λ b m. rules-exactly aut plan s b (c b m));
         is-marked = chosen-prefix (keptFlags test offered) rest offered (let n = keptFlags-length test offered in omega arith) ∙ chosen-kept test offered;
+        are-bits = λ i h.
+            let n = keptFlags-length test offered in
+            let e = List·getD-append (keptFlags test offered) rest 0 i (omega arith) in
+            subst (λ f. (f ≡ 0) ⊎ (f ≡ 1)) (sym e) (bits-at (keptFlags test offered) i (keptFlags-bits test offered));
         is-left = rounds-kept test offered;
         is-final = kept-ends test offered;
         is-least = rounds-least test offered;

@@ -8,7 +8,6 @@ use mathlib.Core.List.{List, [], _++_}
 use lib.ListN.{length, getD, drop, length-append, length-drop}
 use lib.Seq.{getD-append-add, getD-drop}
 use Rattle.scheme.specs.Lists.{if_then_else_}
-use Rattle.scheme.specs.Flags.{keptFlags}
 use Rattle.scheme.specs.Acceptance.{holdsExactly}
 use Rattle.scheme.proofs.Flags.{keptFlags-length}
 use Rattle.casefile.specs.Records.{Record}

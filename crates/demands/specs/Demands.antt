@@ -21,33 +21,39 @@ use Rattle.casefile.specs.Cases.{bindingCase, pathCase, caseOf}
 use Rattle.casefile.specs.PathCases.{nodeLimit, pathAnswer}
 use Rattle.demands.specs.Answers.{Answer, proved, unproved, refuted, refused, answer, pathOutcome, flagsAfter}
 
--- The parts of a file: "plan and automaton are that file's kinds 1 to 6".
+-- the plan of a file: "plan and automaton are that file's kinds 1 to 6"
 abbrev pub planIn : List ℕ → Plan
 planIn file = planOf (listed (recordsOf file))
 
+-- its automaton
 abbrev pub automatonIn : List ℕ → Automaton
 automatonIn file = automatonOf (listed (recordsOf file))
 
+-- the bindings that it offers
 abbrev pub offeredIn : List ℕ → List Binding
 offeredIn file = bindingsOf (listed (recordsOf file))
 
--- its paths, of which there is at most one
+-- its paths; a file that is not refused has at most one
 abbrev pub pathsIn : List ℕ → List (List ℕ)
 pathsIn file = payloads Kind.path (listed (recordsOf file))
 
+-- the letters of its path
 abbrev pub lettersIn : List ℕ → List ℕ
 lettersIn file = getD (pathsIn file) 0 []
 
--- The four lines, each with its three or two numbers.
+-- the answer is `proved`, with kept, total and rounds
 abbrev pub IsProved : Answer → Type 0
 IsProved a = (k t r : ℕ) × (a ≡ proved k t r)
 
+-- the answer is `unproved`, with kept, total and rounds
 abbrev pub IsUnproved : Answer → Type 0
 IsUnproved a = (k t r : ℕ) × (a ≡ unproved k t r)
 
+-- the answer is `refuted`, with letters, state and constructor
 abbrev pub IsRefuted : Answer → Type 0
 IsRefuted a = (n q c : ℕ) × (a ≡ refuted n q c)
 
+-- the answer is `refused`, with number and place
 abbrev pub IsRefused : Answer → Type 0
 IsRefused a = (n p : ℕ) × (a ≡ refused n p)
 
@@ -78,8 +84,9 @@ pub record Shrinks (aut : Automaton) (plan : Plan) (offered : List Binding) (mar
   pub is-offered : Subset kept offered
   pub is-consistent : Consistent aut plan kept
   pub is-greatest : (s : List Binding) → Consistent aut plan s → Subset s offered → Subset s kept
-  -- the flags mark it
+  -- the flags mark it: "1 for a kept binding and 0 for a dropped one"
   pub is-marked : chosen marks offered ≡ kept
+  pub are-bits : (i : ℕ) → i < length offered → (getD marks i 0 ≡ 0) ⊎ (getD marks i 0 ≡ 1)
   -- it is what that count of rounds leaves, after which a further round drops nothing, and after fewer it does
   pub is-left : after (holdsExactly aut plan) rounds offered ≡ kept
   pub is-final : round (holdsExactly aut plan) kept ≡ kept
@@ -103,7 +110,7 @@ pub record PathJudged (aut : Automaton) (plan : Plan) (letters : List ℕ) (a : 
 pub record Demand1 (file lent : List ℕ) (a : Answer) (marks : List ℕ) : Type 0 where
   pub is-answer : a ≡ answer file (length lent) .answer
   pub are-marks : marks ≡ flagsAfter file lent
-  -- which says, among other things
+  -- and so, among other things
   pub in-words : InPlainWords file lent a marks
 
 -- DEMAND 2: the kept bindings are the greatest consistent subset; proved, unproved and refuted are said exactly where they are so.

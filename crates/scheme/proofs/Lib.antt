@@ -1,3 +1,4 @@
+-- The theorems about schemes, automata and types.
 pub mod Lists
 pub mod Prefix
 pub mod Substitution

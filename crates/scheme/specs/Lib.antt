@@ -1,3 +1,4 @@
+-- The definitions of schemes, automata and types, lowest first.
 pub mod Lists
 pub mod Sorts
 pub mod Terms
