@@ -22,13 +22,13 @@ use Rattle.casefile.specs.Records.{Record}
 use Rattle.casefile.specs.Kinds.{Kind, payloads, count}
 use Rattle.casefile.specs.Tables.{typesOf, bindingsOf}
 use Rattle.casefile.proofs.TypeTable.{count-payloads}
+use Rattle.casefile.proofs.Plans.{bindings-many}
 use Rattle.index.specs.layout.Layout.{maxBindings}
 use Rattle.index.specs.entries.Index.{Indexed}
 use Rattle.index.specs.entries.Tests.{IsPlace}
 use Rattle.goals.specs.groups.Groups.{nonterminalOf, Grouped}
 use Rattle.goals.specs.goals.Goals.{of-state, Typed, typeOfBinding, IsOwn}
 use Rattle.goals.proofs.goals.Goals.{goals-same}
-use Rattle.rounds.proofs.Turning.{bindings-many}
 use Rattle.binding_cases.specs.Judging.{startsAt, StartsAt, FindsStart}
 
 -- an element that is chosen and passes, or none

@@ -3,11 +3,11 @@
 use Prim.Native.Nat.{ℕ, _+_, _/_, _<_, _≤_}
 use native.Mathlib.Omega.{arith}
 use mathlib.Core.Path.{_≡_, sym, ap, subst, _∙_}
-use mathlib.Core.Bool.{Bool, _&&_, _||_, not}
-use mathlib.Core.List.{List, [], _∷_, _++_}
+use mathlib.Core.Bool.{Bool, _||_, not}
+use mathlib.Core.List.{List, _++_}
 use mathlib.Core.Option.{none}
-use borrow.Author.Tests.{ltb-false, eqb-false}
-use lib.Dec.{eqb, ltb}
+use borrow.Author.Tests.{eqb-false}
+use lib.Dec.{eqb}
 use lib.ListN.{length, getD, take, drop}
 use lib.Seq.{take-at}
 use Rattle.scheme.specs.Lists.{any}
@@ -19,11 +19,11 @@ use Rattle.scheme.proofs.Lists.{or-false}
 use Rattle.scheme.proofs.Flags.{chosen-kept, keptFlags-length}
 use Rattle.casefile.specs.Records.{Record}
 use Rattle.casefile.specs.Promises.{Bytes, Passed}
-use Rattle.casefile.specs.Kinds.{Kind, number, ofKind, count}
-use Rattle.casefile.specs.Tables.{aritiesOf, signaturesOf, typesOf, planOf, automatonOf, bindingsOf}
-use Rattle.casefile.specs.Refusals.{Test, refuse_at_when_, wrongStart, wrongBodies, misfits, refuseWhole}
+use Rattle.casefile.specs.Kinds.{Kind, number, count}
+use Rattle.casefile.specs.Tables.{typesOf, planOf, automatonOf, bindingsOf}
+use Rattle.casefile.specs.Refusals.{refuseWhole}
 use Rattle.casefile.proofs.Passed.{first-none}
-use Rattle.casefile.proofs.Plans.{first-both, plan-right}
+use Rattle.casefile.proofs.Plans.{bindings-many, plan-right, enough-flags}
 use Rattle.index.specs.layout.Layout.{maxNonterminals, maxBindings, hashesAt, linksAt, goalsAt, resultsAt, ownTypesAt, indexSize, mostNodesAt, rowsSize}
 use Rattle.index.specs.entries.Index.{base, Indexed}
 use Rattle.index.specs.entries.Tests.{IsPlace}
@@ -40,21 +40,8 @@ use Rattle.index.proofs.Wholes.{whole-body}
 use Rattle.binding_tests.specs.test.BindingTests.{Ready}
 use Rattle.rounds.specs.Shrinking.{testOf, ShrinksByRounds}
 use Rattle.rounds.proofs.Flagged.{chosen-take}
-use Rattle.rounds.proofs.Turning.{bindings-many}
 use Rattle.casefile.specs.BindingCases.{shrunk}
 use Rattle.binding_cases.specs.Judging.{FindsStart, IsShrunk, JudgesBindings}
-
--- 12 is not met: there is a flag for each binding
-enough-flags : (rs : List Record) (flags : ℕ) → refuseWhole rs flags ≡ none → count Kind.binding rs ≤ flags
-unfolding refuseWhole
-enough-flags rs flags e =
-    let sigs = signaturesOf rs in
-    let (a, b) = first-none 8 0 (eqb (count Kind.states rs) 0 || eqb (count Kind.nonterminal rs) 0 || not (eqb (count Kind.rule rs) (count Kind.nonterminal rs))) _ e in
-    let others : List Test =
-    wrongStart (ofKind Kind.nonterminal rs) ++ wrongBodies (aritiesOf rs) sigs sigs (ofKind Kind.rule rs)
-    ++ ((refuse 10 at 0 when ltb 0 (count Kind.type rs + count Kind.binding rs) && ltb 0 (count Kind.path rs)) ∷ misfits sigs (bindingsOf rs) (ofKind Kind.binding rs)) in
-    let last = first-both others ((refuse 12 at 0 when ltb flags (count Kind.binding rs)) ∷ []) b .1 in
-    ltb-false flags (count Kind.binding rs) (first-none 12 0 (ltb flags (count Kind.binding rs)) [] last .0)
 
 -- 8 is not met: there is a nonterminal
 some-nonterminal : (rs : List Record) (flags : ℕ) → refuseWhole rs flags ≡ none → 1 ≤ count Kind.nonterminal rs

@@ -1,3 +1,4 @@
+-- The theorems about the records and tables of a case file.
 pub mod Passed
 pub mod Ascending
 pub mod Growth
@@ -8,6 +9,7 @@ pub mod SortTable
 pub mod Steps
 pub mod Cells
 pub mod Plans
+pub mod Numbers
 pub mod Payloads
 pub mod Fields
 pub mod Walk

@@ -217,3 +217,15 @@ module _ (flags : ℕ) where
         by (inr (a, f)) =
             let (same, first-path) = accepted-path (listed (recordsOf s)) rs ls (payloads path (listed (recordsOf s))) (sym f ∙ e) in
             (subst (Accepted s flags) same a, subst (λ z. getD (payloads path z) 0 [] ≡ ls) same first-path)
+
+    -- and a path case has a path
+    pub path-there : (rs : List Record) (ls : List ℕ) → caseOf s flags ≡ pathCase rs ls → payloads path (listed (recordsOf s)) ≡ [] → ⊥
+    unfolding Known acceptedCase
+    path-there rs ls e none-there = by from-case
+      where
+        by : Known (caseOf s flags) → ⊥
+        by (inl (r, f)) = let z : _≡_ {A = ℕ} 0 1 = cc in omega arith
+        by (inr (a, f)) =
+            let g : bindingCase (listed (recordsOf s)) ≡ pathCase rs ls = ap (acceptedCase (listed (recordsOf s))) (sym none-there) ∙ sym f ∙ e in
+            let z : _≡_ {A = ℕ} 0 1 = cc in
+            omega arith

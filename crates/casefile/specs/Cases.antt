@@ -30,6 +30,6 @@ caseFrom flags end rs = unlessRefused (refuseWhole rs flags) (acceptedCase rs (p
 caseFrom flags (cut at) rs = refusedCase (record { number = 2; place = at })
 caseFrom flags (next r w) rs = let others = caseFrom flags w (rs ++ (r ∷ [])) in unlessRefused (refuseRecord rs r) others
 
--- "Number 1 is tested first": the case of the bytes of a file with so many lent flags
+-- "Number 1 is tested first": the case of the bytes of a file, where `flags` flag bytes are lent
 unfoldable pub caseOf : List ℕ → ℕ → Case
 caseOf s flags = let others = caseFrom flags (recordsOf s) [] in if tooLong s then refusedCase (record { number = 1; place = 0 }) else others

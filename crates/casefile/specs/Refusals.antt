@@ -194,7 +194,7 @@ misfits signatures [] rs = []
 misfits signatures (b ∷ bs) [] = []
 misfits signatures (b ∷ bs) (r ∷ rs) = (refuse 11 at r .place when not (fits (b .type) (getD signatures (b .nonterminal) o))) ∷ misfits signatures bs rs
 
--- 8 to 12 "over the whole file, each by its first offender, the start before the bodies", for so many lent flags
+-- 8 to 12 "over the whole file, each by its first offender, the start before the bodies", where `flags` flag bytes are lent
 unfoldable pub refuseWhole : List Record → ℕ → Option Refusal
 refuseWhole rs flags =
     let sigs = signaturesOf rs in

@@ -45,6 +45,7 @@ pub record Cell : Type 0 where
   pub number : ℕ
   pub count : ℕ
 
+-- the nodes of a body as the file has them
 unfoldable pub cellsOf : List ℕ → List Cell
 cellsOf [] = []
 cellsOf (t ∷ []) = []
@@ -87,6 +88,7 @@ pub record Transition : Type 0 where
 unfoldable pub transitionOf : List ℕ → List ℕ → Transition
 transitionOf arities p = record { from = byte p 0; constructor = byte p 1; targets = take (getD arities (byte p 1) 0) (drop 2 p) }
 
+-- the transitions, in file order
 unfoldable pub transitionsOf : List Record → List Transition
 transitionsOf rs = map (transitionOf (aritiesOf rs)) (payloads Kind.transition rs)
 
@@ -119,6 +121,7 @@ arrowFrom types (r ∷ ms) = arrow (membersAt types ms) (getD types r (state 0))
 unfoldable pub typeFrom : List Ty → List ℕ → Ty
 typeFrom types p = if eqb (length p) 1 then state (byte p 0) else arrowFrom types (words p)
 
+-- the types, in file order
 unfoldable pub typesOf : List Record → List Ty
 typesOf rs = grow typeFrom [] (payloads Kind.type rs)
 

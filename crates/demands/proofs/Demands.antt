@@ -8,7 +8,12 @@ use Rattle.scheme.specs.Reduction.{start}
 use Rattle.scheme.specs.Replay.{isErrorPath}
 use Rattle.demands.specs.Answers.{Answer, proved, refuted, answer, flagsAfter}
 use Rattle.demands.specs.Demands.{planIn, automatonIn, lettersIn, Demand1, Demand2, Demand3}
+use Rattle.demands.proofs.PlainWords.{meets1}
 use Rattle.demands.proofs.Outcomes.{meets2, meets3, refuted-errs}
+
+-- DEMAND 1: what equals the answer and the flags of the definitions, and so all that is said of them in plain words
+pub demand1 : (file lent : List ℕ) (a : Answer) (marks : List ℕ) → a ≡ answer file (length lent) .answer → marks ≡ flagsAfter file lent → Demand1 file lent a marks
+demand1 = meets1
 
 -- DEMAND 2: the greatest consistent subset, and every verdict exactly where it is so
 pub demand2 : (file lent : List ℕ) (a : Answer) (marks : List ℕ) → Demand1 file lent a marks → Demand2 file lent a marks
@@ -20,7 +25,7 @@ demand3 = meets3
 
 -- what the definitions answer meets demand 1
 pub answered : (file lent : List ℕ) → Demand1 file lent (answer file (length lent) .answer) (flagsAfter file lent)
-answered file lent = record { is-answer = refl; are-marks = refl }
+answered file lent = demand1 file lent (answer file (length lent) .answer) (flagsAfter file lent) refl refl
 
 -- NEVER BOTH: for one plan and automaton, no file is proved and another refuted
 pub never-both : (f g lent lent′ : List ℕ) (k t r n q c : ℕ) → planIn f ≡ planIn g → automatonIn f ≡ automatonIn g

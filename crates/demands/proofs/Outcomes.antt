@@ -7,19 +7,20 @@ use mathlib.Core.Path.{_≡_, refl, sym, ap, subst, subst₂, _∙_}
 use mathlib.Core.Logic.{_⊎_, inl, inr}
 use mathlib.Core.Bool.{Bool, true, false, false≢true}
 use mathlib.Core.List.{List, [], _++_, List·Memᴰ}
-use lib.ListN.{length, getD, drop}
+use lib.ListN.{length, getD, drop, List·getD-append}
 use Rattle.scheme.specs.Lists.{if_then_else_}
 use Rattle.scheme.specs.Reduction.{Plan, start}
 use Rattle.scheme.specs.Typing.{Automaton, Binding}
 use Rattle.scheme.specs.Rounds.{kept, rounds}
-use Rattle.scheme.specs.Acceptance.{holdsExactly, accepts}
+use Rattle.scheme.specs.Acceptance.{startBinding, holdsExactly, accepts}
 use Rattle.scheme.specs.Terms.{nodes}
 use Rattle.scheme.specs.Replay.{isErrorPath, Ending, refutes, lost, outgrown, elsewhere, replay}
 use Rattle.scheme.specs.Paths.{starting, Ends}
 use Rattle.scheme.specs.Safety.{SafetyRule}
-use Rattle.scheme.proofs.Rounds.{kept-sub, kept-consistent, kept-ends, rounds-kept, rounds-least}
+use Rattle.scheme.proofs.TypingRules.{exactly-rules, rules-exactly}
+use Rattle.scheme.proofs.Rounds.{kept-sub, kept-stable, kept-ends, rounds-kept, rounds-least, rounds-dropped}
 use Rattle.scheme.specs.Flags.{keptFlags}
-use Rattle.scheme.proofs.Flags.{chosen-kept, chosen-prefix, keptFlags-length}
+use Rattle.scheme.proofs.Flags.{bits-at, chosen-kept, chosen-prefix, keptFlags-length, keptFlags-bits}
 use Rattle.scheme.proofs.Acceptance.{holds-greatest, accepts-out, accepts-in, accepted-safe}
 use Rattle.scheme.proofs.Paths.{replay-ends, replay-refutes, refutes-error}
 use Rattle.casefile.specs.Records.{Record}
@@ -29,9 +30,10 @@ use Rattle.casefile.specs.Tables.{planOf, automatonOf, bindingsOf}
 use Rattle.casefile.specs.Cases.{Case, refusedCase, bindingCase, pathCase, caseOf}
 use Rattle.casefile.proofs.Passed.{binding-case, path-case}
 use Rattle.casefile.specs.PathCases.{nodeLimit, pathAnswer, replayed}
-use Rattle.casefile.specs.BindingCases.{Shrunk, shrunk}
+use Rattle.casefile.specs.BindingCases.{shrunk}
 use Rattle.demands.specs.Answers.{Answer, proved, unproved, refuted, Outcome, refusal, bindingOutcome, pathOutcome, outcomeOf, answer, flagsAfter}
-use Rattle.demands.specs.Demands.{planIn, automatonIn, lettersIn, startBinding, Shrinks, PathJudged, Demand1, Demand2, Demand3}
+use Rattle.demands.specs.Demands.{planIn, automatonIn, lettersIn, Shrinks, PathJudged, Demand1, Demand2, Demand3}
+use Rattle.demands.proofs.PlainWords.{over, answer-of, binding-says, not-refuted}
 
 -- Binding cases.
 module _ (aut : Automaton) (plan : Plan) (offered : List Binding) where
@@ -49,12 +51,17 @@ module _ (aut : Automaton) (plan : Plan) (offered : List Binding) where
         kept = kept test offered;
         rounds = rounds test offered;
         is-offered = kept-sub test offered;
-        is-consistent = kept-consistent test offered;
-        is-greatest = λ s c w. holds-greatest aut plan s offered c w;
+        is-consistent = λ b m. exactly-rules aut plan (kept test offered) b (kept-stable test offered b m);
+        is-greatest = λ s c. holds-greatest aut plan s offered (λ b m. rules-exactly aut plan s b (c b m));
         is-marked = chosen-prefix (keptFlags test offered) rest offered (let n = keptFlags-length test offered in omega arith) ∙ chosen-kept test offered;
+        are-bits = λ i h.
+            let n = keptFlags-length test offered in
+            let e = List·getD-append (keptFlags test offered) rest 0 i (omega arith) in
+            subst (λ f. (f ≡ 0) ⊎ (f ≡ 1)) (sym e) (bits-at (keptFlags test offered) i (keptFlags-bits test offered));
         is-left = rounds-kept test offered;
         is-final = kept-ends test offered;
         is-least = rounds-least test offered;
+        is-bounded = rounds-dropped test offered;
         verdict = verdict-by (length (kept test offered)) (rounds test offered) (accepts aut plan offered) refl;
       }
 
@@ -104,11 +111,7 @@ module _ (aut : Automaton) (plan : Plan) (letters : List ℕ) where
       refuted-by : (q c : ℕ) → replay nodeLimit aut plan 0 letters start 0 ≡ refutes (0 + length letters) q c → pathOutcome (pathAnswer (replay nodeLimit aut plan 0 letters start 0)) .answer ≡ refuted (length letters) q c
       refuted-by q c f = ap (λ e. pathOutcome (pathAnswer e) .answer) f ∙ ap (λ n. refuted n q c) (zero-add (length letters))
 
--- the flags after an outcome
-abbrev marked : Outcome → List ℕ → List ℕ
-marked out lent = out .written ++ drop (length (out .written)) lent
-
-of-binding-case : (rs : List Record) (lent : List ℕ) → Shrinks (automatonOf rs) (planOf rs) (bindingsOf rs) (marked (outcomeOf (bindingCase rs)) lent) (outcomeOf (bindingCase rs) .answer)
+of-binding-case : (rs : List Record) (lent : List ℕ) → Shrinks (automatonOf rs) (planOf rs) (bindingsOf rs) (over (outcomeOf (bindingCase rs) .written) lent) (outcomeOf (bindingCase rs) .answer)
 unfolding outcomeOf bindingOutcome shrunk
 of-binding-case rs lent = shrinks (automatonOf rs) (planOf rs) (bindingsOf rs) (drop (length (keptFlags (holdsExactly (automatonOf rs) (planOf rs)) (bindingsOf rs))) lent)
 
@@ -117,26 +120,21 @@ unfolding outcomeOf
 of-path-case rs ls = replays (automatonOf rs) (planOf rs) ls
 
 module _ (file lent : List ℕ) where
-  -- the outcome of a file is that of its case
-  answer-of : (c : Case) → caseOf file (length lent) ≡ c → answer file (length lent) ≡ outcomeOf c
-  unfolding answer
-  answer-of c e = ap outcomeOf e
-
   pub meets2 : (a : Answer) (marks : List ℕ) → Demand1 file lent a marks → Demand2 file lent a marks
   unfolding flagsAfter
   meets2 a marks d =
       record {
         of-bindings = λ rs e.
             let (known, none-there) = binding-case (length lent) file rs e in
-            let out = answer-of (bindingCase rs) e in
+            let out = answer-of file lent (bindingCase rs) e in
             subst (λ z. Shrinks (automatonOf z) (planOf z) (bindingsOf z) marks a) (known .all-records)
             (subst₂ (Shrinks (automatonOf rs) (planOf rs) (bindingsOf rs))
-            (ap (λ z. marked z lent) (sym out) ∙ sym (d .are-marks))
+            (ap (λ (z : Outcome). over (z .written) lent) (sym out) ∙ sym (d .are-marks))
             (ap (λ (z : Outcome). z .answer) (sym out) ∙ sym (d .is-answer))
             (of-binding-case rs lent));
         of-path = λ rs ls e.
             let (known, first-path) = path-case (length lent) file rs ls e in
-            let out = answer-of (pathCase rs ls) e in
+            let out = answer-of file lent (pathCase rs ls) e in
             subst (λ z. PathJudged (automatonOf z) (planOf z) (getD (payloads Kind.path z) 0 []) a) (known .all-records)
             (subst₂ (PathJudged (automatonOf rs) (planOf rs)) (sym first-path)
             (ap (λ (z : Outcome). z .answer) (sym out) ∙ sym (d .is-answer))
@@ -159,21 +157,15 @@ module _ (file lent : List ℕ) where
 
   pub meets3 : (a : Answer) (marks : List ℕ) → Demand1 file lent a marks → Demand3 file a
   meets3 a marks d k n m p =
-      safe-by (caseOf file (length lent)) refl k n m (ap (λ (z : Outcome). z .answer) (sym (answer-of (caseOf file (length lent)) refl)) ∙ sym (d .is-answer) ∙ p)
+      safe-by (caseOf file (length lent)) refl k n m (ap (λ (z : Outcome). z .answer) (sym (answer-of file lent (caseOf file (length lent)) refl)) ∙ sym (d .is-answer) ∙ p)
 
 -- Never both.
-binding-not-refuted : (s : Shrunk) (n q c : ℕ) → bindingOutcome s .answer ≡ refuted n q c → ⊥
-unfolding bindingOutcome
-binding-not-refuted s n q c e = by (s .accepted) e
-  where
-    by : (b : Bool) → (if b then proved (s .kept) (s .total) (s .rounds) else unproved (s .kept) (s .total) (s .rounds)) ≡ refuted n q c → ⊥
-    by true f = let z : _≡_ {A = ℕ} 0 1 = cc in omega arith
-    by false f = let z : _≡_ {A = ℕ} 0 1 = cc in omega arith
-
 refuted-error : (file : List ℕ) (flags : ℕ) (n q c : ℕ) (x : Case) → caseOf file flags ≡ x → outcomeOf x .answer ≡ refuted n q c → isErrorPath (automatonIn file) (planIn file) (lettersIn file) start 0 ≡ true
 unfolding outcomeOf replayed refusal nodes
 refuted-error file flags n q c (refusedCase r) e p = absurd (let z : _≡_ {A = ℕ} 0 1 = cc in omega arith)
-refuted-error file flags n q c (bindingCase rs) e p = absurd (binding-not-refuted (shrunk (automatonOf rs) (planOf rs) (bindingsOf rs)) n q c p)
+refuted-error file flags n q c (bindingCase rs) e p =
+    let s = shrunk (automatonOf rs) (planOf rs) (bindingsOf rs) in
+    absurd (not-refuted (bindingOutcome s .answer) n q c (binding-says s) p)
 refuted-error file flags n q c (pathCase rs ls) e p =
     let (known, first-path) = path-case flags file rs ls e in
     let err = refutes-error (automatonOf rs) (planOf rs) nodeLimit 0 ls n q c start-fits (ending-refuted (replay nodeLimit (automatonOf rs) (planOf rs) 0 ls start 0) n q c p) in

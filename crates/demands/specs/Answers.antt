@@ -47,7 +47,7 @@ outcomeOf (refusedCase r) = refusal r
 outcomeOf (bindingCase rs) = bindingOutcome (shrunk (automatonOf rs) (planOf rs) (bindingsOf rs))
 outcomeOf (pathCase rs letters) = pathOutcome (replayed (automatonOf rs) (planOf rs) letters)
 
--- what is answered for the bytes of a file and so many lent flags
+-- the outcome for the bytes of a file, where `flags` flag bytes are lent
 unfoldable pub answer : List ℕ → ℕ → Outcome
 answer s flags = outcomeOf (caseOf s flags)
 

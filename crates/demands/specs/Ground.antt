@@ -1,4 +1,4 @@
--- The ground case E and its kin, as two tables: a file and lent flags, the answer and the flags afterwards.
+-- The ground case E and the cases made from it, as two tables: a file and lent flags, the answer and the flags afterwards.
 -- Sections "The ground case E" and "What is turned away" of the scope; bytes are in the order shown there.
 use Prim.Native.Nat.{ℕ, zero, suc, _/_, _%_}
 use mathlib.Core.List.{List, [], _∷_, _++_}
@@ -98,15 +98,19 @@ abbrev pub type0 : List ℕ
 type0 =
     0x01 ∷ 0x00 ∷ 0x07 ∷ 0x00 ∷ 0x00 ∷ []
 
+-- plan and automaton of E
 abbrev pub planE : List ℕ
 planE = signature ++ ruleS ++ ruleF ++ automaton
 
+-- plan and automaton of B
 abbrev pub planB : List ℕ
 planB = signature ++ ruleS ++ ruleFB ++ automaton
 
+-- plan and automaton of G
 abbrev pub planG : List ℕ
 planG = signature ++ ruleS ++ ruleH ++ automaton
 
+-- "E, 154 bytes"
 abbrev pub E : List ℕ
 E = planE ++ types01 ++ bindS0 ++ bindF1
 
@@ -114,9 +118,11 @@ E = planE ++ types01 ++ bindS0 ++ bindF1
 abbrev pub recordOf : ℕ → List ℕ → List ℕ
 recordOf kind payload = length payload % 256 ∷ length payload / 256 ∷ kind ∷ 0 ∷ payload
 
+-- a path record
 abbrev pub path : List ℕ → List ℕ
 path letters = recordOf 9 letters
 
+-- a path of n zeros
 abbrev pub zeros : ℕ → List ℕ
 zeros n = path (replicate n 0)
 

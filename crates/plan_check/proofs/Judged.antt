@@ -22,6 +22,7 @@ use Rattle.casefile.specs.BindingCases.{Shrunk, shrunk}
 use Rattle.binding_cases.specs.Judging.{IsShrunk, JudgesBindings}
 use Rattle.demands.specs.Answers.{Answer, proved, unproved, refused, refusal, bindingOutcome, pathOutcome, outcomeOf, answer, flagsAfter}
 use Rattle.demands.specs.Demands.{Demand1}
+use Rattle.demands.proofs.Demands.{demand1}
 use Rattle.plan_check.specs.Verdicts.{answerAs, ofBindings, ofPath}
 use Rattle.plan_check.specs.declared.Verdict.{Verdict}
 use Rattle.plan_check.specs.declared.Verdict.the-variants.{Proved, Unproved, Refuted, Refused}
@@ -69,10 +70,9 @@ module _ (file lent : List ℕ) where
   meets1 : (c : Cases.Case) → caseOf file (length lent) ≡ c → (a : Answer) (marks : List ℕ) → a ≡ outcomeOf c .answer → marks ≡ outcomeOf c .written ++ drop (length (outcomeOf c .written)) lent → Demand1 file lent a marks
   unfolding answer flagsAfter
   meets1 c e a marks ea em =
-      record {
-        is-answer = ea ∙ ap (λ x. outcomeOf x .answer) (sym e);
-        are-marks = em ∙ ap (λ x. outcomeOf x .written ++ drop (length (outcomeOf x .written)) lent) (sym e);
-      }
+      demand1 file lent a marks
+      (ea ∙ ap (λ x. outcomeOf x .answer) (sym e))
+      (em ∙ ap (λ x. outcomeOf x .written ++ drop (length (outcomeOf x .written)) lent) (sym e))
 
   module _ {index lens counts ends : List ℕ} {r : Case} (w : Examined file (length lent) index lens counts ends r) where
     pub judged-refused : (n p : ℕ) → r ≡ RefusedCase n p → Demand1 file lent (answerAs (Refused n p)) lent

@@ -7,15 +7,15 @@ use mathlib.Core.Path.{_≡_, refl, sym, ap, ap₂, subst, _∙_}
 use mathlib.Core.Bool.{Bool, true, false, _&&_}
 use mathlib.Core.List.{List, _++_}
 use mir.Val.{boolByte}
-use lib.ListN.{length, getD, set, take, drop, replicate, length-set, length-map, getD-replicate, take-append-drop}
+use lib.ListN.{length, getD, set, take, drop, replicate, length-set, getD-replicate, take-append-drop}
 use lib.Seq.{getD-take, drop-set-lt, drop-drop}
 use Rattle.scheme.specs.Rounds
 use Rattle.scheme.specs.Flags.{bit, isKept, chosen, roundFlags}
 use Rattle.scheme.proofs.Flags.{chosen-round}
 use Rattle.casefile.specs.Records.{Record}
-use Rattle.casefile.specs.Kinds.{Kind, number, payloads, count}
+use Rattle.casefile.specs.Kinds.{Kind, number, count}
 use Rattle.casefile.specs.Tables.{bindingsOf}
-use Rattle.casefile.proofs.TypeTable.{count-payloads}
+use Rattle.casefile.proofs.Plans.{bindings-many}
 use Rattle.index.specs.layout.Layout.{maxStates, maxBindings, rulesAt, mostNodesAt, shared, sharedSize}
 use Rattle.index.specs.entries.Tests.{IsPlace}
 use Rattle.memo.specs.Memo.{nextStamp, readied, Under}
@@ -46,10 +46,6 @@ pub flag-of : (r : Bool) → boolByte r ≡ bit r
 unfolding bit
 flag-of true = refl
 flag-of false = refl
-
-pub bindings-many : (rs : List Record) → length (bindingsOf rs) ≡ count Kind.binding rs
-unfolding bindingsOf
-bindings-many rs = length-map (payloads Kind.binding rs) _ ∙ sym (count-payloads Kind.binding rs)
 
 -- flags that are the same up to the last binding
 settled-same : (rs : List Record) (lost flags flags′ : List ℕ) → take (length (bindingsOf rs)) flags′ ≡ take (length (bindingsOf rs)) flags → Settled rs lost flags → Settled rs lost flags′

@@ -1,3 +1,4 @@
+-- The theorems about schemes, automata and types.
 pub mod Lists
 pub mod Prefix
 pub mod Substitution
@@ -6,6 +7,7 @@ pub mod Heads
 pub mod SubjectReduction
 pub mod Safety
 pub mod Monotone
+pub mod TypingRules
 pub mod Rounds
 pub mod Flags
 pub mod Paths

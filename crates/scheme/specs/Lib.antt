@@ -1,3 +1,4 @@
+-- The definitions of schemes, automata and types, lowest first.
 pub mod Lists
 pub mod Sorts
 pub mod Terms
@@ -6,6 +7,7 @@ pub mod Sorting
 pub mod Reduction
 pub mod Types
 pub mod Typing
+pub mod TypingRules
 pub mod Rounds
 pub mod Flags
 pub mod Replay
