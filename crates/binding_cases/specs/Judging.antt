@@ -1,3 +1,4 @@
+-- What our own crates promise each other; nothing here has to be believed.
 -- What comes of a binding case. Sections "Types and shrinking" and "Verdicts" of the scope.
 use Rattle.head_types.specs.candidates.Candidates.{noBinding}
 use Prim.Native.Nat.{ℕ, _<_, _≤_}

@@ -1,3 +1,4 @@
+-- What our own crates promise each other; nothing here has to be believed.
 -- The sorts of heads in a term that has no parameters. Section "Reduction and replay" of the scope.
 use mathlib.Core.List.{List, []}
 use Rattle.scheme.specs.Sorts.{Sort}

@@ -1,3 +1,4 @@
+-- What our own crates promise each other; nothing here has to be believed.
 -- Answers remembered for a node and a goal, one byte each: twice the number of the test that found it, and 1 more for yes.
 use Prim.Native.Nat.{ℕ, zero, suc, _+_, _*_, _/_, _%_, _<_}
 use mathlib.Core.Path.{_≡_}

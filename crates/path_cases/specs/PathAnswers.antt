@@ -1,3 +1,4 @@
+-- What our own crates promise each other; nothing here has to be believed.
 -- The answer to a file with a path. Sections "Reduction and replay" and "Verdicts" of the scope.
 use Prim.Native.Nat.{ℕ}
 use mathlib.Core.Path.{_≡_}

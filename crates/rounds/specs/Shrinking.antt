@@ -1,3 +1,4 @@
+-- What our own crates promise each other; nothing here has to be believed.
 -- Shrinking by rounds. Section "Types and shrinking" of the scope: "One round tests every binding against the set as the
 -- round began, then drops those that failed".
 use Prim.Native.Nat.{ℕ, _+_, _*_, _%_, _<_, _≤_}

@@ -1,3 +1,4 @@
+-- What our own crates promise each other; nothing here has to be believed.
 -- What the arguments of a head must have. Section "Types and shrinking" of the scope: "the argument must have every member".
 use Prim.Native.Nat.{ℕ, suc, _+_, _<_, _≤_}
 use mathlib.Core.Path.{_≡_}

@@ -1,3 +1,4 @@
+-- What our own crates promise each other; nothing here has to be believed.
 -- Arrows taken off a type. Section "Types and shrinking" of the scope: "one arrow off for each argument".
 use Prim.Native.Nat.{ℕ, zero, suc, _+_, _<_, _≤_}
 use mathlib.Core.Path.{_≡_}

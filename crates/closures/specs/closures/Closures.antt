@@ -1,3 +1,4 @@
+-- What our own crates promise each other; nothing here has to be believed.
 -- Terms with shared subterms: a term is a node of a body in the file, with closures for its parameters. A closure is a
 -- number: the node's place, and the block of cells in which the closures of its parameters stand.
 use Prim.Native.Nat.{ℕ, _+_, _-_, _*_, _/_, _%_, _<_, _≤_}

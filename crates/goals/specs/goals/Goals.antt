@@ -1,3 +1,4 @@
+-- What our own crates promise each other; nothing here has to be believed.
 -- Types by number, as the goals of a check. Section "Types and shrinking" of the scope: "Types match when they are the same type".
 use Prim.Native.Nat.{ℕ, _+_, _<_, _≤_}
 use mathlib.Core.Path.{_≡_}

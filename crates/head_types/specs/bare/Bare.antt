@@ -1,3 +1,4 @@
+-- What our own crates promise each other; nothing here has to be believed.
 -- A head that stands alone. Section "Types and shrinking" of the scope: "A nonterminal has the types bound to it, a
 -- parameter the members given for it".
 use Prim.Native.Nat.{ℕ, _≤_}

@@ -1,3 +1,4 @@
+-- What our own crates promise each other; nothing here has to be believed.
 -- The types of a head that has several, by number. Section "Types and shrinking" of the scope: "A nonterminal has the types bound to it",
 -- and a parameter the members given for it.
 use Prim.Native.Nat.{ℕ, zero, suc, _-_, _<_, _≤_}

@@ -1,3 +1,4 @@
+-- What our own crates promise each other; nothing here has to be believed.
 -- What a type of a head asks of the arguments. Section "Types and shrinking" of the scope: "the argument must have every member".
 use mathlib.Core.Bool.{Bool, true, false, _&&_}
 use Rattle.scheme.specs.Lists.{all}

@@ -1,3 +1,4 @@
+-- What our own crates promise each other; nothing here has to be believed.
 -- The types of a constructor against a goal. Section "Types and shrinking" of the scope: "With a transition from q to
 -- q1..qn, its constructor has exactly the type taking {q1}, .., {qn} to q; without one, none at q".
 use Prim.Native.Nat.{ℕ, _-_, _<_, _≤_}

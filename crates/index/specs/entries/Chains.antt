@@ -1,3 +1,4 @@
+-- What our own crates promise each other; nothing here has to be believed.
 -- Types by the hash of their payloads. Behind its entries the index has a head for each hash, the last type of that hash,
 -- and a link for each type, the last type before it of the same hash; types are counted from 1 there, and 0 stands for none.
 use Prim.Native.Nat.{ℕ, zero, suc, _+_, _*_, _/_, _%_, _<_}

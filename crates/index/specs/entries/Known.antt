@@ -1,3 +1,4 @@
+-- What our own crates promise each other; nothing here has to be believed.
 -- What the arrays of the walk hold after the records that passed.
 use Prim.Native.Nat.{ℕ, suc, _<_, _≤_}
 use mathlib.Core.Path.{_≡_}

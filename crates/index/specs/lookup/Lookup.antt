@@ -1,3 +1,4 @@
+-- What our own crates promise each other; nothing here has to be believed.
 -- The payload of an entry by its number in the index: the header four bytes before it has its length.
 use Prim.Native.Nat.{ℕ, _-_}
 use mathlib.Core.List.{List, []}

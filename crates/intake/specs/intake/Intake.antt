@@ -1,3 +1,4 @@
+-- What our own crates promise each other; nothing here has to be believed.
 -- What the intake of a file answers: a refusal by 1 to 12, a binding case or a path case, with the tables of its records.
 use Prim.Native.Nat.{ℕ, _<_}
 use mathlib.Core.Path.{_≡_}

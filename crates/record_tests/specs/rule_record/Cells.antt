@@ -1,3 +1,4 @@
+-- What our own crates promise each other; nothing here has to be believed.
 -- A node of a body by the byte that it begins at.
 use Prim.Native.Nat.{ℕ, _+_}
 use mathlib.Core.List.{List}

@@ -1,3 +1,4 @@
+-- What our own crates promise each other; nothing here has to be believed.
 -- What reading a file at a place finds. Section "The case file" of the scope, and refusal 2 of its table.
 use Prim.Native.Nat.{ℕ, _+_}
 use mathlib.Core.List.{List, []}

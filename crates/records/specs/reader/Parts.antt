@@ -1,3 +1,4 @@
+-- What our own crates promise each other; nothing here has to be believed.
 -- The part of a file that a record's payload fills.
 use Prim.Native.Nat.{ℕ}
 use mathlib.Core.List.{List, []}

@@ -1,3 +1,4 @@
+-- What our own crates promise each other; nothing here has to be believed.
 -- One letter of a path, on a term held as its head and a frame of its arguments. Section "Reduction and replay" of the scope.
 use Prim.Native.Nat.{ℕ, suc, _+_, _*_, _<_, _≤_}
 use mathlib.Core.Path.{_≡_}

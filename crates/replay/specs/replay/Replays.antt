@@ -1,3 +1,4 @@
+-- What our own crates promise each other; nothing here has to be believed.
 -- What the functions that replay a path promise: the answer of the definitions.
 use Prim.Native.Nat.{ℕ, _+_, _*_, _<_, _≤_}
 use mathlib.Core.Path.{_≡_}

@@ -1,3 +1,4 @@
+-- What our own crates promise each other; nothing here has to be believed.
 -- The bodies of the rules of a file, one after another.
 use Prim.Native.Nat.{ℕ, _+_, _/_, _<_, _≤_}
 use mathlib.Core.Path.{_≡_}

@@ -1,3 +1,4 @@
+-- What our own crates promise each other; nothing here has to be believed.
 -- The bodies of all rules of a file, by arrays of what its records say: refusal 9 of the scope, its second part.
 use Prim.Native.Nat.{ℕ, _+_, _/_, _<_, _≤_}
 use mathlib.Core.Path.{_≡_}

@@ -1,3 +1,4 @@
+-- What our own crates promise each other; nothing here has to be believed.
 -- Sorts by number: a listed sort by its number, a constructor's sort that is not listed by a number of its own.
 use Prim.Native.Nat.{ℕ, suc, _+_, _<_, _≤_}
 use mathlib.Core.Path.{_≡_}

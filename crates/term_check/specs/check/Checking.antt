@@ -1,3 +1,4 @@
+-- What our own crates promise each other; nothing here has to be believed.
 -- The check of a term and of its arguments, by the nodes of a body and by the numbers of goals. Section "Types and
 -- shrinking" of the scope: "Checking a term calls for its arguments, and each argument is again a term".
 use Prim.Native.Nat.{ℕ, _+_, _*_, _/_, _<_, _≤_}

@@ -1,3 +1,4 @@
+-- What our own crates promise each other; nothing here has to be believed.
 -- The nodes of a body, and the numbers of a test.
 use Prim.Native.Nat.{ℕ, suc, _+_, _*_, _/_, _<_, _≤_}
 use mathlib.Core.Path.{_≡_}

@@ -1,3 +1,4 @@
+-- What our own crates promise each other; nothing here has to be believed.
 -- A row of the transition table, and the argument count of a constructor.
 use Prim.Native.Nat.{ℕ, _≤_}
 use mathlib.Core.Path.{_≡_}

@@ -1,3 +1,4 @@
+-- What our own crates promise each other; nothing here has to be believed.
 -- The code of a record by its kind.
 use Prim.Native.Nat.{ℕ}
 use mathlib.Core.List.{List}

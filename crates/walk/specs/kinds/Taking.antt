@@ -1,3 +1,4 @@
+-- What our own crates promise each other; nothing here has to be believed.
 -- A record that the walk takes: its code, and the tables with it.
 use Prim.Native.Nat.{ℕ, _+_}
 use mathlib.Core.Path.{_≡_}
