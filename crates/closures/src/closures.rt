@@ -97,7 +97,7 @@ fn measure_term(file: &[u8], cells: &[u64], at: usize, block: usize, count: usiz
 }
 
 // The sum of two counts of nodes, exact up to 4,096; where it is larger, a number larger than 4,096.
-pub fn capped(a: usize, b: usize) -> usize
+pub(crate) fn capped(a: usize, b: usize) -> usize
     ensures { λ r. ⌜ Adds a b r ⌝ }
 {
     if MAX_TERM < a {
@@ -148,7 +148,7 @@ fn closure_of(
 
 // Writes the closures of m terms that stand one after another, with a frame, into the cells from `low` on. Returns the
 // nodes of all m terms, exact up to 4,096.
-pub fn spread(
+pub(crate) fn spread(
     file: &[u8],
     cells: &mut [u64],
     at: usize,

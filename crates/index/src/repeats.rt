@@ -29,7 +29,7 @@ fn matches_at(file: &[u8], at: usize, p: &[u8]) -> bool
 }
 
 // Whether the payload at `at`, whose length stands four bytes before it, is p; lengths are compared first.
-pub fn same_payload(file: &[u8], at: usize, p: &[u8]) -> bool
+pub(crate) fn same_payload(file: &[u8], at: usize, p: &[u8]) -> bool
     ensures { λ r. ⌜ (4 ≤ at → at < 65536 → length (now (p .entry)) ≤ 64 → r ≡ samePayload (now (p .entry)) (now (file .entry)) at) ⌝ }
 {
     if length_at(file, at) != p.len() {

@@ -69,7 +69,7 @@ fn test_evidence(file: &[u8], index: &[u16], counts: &[u16], flags: usize, fit: 
 
 // The tests over the whole file, 8 to 12.
 // `codes` and `depths` are tables to work in: what they hold does not matter, before or after.
-pub fn test_whole(
+pub(crate) fn test_whole(
     file: &[u8],
     index: &[u16],
     counts: &[u16],

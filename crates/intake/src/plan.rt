@@ -45,7 +45,7 @@ fn counts_wrong(counts: &[u16]) -> bool
 
 // The tests of the plan, 8 and 9; `ends` gets the ends of the subterms of all bodies.
 // `codes` and `depths` are tables to work in: what they hold does not matter, before or after.
-pub fn test_plan(
+pub(crate) fn test_plan(
     file: &[u8],
     index: &[u16],
     counts: &[u16],

@@ -142,7 +142,7 @@ fn descend_held(
 }
 
 // A letter on the term held, with the row of the table for its state and number, and block `top` for the next arguments.
-pub fn follow(
+pub(crate) fn follow(
     file: &[u8],
     index: &[u16],
     rules: usize,

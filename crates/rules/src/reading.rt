@@ -59,7 +59,7 @@ fn read_rule(
 
 // The number of the first rule whose body does not fit, or of rules where all fit; `ends` gets the ends of subterms, rule after rule.
 // `codes` and `depths` are tables to work in: what they hold does not matter, before or after.
-pub fn read_rules(
+pub(crate) fn read_rules(
     file: &[u8],
     index: &[u16],
     froms: &[u16],

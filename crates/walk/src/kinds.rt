@@ -211,7 +211,7 @@ fn take_path(index: &mut [u16], counts: &mut [u16], start: usize, p: &[u8]) -> u
 
 // The code of a record of a kind with the payload p, which begins at start: 0, or the number of the first of 3 to 7 that is
 // met. Where it is 0 the record is entered in the tables, behind the others of its kind; else they stay as they are.
-pub fn take(
+pub(crate) fn take(
     file: &[u8],
     index: &mut [u16],
     lens: &mut [u16],
