@@ -3,7 +3,7 @@ use Prim.Native.Nat.{ℕ, _+_, _*_, _<_, _≤_}
 use native.Mathlib.Omega.{arith}
 use mathlib.Core.Path.{_≡_, sym, ap, subst, _∙_}
 use mathlib.Core.List.{List, []}
-use borrow.Author.Tests.{ltb-false, leb-true}
+use borrow.Author.Tests.{ltb-false}
 use lib.Dec.{ltb}
 use lib.ListN.{length, getD}
 use Rattle.scheme.proofs.Lists.{or-false}
@@ -20,7 +20,7 @@ use Rattle.index.proofs.lookup.Found.{entry-there}
 use Rattle.transitions.specs.table.Moves
 use Rattle.index.proofs.Wholes.{whole-bodies}
 use Rattle.casefile.specs.PathCases.{replayed}
-use Rattle.replay.specs.replay.Replays.{Runs, isShort, ReplaysPath, ReplaysShort}
+use Rattle.replay.specs.replay.Replays.{Runs, ReplaysPath, ReplaysShort}
 use Rattle.replay.specs.declared.replay.Replayed.{Replayed}
 
 -- "at most" 4,096 letters
@@ -31,7 +31,7 @@ path-short {rs} ok h =
     let k = ltb-false 4096 (length (e .payload)) (or-false (tooMany Kind.path (count Kind.path (e .earlier))) (ltb 4096 (length (e .payload))) (e .passed-tests .few) .1) in
     subst (λ (p : List ℕ). length p ≤ 4096) (sym (e .here)) k
 
--- what the run over the path of a file comes to, by how many letters there are cells for
+-- the answer of the run over the path of a file, by how many letters there are cells for
 module _ {file index counts : List ℕ} {n rules constructors : ℕ} (en : n ≡ getD counts 6 0) (er : rules ≡ getD counts 4 0) (ec : constructors ≡ getD counts 2 0)
     {table : List (List (List ℕ))} (holds : Moves.Holds file index n table) (path : List ℕ) (ep : path ≡ entryOf file index 3169) {cells : List ℕ} {r : Replayed}
     (run : Runs file index rules constructors table path cells r) where
@@ -63,8 +63,4 @@ module _ {file index counts : List ℕ} {n rules constructors : ℕ} (en : n ≡
       }
 
   pub short-answer : (length path ≤ 64 → length path * 8 + 8 ≤ length cells) → ReplaysShort file index counts r
-  unfolding isShort
-  short-answer room =
-      record {
-        answer = λ short. replay-answer (λ _. room (let k = leb-true (length (entryOf file index 3169)) 64 short in omega (arith, ap length ep)));
-      }
+  short-answer room = record { answer = λ short. replay-answer (λ _. room (omega (arith, ap length ep))) }
