@@ -1,74 +1,62 @@
+-- `read_whole` meets its contract.
+use Prim.Native.Nat.{_-_, _≤_}
+use native.Mathlib.Omega.{arith}
+use mathlib.Core.Path.{_≡_}
+use lib.ListN.{length}
+use borrow.Author.Needs.{needs}
 use Rattle.input.proofs.read_whole.Statement.{statement}
 use Rattle.input.proofs.read_whole.Tie as tie
-use Rattle.input.proofs.read_whole.Reads as reads
-use Rattle.input.proofs.read_whole.Lts as lts
-use Rattle.input.proofs.read_once.Reads as read-once-reads
 
 abbrev Inv-loop : tie.InvT-loop
-Inv-loop fd buffer₀ at₀ turn₀ turn-end buffer at turn = ?
+Inv-loop fd buffer₀ at₀ turn₀ turn-end buffer at turn = (length buffer ≡ length buffer₀) × (at ≤ length buffer)
 
 abbrev μ-loop : tie.MeasureT-loop
-μ-loop fd buffer₀ at₀ turn₀ turn-end buffer at turn = ?
+μ-loop fd buffer₀ at₀ turn₀ turn-end buffer at turn = turn-end - turn
 
--- src/lib.rt:38:5
 loop-holds : tie.Need-loop-holds Inv-loop μ-loop
-loop-holds c = ?
+loop-holds c = search needs
 
--- src/lib.rt:39:33
 sub-read-once : tie.Need-sub-read-once Inv-loop μ-loop
-sub-read-once c = ?
+sub-read-once c = search needs
 
--- src/lib.rt:39:33
 part-read-once-start : tie.Need-part-read-once-start Inv-loop μ-loop
-part-read-once-start c = ?
+part-read-once-start c = search needs
 
--- src/lib.rt:39:33
 part-read-once-end : tie.Need-part-read-once-end Inv-loop μ-loop
-part-read-once-end c = ?
+part-read-once-end c = search needs
 
--- src/lib.rt:39:13
 read-once-requires : tie.Need-read-once-requires Inv-loop μ-loop
-read-once-requires c κs = ?
+read-once-requires c κs = search needs
 
--- src/lib.rt:41:13
 same-length : tie.Need-same-length Inv-loop μ-loop
-same-length c = ?
+same-length c = search needs
 
--- src/lib.rt:41:13
 returns : tie.Need-returns Inv-loop μ-loop
-returns c = ?
+returns c = search needs
 
--- src/lib.rt:47:13
 same-length-2 : tie.Need-same-length-2 Inv-loop μ-loop
-same-length-2 c = ?
+same-length-2 c = search needs
 
--- src/lib.rt:47:13
 returns-2 : tie.Need-returns-2 Inv-loop μ-loop
-returns-2 c = ?
+returns-2 c = search needs
 
--- src/lib.rt:52:14
 add-at : tie.Need-add-at Inv-loop μ-loop
-add-at c = ?
+add-at c = search needs
 
--- src/lib.rt:38:9
 add-turn : tie.Need-add-turn Inv-loop μ-loop
-add-turn c = ?
+add-turn c = search needs
 
--- src/lib.rt:38:5
 loop-less : tie.Need-loop-less Inv-loop μ-loop
-loop-less c = ?
+loop-less c = search needs
 
--- src/lib.rt:38:5
 loop-again : tie.Need-loop-again Inv-loop μ-loop
-loop-again c = ?
+loop-again c = search needs
 
--- src/lib.rt:34:1
 same-length-3 : tie.Need-same-length-3 Inv-loop μ-loop
-same-length-3 c = ?
+same-length-3 c = search needs
 
--- src/lib.rt:34:1
 returns-3 : tie.Need-returns-3 Inv-loop μ-loop
-returns-3 c = ?
+returns-3 c = search needs
 
 pub read-whole-spec : {M : Type 1} → statement M
 read-whole-spec =
