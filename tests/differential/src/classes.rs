@@ -1,8 +1,8 @@
 //! The files that are measured, by class, and files that double in one respect.
 
-use crate::notation::case_file;
 use crate::case_file::{CaseFile, Node, TypeRecord, CONSTRUCTOR, NONTERMINAL, PARAMETER};
 use crate::ground;
+use crate::notation::case_file;
 
 /// A file to measure.
 pub struct Subject {
