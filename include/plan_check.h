@@ -17,35 +17,20 @@ enum plan_verdict {
     PLAN_REFUSED = 3   /* out: number, place, 0 */
 };
 
-/* As many flags are enough for every file. */
+/* This many flags are enough for every file. */
 #define PLAN_MOST_BINDINGS 1024
 
-/* Judges the file_length bytes at file.
+/* Judges the file_length bytes at file and returns the verdict.
  *
  * flags: flags_length bytes that are lent. For a binding case that is not refused, each binding's byte becomes 1 if it
- * is kept and 0 if it is dropped; every other byte is left as it was.
- * out: four numbers that are written: the verdict, then its three values, 0 where it has fewer.
+ * is kept and 0 if it is dropped; every other byte is left as it was. A refusal and a path leave all of them as they were.
+ * out: four numbers that every call writes, a refusal too: the verdict, then its three values, 0 where it has fewer. They
+ * are the answer, and what they held before does not matter.
  *
  * The answer is proved for all bytes and all lengths, if the three areas do not overlap, file can be read, and flags and
  * out can be written; a length of 0 still needs a pointer that is not null. Nothing is kept after the call, and no
- * memory is taken but less than 1 MB of the caller's stack. */
+ * memory is taken but less than 1 MB of the caller's stack, which is measured and not proved. */
 uint64_t plan_judge(const uint8_t *file, size_t file_length, uint8_t *flags, size_t flags_length, uint64_t out[4]);
-
-/* Working memory for plan_judge_with: room for every file. Its contents do not matter, before or after. */
-struct plan_memory {
-    uint16_t index[8034];
-    uint16_t ends[15000];
-    uint16_t groups[257];
-    uint16_t firsts[257];
-    uint8_t fit[66560];
-    uint8_t memo[266240];
-};
-
-/* The same with working memory that the caller lends, for callers that judge many files: these tables are not made and
- * cleared at each call. None of the areas may overlap. */
-uint64_t plan_judge_with(const uint8_t *file, size_t file_length, uint8_t *flags, size_t flags_length, uint64_t out[4],
-                         uint16_t index[8034], uint16_t ends[15000], uint16_t groups[257], uint16_t firsts[257],
-                         uint8_t fit[66560], uint8_t memo[266240]);
 
 #ifdef __cplusplus
 }

@@ -1,17 +1,15 @@
 //! Measures the library beside an implementation of the same rules that is written for speed and not proved: nanoseconds
 //! for a call and their ratio by class, and how time grows as one measure of a file doubles.
 //!
-//! Both run in one thread, by turns; each figure is a median of processor time. Before that, the fast implementation is
-//! compared with the reference of the differential tests.
+//! The library is called as a caller calls it, by `plan_judge`, which makes its tables at each call; the fast implementation
+//! keeps its tables from call to call. Both run in one thread, by turns; each figure is a median of processor time. Before
+//! that, the fast implementation is compared with the reference of the differential tests.
 
-mod classes;
 mod fast;
-mod notation;
 
-use classes::{Class, Subject};
-use differential::library::{self, Memory};
+use differential::classes::{self, Class, Subject};
 use differential::verdict::Verdict;
-use differential::{generate, ground, reference};
+use differential::{generate, ground, library, reference};
 use fast::Judge;
 use std::hint::black_box;
 use std::process::ExitCode;
@@ -81,11 +79,9 @@ fn agree(judge: &mut Judge, name: &str, file: &[u8], lent: usize) -> Result<(), 
 
 // Measuring
 
-/// Nanoseconds for a call of the library, of the library with working memory that is lent, and of the fast implementation,
-/// which keeps its own; and how many times the third the second is. The ratio is that of turns which follow each other, so
-/// that it varies less than the times do.
+/// Nanoseconds for a call of the library and of the fast implementation, and how many times the second the first is. The ratio
+/// is that of turns which follow each other, so that it varies less than the times do.
 struct Times {
-    alone: f64,
     library: f64,
     fast: f64,
     ratio: f64,
@@ -134,30 +130,23 @@ fn median(mut values: Vec<f64>) -> f64 {
 fn measure(judge: &mut Judge, subject: &Subject) -> Times {
     let mut flags = [0u8; 1_024];
     let mut more_flags = [0u8; 1_024];
-    let mut flags_alone = [0u8; 1_024];
-    let (mut out, mut out_alone) = ([0u64; 4], [0u64; 4]);
-    let mut memory = Memory::new();
-    let mut call_alone = || {
-        black_box(library::plan_judge(black_box(&subject.bytes), &mut flags_alone, &mut out_alone));
-    };
+    let mut out = [0u64; 4];
     let mut call_library = || {
-        black_box(library::plan_judge_with(black_box(&subject.bytes), &mut flags, &mut out, &mut memory));
+        black_box(library::plan_judge(black_box(&subject.bytes), &mut flags, &mut out));
     };
     let mut call_fast = || {
         black_box(judge.judge(black_box(&subject.bytes), &mut more_flags));
     };
-    let alone_calls = calls_in_turn(&mut call_alone);
     let library_calls = calls_in_turn(&mut call_library);
     let fast_calls = calls_in_turn(&mut call_fast);
-    let (mut alone, mut library, mut fast) = (Vec::new(), Vec::new(), Vec::new());
+    let (mut library, mut fast) = (Vec::new(), Vec::new());
     let start = processor_time();
     while library.len() < TURNS && (library.len() < 5 || processor_time() - start < LONGEST) {
-        alone.push(time(alone_calls, &mut call_alone).as_nanos() as f64 / f64::from(alone_calls));
         library.push(time(library_calls, &mut call_library).as_nanos() as f64 / f64::from(library_calls));
         fast.push(time(fast_calls, &mut call_fast).as_nanos() as f64 / f64::from(fast_calls));
     }
     let ratios = library.iter().zip(&fast).map(|(library, fast)| library / fast).collect();
-    Times { ratio: median(ratios), alone: median(alone), library: median(library), fast: median(fast) }
+    Times { ratio: median(ratios), library: median(library), fast: median(fast) }
 }
 
 fn verdict(subject: &Subject) -> Verdict {
@@ -168,24 +157,23 @@ fn verdict(subject: &Subject) -> Verdict {
 
 fn print_classes(judge: &mut Judge, classes: &[Class]) {
     println!();
+    println!("library: plan_judge, which makes its tables at each call; fast: keeps its tables from call to call");
     println!(
-        "{:11} {:36} {:>6} {:>11} {:>11} {:>11} {:>6}  verdict",
-        "class", "file", "bytes", "alone ns", "lent ns", "fast ns", "ratio"
+        "{:11} {:36} {:>6} {:>11} {:>11} {:>6}  verdict",
+        "class", "file", "bytes", "library ns", "fast ns", "ratio"
     );
     let mut slow = Vec::new();
     for class in classes {
-        let (mut alone, mut library, mut fast) = (0.0, 0.0, 0.0);
+        let (mut library, mut fast) = (0.0, 0.0);
         for subject in &class.subjects {
             let times = measure(judge, subject);
-            alone += times.alone;
             library += times.library;
             fast += times.fast;
             println!(
-                "{:11} {:36} {:6} {:11.0} {:11.0} {:11.0} {:6.2}  {}",
+                "{:11} {:36} {:6} {:11.0} {:11.0} {:6.2}  {}",
                 class.name,
                 subject.name,
                 subject.bytes.len(),
-                times.alone,
                 times.library,
                 times.fast,
                 times.ratio,
@@ -195,11 +183,10 @@ fn print_classes(judge: &mut Judge, classes: &[Class]) {
         let count = class.subjects.len() as f64;
         if class.subjects.len() > 1 {
             println!(
-                "{:11} {:36} {:6} {:11.0} {:11.0} {:11.0} {:6.2}",
+                "{:11} {:36} {:6} {:11.0} {:11.0} {:6.2}",
                 class.name,
                 "on average",
                 "",
-                alone / count,
                 library / count,
                 fast / count,
                 library / fast

@@ -24,6 +24,10 @@ int main(int argc, char **argv) {
         return 2;
     }
     size_t length = fread(file, 1, sizeof file, in);
+    if (ferror(in)) {
+        perror(argv[1]);
+        return 2;
+    }
     fclose(in);
 
     switch (plan_judge(file, length, flags, sizeof flags, out)) {

@@ -1,12 +1,6 @@
 // The judge for programs in other languages.
-use index::layout::Ends;
-use index::layout::Fits;
-use index::layout::Index;
-use index::layout::Memo;
-use index::layout::Rows;
 use plan_check::Verdict;
 use plan_check::judge;
-use plan_check::judge_with;
 ghost use mathlib.Core.Path.{_≡_};
 ghost use Rattle.capi.specs.Exports.{wordsOf, Judges};
 ghost use Rattle.plan_check.specs.Verdicts.{answerAs};
@@ -44,25 +38,4 @@ pub extern "C" fn plan_judge(file: &[u8], flags: &mut [u8], out: &mut [u64; 4]) 
     let words = words_of(judge(file, flags));
     *out = words;
     words[0]
-}
-
-// The same with working memory that is lent, of any contents; what it holds afterwards is not said.
-#[no_mangle]
-pub extern "C" fn plan_judge_with(
-    file: &[u8],
-    flags: &mut [u8],
-    out: &mut [u64; 4],
-    index: &mut Index,
-    ends: &mut Ends,
-    groups: &mut Rows,
-    firsts: &mut Rows,
-    fit: &mut Fits,
-    memo: &mut Memo,
-) -> u64
-    ensures { λ r. ⌜ Judges (now (file .entry)) (now (flags .entry)) (now (flags .exit)) (now (out .exit)) r ⌝ }
-{
-    let verdict = judge_with(file, flags, index, ends, groups, firsts, fit, memo);
-    let numbers = words_of(verdict);
-    *out = numbers;
-    numbers[0]
 }

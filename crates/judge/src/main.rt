@@ -1,12 +1,16 @@
 // Reads a case file from standard input and prints the line of its verdict.
-use libc::STDIN_FILENO;
+use index::layout::MAX_BINDINGS;
 use libc::STDOUT_FILENO;
 
 // The buffer holds more than the 60,000 bytes of the longest case file, so that a longer one is seen to be longer.
 fn main() {
     let mut file = io::large_buffer();
-    let n = io::read_full(STDIN_FILENO, &mut file);
-    let mut flags = [0u8; 1024];
+    let read = input::read_input(&mut file);
+    if !read.whole {
+        return;
+    }
+    let n = read.length;
+    let mut flags = [0u8; MAX_BINDINGS];
     let verdict = plan_check::judge(&file[..n], &mut flags);
     verdict_lines::write_verdict(STDOUT_FILENO, verdict);
     io::write_all(STDOUT_FILENO, b"\n");

@@ -6,37 +6,17 @@
 // else comes, the line ends in `untouched no`, or a further line says `mismatch`.
 use libc::STDOUT_FILENO;
 use plan_check::Verdict;
+use test_files::FLAGS;
+use test_files::fresh_flags;
+use test_files::judge_lent;
+use test_files::untouched;
+use test_files::written;
 
 // How many flags are printed at most.
 const SHOWN: usize = 64;
 
 // What ends the name of a case file: `.case`.
 const ENDING: usize = 5;
-
-// How many bindings were judged: none but in a binding case.
-fn total_of(verdict: Verdict) -> usize {
-    match verdict {
-        Verdict::Proved {
-            kept: _,
-            total,
-            rounds: _,
-        } => total,
-        Verdict::Unproved {
-            kept: _,
-            total,
-            rounds: _,
-        } => total,
-        Verdict::Refuted {
-            letters: _,
-            state: _,
-            constructor: _,
-        } => 0,
-        Verdict::Refused {
-            number: _,
-            place: _,
-        } => 0,
-    }
-}
 
 // Whether two byte strings are equal.
 fn same_bytes(a: &[u8], b: &[u8]) -> bool {
@@ -65,18 +45,6 @@ fn same(a: Verdict, b: Verdict) -> bool {
     verdict_lines::put_verdict(&mut first, a);
     verdict_lines::put_verdict(&mut second, b);
     same_lines(&first, &second)
-}
-
-// Whether each flag from a number on is still 7.
-fn untouched(flags: &[u8], from: usize) -> bool {
-    let mut i = from;
-    while i < flags.len() {
-        if flags[i] != 7 {
-            return false;
-        }
-        i = i + 1;
-    }
-    true
 }
 
 // Whether each of the first n flags is 0 or 1.
@@ -138,7 +106,7 @@ fn say_flags(flags: &[u8], n: usize) {
 
 // The line of a file that was judged with 1,024 flags.
 fn say_line(name: &[u8], verdict: Verdict, flags: &[u8]) {
-    let n = total_of(verdict);
+    let n = written(verdict);
     io::write_all(STDOUT_FILENO, name);
     io::write_all(STDOUT_FILENO, b" ");
     verdict_lines::write_verdict(STDOUT_FILENO, verdict);
@@ -159,22 +127,11 @@ fn say_mismatch(name: &[u8], lent: usize, verdict: Verdict) {
     io::write_all(STDOUT_FILENO, b"\n");
 }
 
-// The verdict with so many of the flags lent; refused 0 at 0 where there are not so many.
-fn judge_with(file: &[u8], flags: &mut [u8], lent: usize) -> Verdict {
-    if flags.len() < lent {
-        return Verdict::Refused {
-            number: 0,
-            place: 0,
-        };
-    }
-    plan_check::judge(file, &mut flags[..lent])
-}
-
 // Judges a file with as many flags as it has bindings, and compares with what came before.
 fn judge_exactly(name: &[u8], file: &[u8], verdict: Verdict, flags: &[u8]) {
-    let n = total_of(verdict);
-    let mut others = [7u8; 1024];
-    let again = judge_with(file, &mut others, n);
+    let n = written(verdict);
+    let mut others = fresh_flags();
+    let again = judge_lent(file, &mut others, n);
     if !same(verdict, again) || !same_bytes(flags, &others) {
         say_mismatch(name, n, again);
     }
@@ -185,8 +142,8 @@ fn judge_short(name: &[u8], file: &[u8], n: usize) {
     if n == 0 {
         return;
     }
-    let mut flags = [7u8; 1024];
-    let verdict = judge_with(file, &mut flags, n - 1);
+    let mut flags = fresh_flags();
+    let verdict = judge_lent(file, &mut flags, n - 1);
     let wanted = Verdict::Refused {
         number: 12,
         place: 0,
@@ -198,14 +155,14 @@ fn judge_short(name: &[u8], file: &[u8], n: usize) {
 
 // Judges a file and prints what there is to say of it.
 fn judge_case(name: &[u8], file: &[u8]) {
-    let mut flags = [7u8; 1024];
-    let verdict = judge_with(file, &mut flags, 1024);
+    let mut flags = fresh_flags();
+    let verdict = judge_lent(file, &mut flags, FLAGS);
     say_line(name, verdict, &flags);
-    if !are_flags(&flags, total_of(verdict)) {
-        say_mismatch(name, 1024, verdict);
+    if !are_flags(&flags, written(verdict)) {
+        say_mismatch(name, FLAGS, verdict);
     }
     judge_exactly(name, file, verdict, &flags);
-    judge_short(name, file, total_of(verdict));
+    judge_short(name, file, written(verdict));
 }
 
 // The name of a file without its ending.
@@ -217,22 +174,17 @@ fn stem(path: &[u8]) -> &[u8] {
     &path[..n]
 }
 
-// Judges the file that argument i names; false where there is no such argument or no such file.
+// Judges the file that argument i names; false where there is none.
 fn one(i: usize) -> bool {
-    let mut path = io::buffer();
-    let length = os::arg(i, &mut path);
-    if os::errno() != 0 {
-        return false;
-    }
-    let fd = os::open_read(&path[..length]);
-    if fd < 0 {
-        os::fail(&path[..length]);
-        return false;
-    }
+    let mut name = io::buffer();
     let mut file = io::large_buffer();
-    let n = io::read_full(fd, &mut file);
-    libc::close(fd);
-    judge_case(stem(&path[..length]), &file[..n]);
+    let found = test_files::read_named(i, &mut name, &mut file);
+    if !found.there {
+        return false;
+    }
+    let length = found.name;
+    let bytes = found.bytes;
+    judge_case(stem(&name[..length]), &file[..bytes]);
     true
 }
 

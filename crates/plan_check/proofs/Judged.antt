@@ -19,11 +19,12 @@ use Rattle.replay.specs.replay.Replays.{pathAs, ReplaysPath}
 use Rattle.replay.specs.declared.replay.Replayed.{Replayed}
 use Rattle.replay.specs.declared.replay.Replayed.the-variants.{Refuted as Refuted′, Refused as Refused′}
 use Rattle.casefile.specs.BindingCases.{Shrunk, shrunk}
-use Rattle.binding_cases.specs.Judging.{IsShrunk, JudgesBindings}
+use Rattle.binding_cases.specs.Judging.{IsShrunk}
 use Rattle.demands.specs.Answers.{Answer, proved, unproved, refused, refusal, bindingOutcome, pathOutcome, outcomeOf, answer, flagsAfter}
-use Rattle.demands.specs.Demands.{Demand1}
-use Rattle.demands.proofs.Demands.{demand1}
-use Rattle.plan_check.specs.Verdicts.{answerAs, ofBindings, ofPath}
+use Rattle.demands.specs.Demands.{Demand1, Demand2, Demand3}
+use Rattle.demands.proofs.Demands.{demand1, demand2, demand3}
+use Rattle.plan_check.specs.Verdicts.{answerAs}
+use Rattle.plan_check.specs.Promises.{ofBindings, ofPath, JudgesBindingCase}
 use Rattle.plan_check.specs.declared.Verdict.{Verdict}
 use Rattle.plan_check.specs.declared.Verdict.the-variants.{Proved, Unproved, Refuted, Refused}
 
@@ -36,7 +37,7 @@ pub bindings-unproved : (b : Bool) (k t r : ℕ) → b ≡ false → Unproved k 
 unfolding ofBindings
 bindings-unproved b k t r e = sym (ap (λ x. ofBindings x k t r) e)
 
--- what comes of a path, as a verdict
+-- the answer to a path, as a verdict
 module _ (p : Replayed) where
   pub path-refuted : (n q c : ℕ) → p ≡ Refuted′ n q c → Refuted n q c ≡ ofPath p
   unfolding ofPath
@@ -79,16 +80,16 @@ module _ (file lent : List ℕ) where
     unfolding caseAs outcomeOf refusal answerAs
     judged-refused n p e = meets1 (refusedCase (record { number = n; place = p })) (sym (w .is-case) ∙ ap (caseAs file) e) (refused n p) lent refl refl
 
-    pub judged-bindings : r ≡ BindingCase → {marks : List ℕ} {b : Bool} {k t m : ℕ} → JudgesBindings file index counts ends lent marks b k t m → (v : Verdict) → v ≡ ofBindings b k t m → Demand1 file lent (answerAs v) marks
+    pub judged-bindings : r ≡ BindingCase → {marks : List ℕ} (v : Verdict) → JudgesBindingCase file index counts ends lent marks v → Demand1 file lent (answerAs v) marks
     unfolding caseAs outcomeOf Leaves bindingOutcome
-    judged-bindings e {marks} {b} {k} {t} {m} judges v ev =
+    judged-bindings e {marks} v judges =
         let rs = listed (recordsOf file) in
         let is : caseOf file (length lent) ≡ bindingCase rs = sym (w .is-case) ∙ ap (caseAs file) e in
         let tables = subst (Leaves file index lens counts ends) e (w .tables) in
         let accepted = binding-case (length lent) file rs is .0 in
         let s = shrunk (automatonOf rs) (planOf rs) (bindingsOf rs) in
-        let found = judges .judged lens rs (tables .known) (tables .passed) (tables .ends-are) (accepted .whole-file) in
-        meets1 (bindingCase rs) is (answerAs v) marks (ap answerAs ev ∙ answer-bindings s lent marks b k t m found) (found .flags-are)
+        let found = judges .judged .judged lens rs (tables .known) (tables .passed) (tables .ends-are) (accepted .whole-file) in
+        meets1 (bindingCase rs) is (answerAs v) marks (ap answerAs (judges .is-verdict) ∙ answer-bindings s lent marks _ _ _ _ found) (found .flags-are)
 
     pub judged-path : r ≡ Path → (p : Replayed) → ReplaysPath file index counts p → (v : Verdict) → v ≡ ofPath p → Demand1 file lent (answerAs v) lent
     unfolding caseAs outcomeOf Leaves
@@ -103,3 +104,7 @@ module _ (file lent : List ℕ) where
         meets1 (pathCase rs letters) is (answerAs v) lent
         (ap answerAs ev ∙ answer-path p ∙ ap (λ x. pathOutcome x .answer) found)
         (sym (ap (λ l. l ++ drop (length l) lent) none-written))
+
+-- demand 1 has the other two with it
+pub demands : {file lent marks : List ℕ} {a : Answer} → Demand1 file lent a marks → Demand1 file lent a marks × (Demand2 file lent a marks × Demand3 file a)
+demands d = (d, (demand2 _ _ _ _ d, demand3 _ _ _ _ d))

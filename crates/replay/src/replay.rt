@@ -26,9 +26,9 @@ use records::fields::byte_at;
 use transitions::rows::row_of;
 use transitions::table::moves;
 ghost use mathlib.Core.Path.{_≡_};
-ghost use Rattle.replay.specs.replay.Replays.{stoppedAt, Arrives, Runs, isShort, ReplaysPath, ReplaysShort};
+ghost use Rattle.replay.specs.replay.Replays.{stoppedAt, Arrives, Runs, ReplaysPath, ReplaysShort};
 
-// What a path comes to.
+// The answer to a path.
 pub enum Replayed {
     Refuted {
         letters: usize,
@@ -61,7 +61,7 @@ fn stopped(step: Step, letter: usize) -> Replayed
     }
 }
 
-// What the path comes to behind its last letter, on the term held.
+// The answer to a path behind its last letter, on the term held.
 fn arrive(table: Transitions, constructors: usize, held: Held, letters: usize) -> Replayed
     ensures { λ r. ⌜ Arrives table constructors held letters r ⌝ }
 {
@@ -85,7 +85,7 @@ fn arrive(table: Transitions, constructors: usize, held: Held, letters: usize) -
     }
 }
 
-// What the letters of a path come to, from the start symbol on at state 0; each letter has a block of eight cells.
+// The answer to the letters of a path, from the start symbol on at state 0; each letter has a block of eight cells.
 fn run(
     file: &[u8],
     index: &[u16],
@@ -136,17 +136,9 @@ fn run(
     arrive(table, constructors, held, i)
 }
 
-// Whether the path of a file has at most 64 letters: then `replay_short` says what it comes to.
-pub fn is_short(file: &[u8], index: &Index) -> bool
-    ensures { λ r. ⌜ r ≡ isShort (now (file .entry)) (now (index .entry)) ⌝ }
-{
-    let letters = entry(file, index, PATH_AT);
-    letters.len() <= SHORT_PATH
-}
-
-// What a path of at most 64 letters comes to, by the tables of its file; of other paths nothing is said. It stands apart
-// from `replay_long` so that a short path needs no large frame.
-pub fn replay_short(file: &[u8], index: &Index, counts: &Counts) -> Replayed
+// The answer to a path of at most 64 letters, by the tables of its file; of other paths nothing is said. It stands apart from
+// `replay_long` so that a short path needs no large frame.
+fn replay_short(file: &[u8], index: &Index, counts: &Counts) -> Replayed
     ensures { λ r. ⌜ ReplaysShort (now (file .entry)) (now (index .entry)) (now (counts .entry)) r ⌝ }
 {
     let table = moves(file, index, place_at(counts, TRANSITION));
@@ -161,8 +153,8 @@ pub fn replay_short(file: &[u8], index: &Index, counts: &Counts) -> Replayed
     run(file, index, rules, constructors, table, path, &mut cells)
 }
 
-// What a path comes to, by the tables of its file. The cells of up to 4,096 letters take 262 KB of stack.
-pub fn replay_long(file: &[u8], index: &Index, counts: &Counts) -> Replayed
+// The answer to a path, by the tables of its file. The cells of up to 4,096 letters take 262 KB of stack.
+fn replay_long(file: &[u8], index: &Index, counts: &Counts) -> Replayed
     ensures { λ r. ⌜ ReplaysPath (now (file .entry)) (now (index .entry)) (now (counts .entry)) r ⌝ }
 {
     let table = moves(file, index, place_at(counts, TRANSITION));
@@ -175,4 +167,15 @@ pub fn replay_long(file: &[u8], index: &Index, counts: &Counts) -> Replayed
     }
     let mut cells = [0u64; ALL_CELLS];
     run(file, index, rules, constructors, table, path, &mut cells)
+}
+
+// The answer to the path of a file, by its tables.
+pub fn replay_path(file: &[u8], index: &Index, counts: &Counts) -> Replayed
+    ensures { λ r. ⌜ ReplaysPath (now (file .entry)) (now (index .entry)) (now (counts .entry)) r ⌝ }
+{
+    let letters = entry(file, index, PATH_AT);
+    if letters.len() <= SHORT_PATH {
+        return replay_short(file, index, counts);
+    }
+    replay_long(file, index, counts)
 }

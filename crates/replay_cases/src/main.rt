@@ -1,15 +1,18 @@
-// Reads each case file that its arguments name, with the number of lent flags behind its name, and prints the library's
-// answer: `NAME: refuted letters 5 state 1 constructor 0`, `NAME: refused 13 at 2` or `NAME: bindings`. A flag that changed
-// is reported. Where the answer is refuted or 13 to 15, a reducer on its own has to say the same, of the file and of
-// cases with the same plan and paths drawn by a seed; where it does not, a line says so. The last line counts these cases.
+// Judges each case file that its arguments name, with as many lent flags as the number behind its name says, and prints the
+// answer: `NAME: refuted letters 5 state 1 constructor 0`, `NAME: refused 13 at 2` or, for a binding case, `NAME: bindings`. A
+// flag that changed and must not is reported. Where the answer is refuted or 13 to 15, a reducer on its own has to say the same,
+// of the file and of cases with the same plan and paths drawn by a seed; where it does not, a line says so. The last line counts
+// these cases.
 use libc::STDOUT_FILENO;
-use path_cases::Answer;
+use plan_check::Verdict;
 use reducer::Outcome;
 use reducer::Plan;
-ghost use Prim.Native.Nat.{_≤_};
 
 // How many paths are drawn for a plan.
 const DRAWN: usize = 40;
+
+// The first refusal of a path that is replayed.
+const FIRST: usize = 13;
 
 // Whether there was a file to read, and how many cases were compared.
 struct Done {
@@ -17,67 +20,96 @@ struct Done {
     compared: usize,
 }
 
-fn say_refused(number: usize, place: usize) {
-    io::write_all(STDOUT_FILENO, b"refused ");
-    io::print_decimal(STDOUT_FILENO, number as u64);
-    io::write_all(STDOUT_FILENO, b" at ");
-    io::print_decimal(STDOUT_FILENO, place as u64);
-}
-
-fn say_refuted(letters: usize, state: usize, constructor: usize) {
-    io::write_all(STDOUT_FILENO, b"refuted letters ");
-    io::print_decimal(STDOUT_FILENO, letters as u64);
-    io::write_all(STDOUT_FILENO, b" state ");
-    io::print_decimal(STDOUT_FILENO, state as u64);
-    io::write_all(STDOUT_FILENO, b" constructor ");
-    io::print_decimal(STDOUT_FILENO, constructor as u64);
-}
-
-fn say_answer(answer: Answer) {
-    match answer {
-        Answer::Refuted {
-            letters,
-            state,
-            constructor,
-        } => say_refuted(letters, state, constructor),
-        Answer::Refused { number, place } => say_refused(number, place),
-        Answer::Bindings => {
-            io::write_all(STDOUT_FILENO, b"bindings");
-        }
+// Whether a verdict is one of a binding case.
+fn of_bindings(verdict: Verdict) -> bool {
+    match verdict {
+        Verdict::Proved {
+            kept: _,
+            total: _,
+            rounds: _,
+        } => true,
+        Verdict::Unproved {
+            kept: _,
+            total: _,
+            rounds: _,
+        } => true,
+        Verdict::Refuted {
+            letters: _,
+            state: _,
+            constructor: _,
+        } => false,
+        Verdict::Refused {
+            number: _,
+            place: _,
+        } => false,
     }
 }
 
-fn say_line(name: &[u8], answer: Answer) {
+fn say_answer(verdict: Verdict) {
+    if of_bindings(verdict) {
+        io::write_all(STDOUT_FILENO, b"bindings");
+    } else {
+        verdict_lines::write_verdict(STDOUT_FILENO, verdict);
+    }
+}
+
+fn say_line(name: &[u8], verdict: Verdict) {
     io::write_all(STDOUT_FILENO, name);
     io::write_all(STDOUT_FILENO, b": ");
-    say_answer(answer);
+    say_answer(verdict);
     io::write_all(STDOUT_FILENO, b"\n");
 }
 
-fn say_outcome(outcome: Outcome) {
+// What the reducer found, as a verdict.
+fn verdict_of(outcome: Outcome) -> Verdict {
     if outcome.number == 0 {
-        say_refuted(outcome.place, outcome.state, outcome.constructor);
-    } else {
-        say_refused(outcome.number, outcome.place);
+        return Verdict::Refuted {
+            letters: outcome.place,
+            state: outcome.state,
+            constructor: outcome.constructor,
+        };
+    }
+    Verdict::Refused {
+        number: outcome.number,
+        place: outcome.place,
     }
 }
 
 // Whether the reducer has to agree: an answer to a path that was replayed.
-fn replayed(answer: Answer) -> bool {
-    match answer {
-        Answer::Refuted {
+fn replayed(verdict: Verdict) -> bool {
+    match verdict {
+        Verdict::Proved {
+            kept: _,
+            total: _,
+            rounds: _,
+        } => false,
+        Verdict::Unproved {
+            kept: _,
+            total: _,
+            rounds: _,
+        } => false,
+        Verdict::Refuted {
             letters: _,
             state: _,
             constructor: _,
         } => true,
-        Answer::Refused { number, place: _ } => 13 <= number,
-        Answer::Bindings => false,
+        Verdict::Refused { number, place: _ } => FIRST <= number,
     }
 }
 
-fn same(answer: Answer, outcome: Outcome) -> bool {
-    match answer {
-        Answer::Refuted {
+fn same(verdict: Verdict, outcome: Outcome) -> bool {
+    match verdict {
+        Verdict::Proved {
+            kept: _,
+            total: _,
+            rounds: _,
+        } => false,
+        Verdict::Unproved {
+            kept: _,
+            total: _,
+            rounds: _,
+        } => false,
+        Verdict::Refuted {
             letters,
             state,
             constructor,
@@ -87,8 +119,7 @@ fn same(answer: Answer, outcome: Outcome) -> bool {
                 && outcome.state == state
                 && outcome.constructor == constructor
         }
-        Answer::Refused { number, place } => outcome.number == number && outcome.place == place,
-        Answer::Bindings => false,
+        Verdict::Refused { number, place } => outcome.number == number && outcome.place == place,
     }
 }
 
@@ -103,32 +134,15 @@ fn say_letters(file: &[u8], path: usize) {
 }
 
 // A line for case k of a plan, of which case 0 is the file itself.
-fn say_mismatch(name: &[u8], k: usize, answer: Answer, outcome: Outcome) {
+fn say_mismatch(name: &[u8], k: usize, answer: Verdict, outcome: Outcome) {
     io::write_all(STDOUT_FILENO, name);
     io::write_all(STDOUT_FILENO, b": mismatch in case ");
     io::print_decimal(STDOUT_FILENO, k as u64);
     io::write_all(STDOUT_FILENO, b": ");
     say_answer(answer);
     io::write_all(STDOUT_FILENO, b", by the reducer ");
-    say_outcome(outcome);
+    verdict_lines::write_verdict(STDOUT_FILENO, verdict_of(outcome));
     io::write_all(STDOUT_FILENO, b", path");
-}
-
-// The decimal number in a text, at most 1,024.
-fn decimal(text: &[u8]) -> usize
-    ensures { λ r. ⌜ r ≤ 1024 ⌝ }
-{
-    let mut n: usize = 0;
-    let mut i: usize = 0;
-    while i < text.len() {
-        let digit = (text[i] % 16) as usize;
-        n = n * 10 + digit;
-        if 1024 < n {
-            return 1024;
-        }
-        i = i + 1;
-    }
-    n
 }
 
 // The first n bytes, or all if there are fewer.
@@ -139,39 +153,18 @@ fn first_bytes(bytes: &[u8], n: usize) -> &[u8] {
     &bytes[..n]
 }
 
-// Whether each flag is still 7.
-fn untouched(flags: &[u8]) -> bool {
-    let mut i: usize = 0;
-    while i < flags.len() {
-        if flags[i] != 7 {
-            return false;
-        }
-        i = i + 1;
-    }
-    true
-}
-
-// The library's answer for so many of the flags, each 7, none of which may change.
-fn answer_with(file: &[u8], flags: &mut [u8], lent: usize) -> Answer {
-    if flags.len() < lent {
-        return Answer::Bindings;
-    }
-    let part = &mut flags[..lent];
-    let answer = path_cases::path_case(file, part);
-    if !untouched(part) {
+// The answer where as many flags are lent as `lent` says.
+fn answer_of(file: &[u8], lent: usize) -> Verdict {
+    let mut flags = test_files::fresh_flags();
+    let verdict = test_files::judge_lent(file, &mut flags, lent);
+    if !test_files::untouched(&flags, test_files::written(verdict)) {
         io::write_all(STDOUT_FILENO, b"a flag changed: ");
     }
-    answer
-}
-
-// The library's answer for so many flags.
-fn answer_of(file: &[u8], lent: usize) -> Answer {
-    let mut flags = [7u8; 1024];
-    answer_with(file, &mut flags, lent)
+    verdict
 }
 
 // Compares the library's answer with the reducer's on case k of a plan, whose path stands at an offset.
-fn compare(name: &[u8], file: &[u8], path: usize, k: usize, answer: Answer, cells: &mut [u16]) {
+fn compare(name: &[u8], file: &[u8], path: usize, k: usize, answer: Verdict, cells: &mut [u16]) {
     let outcome = reducer::replay(file, cells);
     if !same(answer, outcome) {
         say_mismatch(name, k, answer, outcome);
@@ -205,12 +198,12 @@ fn drawn_cases(name: &[u8], file: &mut [u8], plan: Plan, first: usize, cells: &m
     }
 }
 
-// Compares on a file, which fills so many bytes of the buffer, and on drawn cases of its plan.
+// Compares on a file, which fills the first bytes of the buffer, and on drawn cases of its plan.
 fn compare_all(
     name: &[u8],
     buffer: &mut [u8],
     length: usize,
-    answer: Answer,
+    answer: Verdict,
     seed: usize,
     cells: &mut [u16],
 ) {
@@ -220,7 +213,7 @@ fn compare_all(
     drawn_cases(name, buffer, plan, seed, cells);
 }
 
-// The line of a file, which fills so many bytes of the buffer, and its comparisons; returns how many these are.
+// The line of a file, which fills the first bytes of the buffer, and its comparisons; returns how many these are.
 fn judge(
     name: &[u8],
     buffer: &mut [u8],
@@ -238,21 +231,6 @@ fn judge(
     DRAWN + 1
 }
 
-// Reads a file that is open and judges it.
-fn read_and_judge(name: &[u8], fd: i32, lent: usize, seed: usize, cells: &mut [u16]) -> usize {
-    let mut buffer = io::large_buffer();
-    let length = io::read_full(fd, &mut buffer);
-    libc::close(fd);
-    judge(name, &mut buffer, length, lent, seed, cells)
-}
-
-// The number in argument i, 0 if there is none.
-fn number_argument(i: usize) -> usize {
-    let mut text = io::buffer();
-    let digits = os::arg(i, &mut text);
-    decimal(&text[..digits])
-}
-
 // The file and the number of flags that argument i and the next name.
 fn one(i: usize, cells: &mut [u16]) -> Done {
     let none = Done {
@@ -263,17 +241,14 @@ fn one(i: usize, cells: &mut [u16]) -> Done {
         return none;
     }
     let mut name = io::buffer();
-    let length = os::arg(i, &mut name);
-    if os::errno() != 0 {
+    let mut file = io::large_buffer();
+    let found = test_files::read_named(i, &mut name, &mut file);
+    if !found.there {
         return none;
     }
-    let fd = os::open_read(&name[..length]);
-    if fd < 0 {
-        os::fail(&name[..length]);
-        return none;
-    }
-    let lent = number_argument(i + 1);
-    let compared = read_and_judge(&name[..length], fd, lent, i, cells);
+    let lent = test_files::number_argument(i + 1);
+    let length = found.name;
+    let compared = judge(&name[..length], &mut file, found.bytes, lent, i, cells);
     Done {
         more: true,
         compared,

@@ -1,9 +1,12 @@
 //! An independent implementation of the scope, files to try it and the library on, and the library's C interface.
 
 pub mod case_file;
+pub mod classes;
 pub mod generate;
 pub mod ground;
 pub mod library;
+mod notation;
 pub mod random;
 pub mod reference;
+pub mod stack;
 pub mod verdict;

@@ -3,7 +3,7 @@ use Prim.Native.Nat.{ℕ, _+_, _*_, _<_, _≤_}
 use native.Mathlib.Omega.{arith}
 use mathlib.Core.Path.{_≡_, sym, ap, subst, _∙_}
 use mathlib.Core.List.{List, []}
-use borrow.Author.Tests.{ltb-false, leb-true}
+use borrow.Author.Tests.{ltb-false}
 use lib.Dec.{ltb}
 use lib.ListN.{length, getD}
 use Rattle.scheme.proofs.Lists.{or-false}
@@ -14,25 +14,25 @@ use Rattle.casefile.specs.Refusals.{tooMany, tooLarge}
 use Rattle.casefile.proofs.Passed.{entry}
 use Rattle.casefile.specs.Promises.{Passed}
 use Rattle.casefile.proofs.TypeTable.{count-payloads}
-use Rattle.index.specs.layout.Layout.{maxLetters, maxTerm, pathAt}
+use Rattle.index.specs.layout.Layout.{maxLetters, pathAt, shortPath}
 use Rattle.index.specs.entries.Index.{Indexed}
 use Rattle.index.specs.lookup.Lookup.{entryOf}
 use Rattle.index.proofs.lookup.Found.{entry-there}
 use Rattle.transitions.specs.table.Moves
 use Rattle.index.proofs.Wholes.{whole-bodies}
 use Rattle.casefile.specs.PathCases.{replayed}
-use Rattle.replay.specs.replay.Replays.{Runs, isShort, ReplaysPath, ReplaysShort}
+use Rattle.replay.specs.replay.Replays.{Runs, ReplaysPath, ReplaysShort}
 use Rattle.replay.specs.declared.replay.Replayed.{Replayed}
 
 -- "at most" 4,096 letters
-path-short : {rs : List Record} → Passed rs → 0 < length (payloads Kind.path rs) → length (getD (payloads Kind.path rs) 0 []) ≤ maxTerm
+path-short : {rs : List Record} → Passed rs → 0 < length (payloads Kind.path rs) → length (getD (payloads Kind.path rs) 0 []) ≤ maxLetters
 unfolding tooLarge
 path-short {rs} ok h =
     let e = entry ok Kind.path 0 h in
-    let k = ltb-false maxTerm (length (e .payload)) (or-false (tooMany Kind.path (count Kind.path (e .earlier))) (ltb maxLetters (length (e .payload))) (e .passed-tests .few) .1) in
-    subst (λ (p : List ℕ). length p ≤ maxTerm) (sym (e .here)) k
+    let k = ltb-false maxLetters (length (e .payload)) (or-false (tooMany Kind.path (count Kind.path (e .earlier))) (ltb maxLetters (length (e .payload))) (e .passed-tests .few) .1) in
+    subst (λ (p : List ℕ). length p ≤ maxLetters) (sym (e .here)) k
 
--- what the run over the path of a file comes to, by how many letters there are cells for
+-- the answer of the run over the path of a file, by how many letters there are cells for
 module _ {file index counts : List ℕ} {n rules constructors : ℕ} (en : n ≡ getD counts 6 0) (er : rules ≡ getD counts 4 0) (ec : constructors ≡ getD counts 2 0)
     {table : List (List (List ℕ))} (holds : Moves.Holds file index n table) (path : List ℕ) (ep : path ≡ entryOf file index pathAt) {cells : List ℕ} {r : Replayed}
     (run : Runs file index rules constructors table path cells r) where
@@ -48,7 +48,7 @@ module _ {file index counts : List ℕ} {n rules constructors : ℕ} (en : n ≡
             let few-rules = known .fits Kind.rule in
             let few-constructors = known .fits Kind.constructor in
             let few-transitions = known .fits Kind.transition in
-            let short : length path ≤ maxLetters = subst (λ (p : List ℕ). length p ≤ maxTerm) (sym e) (path-short ok (let l = count-payloads Kind.path rs in omega arith)) in
+            let short : length path ≤ maxLetters = subst (λ (p : List ℕ). length p ≤ maxLetters) (sym e) (path-short ok (let l = count-payloads Kind.path rs in omega arith)) in
             run .answer rs
             (record {
               passed = ok;
@@ -63,9 +63,5 @@ module _ {file index counts : List ℕ} {n rules constructors : ℕ} (en : n ≡
             (room short) short ∙ ap (replayed (automatonOf rs) (planOf rs)) e;
       }
 
-  pub short-answer : (length path ≤ 64 → length path * 8 + 8 ≤ length cells) → ReplaysShort file index counts r
-  unfolding isShort
-  short-answer room =
-      record {
-        answer = λ short. replay-answer (λ _. room (let k = leb-true (length (entryOf file index pathAt)) 64 short in omega (arith, ap length ep)));
-      }
+  pub short-answer : (length path ≤ shortPath → length path * 8 + 8 ≤ length cells) → ReplaysShort file index counts r
+  short-answer room = record { answer = λ short. replay-answer (λ _. room (omega (arith, ap length ep))) }

@@ -1,4 +1,4 @@
--- The letters of a path one after another: what is left of the replay, and what it comes to.
+-- The letters of a path one after another: what is left of the replay, and its answer.
 use Prim.Native.Nat.{ℕ, suc, _+_, _*_, _<_, _≤_}
 use native.Mathlib.Omega.{arith}
 use mathlib.Core.Path.{_≡_, refl, sym, ap, subst, _∙_}

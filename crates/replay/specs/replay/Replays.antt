@@ -2,10 +2,8 @@
 -- What the functions that replay a path promise: the answer of the definitions.
 use Prim.Native.Nat.{ℕ, _+_, _*_, _<_, _≤_}
 use mathlib.Core.Path.{_≡_}
-use mathlib.Core.Bool.{Bool, true}
 use mathlib.Core.List.{List, []}
 use mathlib.Core.Option.{none}
-use lib.Dec.{leb}
 use lib.ListN.{length, getD}
 use Rattle.scheme.specs.Terms.{Term}
 use Rattle.scheme.specs.Replay.{arrived, stuck}
@@ -14,7 +12,7 @@ use Rattle.casefile.specs.Kinds.{Kind, payloads, count}
 use Rattle.casefile.specs.Tables.{planOf, automatonOf}
 use Rattle.casefile.specs.Refusals.{refuseWhole}
 use Rattle.casefile.specs.Promises.{Passed}
-use Rattle.index.specs.layout.Layout.{maxLetters, pathAt}
+use Rattle.index.specs.layout.Layout.{maxLetters, pathAt, shortPath}
 use Rattle.index.specs.entries.Known.{Known}
 use Rattle.index.specs.lookup.Lookup.{entryOf}
 use Rattle.replay.specs.letters.Letters.{Replaying, Holding}
@@ -51,10 +49,6 @@ pub record ReplaysPath (file index counts : List ℕ) (r : Replayed) : Type 0 wh
   pub answer : (lens : List ℕ) (rs : List Record) (flags : ℕ) → Known file index lens counts rs → Passed rs → refuseWhole rs flags ≡ none → 0 < count Kind.path rs
       → pathAs r ≡ replayed (automatonOf rs) (planOf rs) (getD (payloads Kind.path rs) 0 [])
 
--- whether the path of a file, by its index, has at most 64 letters
-unfoldable pub isShort : List ℕ → List ℕ → Bool
-isShort file index = leb (length (entryOf file index pathAt)) 64
-
 -- the same for a path of at most 64 letters
 pub record ReplaysShort (file index counts : List ℕ) (r : Replayed) : Type 0 where
-  pub answer : isShort file index ≡ true → ReplaysPath file index counts r
+  pub answer : length (entryOf file index pathAt) ≤ shortPath → ReplaysPath file index counts r
