@@ -1,5 +1,5 @@
 -- What our own crates promise each other; nothing here has to be believed.
--- What comes of a binding case. Sections "Types and shrinking" and "Verdicts" of the scope.
+-- The outcome of a binding case. Sections "Types and shrinking" and "Verdicts" of the scope.
 use Rattle.head_types.specs.candidates.Candidates.{noBinding}
 use Prim.Native.Nat.{ℕ, _<_, _≤_}
 use mathlib.Core.Path.{_≡_}
@@ -37,7 +37,7 @@ pub record FindsStart (index counts groups flags : List ℕ) (r : Bool) : Type 0
   pub answer : {file : List ℕ} (n : ℕ) (rs : List Record) → Typed file index (getD counts 7 0) rs → Indexed file index Kind.binding n rs → n ≤ maxBindings → Grouped rs n groups → 1 ≤ count Kind.nonterminal rs → n ≤ length flags
       → r ≡ any isStart (chosen flags (bindingsOf rs))
 
--- what comes of the bindings, and the lent flags afterwards: "bytes past the count are untouched"
+-- the kept bindings, and the lent flags afterwards: "bytes past the count are untouched"
 pub record IsShrunk (s : Shrunk) (lent flags : List ℕ) (accepted : Bool) (kept total rounds : ℕ) : Type 0 where
   pub accepted-is : accepted ≡ s .accepted
   pub kept-is : kept ≡ s .kept

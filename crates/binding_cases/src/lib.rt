@@ -20,7 +20,7 @@ use rules::first_nodes::fill_firsts;
 use transitions::places::fill_rows;
 ghost use Rattle.binding_cases.specs.Judging.{StartsAt, FindsStart, JudgesBindings};
 
-// What comes of the bindings offered: whether the start binding is kept, how many are kept and how many were offered, and
+// What is kept of the bindings offered: whether the start binding is kept, how many are kept and how many were offered, and
 // how many rounds dropped something.
 pub struct Shrunken {
     pub accepted: bool,
@@ -62,7 +62,7 @@ fn start_kept(index: &[u16], counts: &[u16], groups: &[u16], flags: &[u8]) -> bo
     false
 }
 
-// What comes of the bindings of a file, with the tables of its records; their flags are written, 1 for a kept binding and
+// Judges the bindings of a file, with the tables of its records; their flags are written, 1 for a kept binding and
 // 0 for a dropped one. Behind its entries the index gets the goals that its types are, and where its transitions lie. The groups
 // of its bindings, where the nodes of its rules begin, and the flags of the round before stand in `groups`, `firsts` and `old`.
 // What these and the memo held before does not matter.

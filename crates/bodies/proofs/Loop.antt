@@ -1,4 +1,4 @@
--- The arguments of a node, one after another: what is left of them leads to what all of them come to.
+-- The arguments of a node, one after another: what is left of them leads to the result of all of them.
 use Prim.Native.Nat.{ℕ, zero, suc, _+_, _-_, _<_, _≤_, max}
 use mathlib.Core.Path.{_≡_, refl, sym, ap, subst, _∙_}
 use mathlib.Core.Bool.{true, false}
@@ -17,7 +17,7 @@ use Rattle.bodies.specs.declared.Arguments.{Arguments}
 
 module _ (hs : Head → Sort) where
   module _ (sorts : List Sort) (froms tos trees ends codes depths : List ℕ) (n : ℕ) where
-    -- `left` of the terms us behind node `end` lead from sort s to what k of the terms ts behind node `at` come to
+    -- `left` of the terms us behind node `end` lead from sort s to the result of k of the terms ts behind node `at`
     pub record Going (ts us : Terms) (s₀ s : Sort) (at k end left sort deep : ℕ) : Type 0 where
       pub held : Held hs sorts ends codes depths n us end
       pub code : Code sorts sort s
@@ -31,7 +31,7 @@ module _ (hs : Head → Sort) where
     going-start ts s at k head h c = record { held = h; code = c; enough = λ x. x; needed = λ x. x; end-is = refl; rest-is = refl; deep-is = omega arith }
 
     module _ {ts : Terms} {s₀ : Sort} {at k : ℕ} where
-      -- nothing is left: it is what they come to
+      -- nothing is left: it is their result
       pub going-end : (us : Terms) (s : Sort) (left : ℕ) (r : Arguments) → Going ts us s₀ s at k (r .end) left (r .sort) (r .deep) → left ≡ 0 → Fits hs sorts ts s₀ at k r
       unfolding takeᵗ sortAfter nodesAll deepest
       going-end us s zero r g z =
@@ -96,7 +96,7 @@ module _ (hs : Head → Sort) where
 pub first-deep : {x d : ℕ} → x ≡ d → x ≡ max 0 d
 first-deep e = omega arith
 
--- whatever terms the tables hold behind node `at`, what is left leads to what k of them come to
+-- whatever terms the tables hold behind node `at`, what is left leads to the result of k of them
 abbrev pub Leads : List ℕ → List ℕ → List ℕ → List ℕ → List ℕ → List ℕ → ℕ → ℕ → ℕ → ℕ → ℕ → ℕ → ℕ → ℕ → Type 0
 Leads froms tos trees ends codes depths n at k head end left sort deep =
     (hs : Head → Sort) (sorts : List Sort) (ts : Terms) (s : Sort) → Coded sorts froms tos trees → Held hs sorts ends codes depths n ts at → Code sorts head s

@@ -27,7 +27,7 @@ Held hs sorts ends codes depths n (t ∷ᵗ ts) at =
     (at < n) × (getD ends at 0 ≡ at + nodes t) × ((s : Sort) × (sortOf hs t ≡ some s) × Code sorts (getD codes at 0) s)
     × (getD depths at 0 ≡ depth t) × (depth t ≤ maxDepth) × Held hs sorts ends codes depths n ts (at + nodes t)
 
--- what k arguments from node `at` on come to, of a head of sort s
+-- the result of k arguments from node `at` on, of a head of sort s
 pub record Fits (hs : Head → Sort) (sorts : List Sort) (ts : Terms) (s : Sort) (at k : ℕ) (r : Arguments) : Type 0 where
   pub enough : k ≤ countᵗ ts
   pub end-is : r .end ≡ at + nodesAll (takeᵗ k ts)
@@ -36,7 +36,7 @@ pub record Fits (hs : Head → Sort) (sorts : List Sort) (ts : Terms) (s : Sort)
   pub code : Code sorts (r .sort) rest
   pub deep-is : r .deep ≡ deepest (takeᵗ k ts)
 
--- r says whether k arguments from node `at` on fit a head's sort, and what they come to
+-- r says whether k arguments from node `at` on fit a head's sort, and what their result is
 pub record ArgumentsFit (froms tos trees ends codes depths : List ℕ) (n at k head : ℕ) (r : Arguments) : Type 0 where
   pub fits : (hs : Head → Sort) (sorts : List Sort) (ts : Terms) (s : Sort) → Coded sorts froms tos trees → Held hs sorts ends codes depths n ts at
       → Code sorts head s → r .fit ≡ true → Fits hs sorts ts s at k r

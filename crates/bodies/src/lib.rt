@@ -21,7 +21,7 @@ ghost use Rattle.sorts.specs.codes.Sorted.{ParameterSorts};
 ghost use Rattle.bodies.specs.Tables.{Stored};
 ghost use Rattle.bodies.specs.Bodies.{ArgumentsFit, HeldAs, HeadOf, Room, NodeTaken, Scanned, BodyDecided};
 
-// What the arguments of a node come to: whether they fit, the node behind them, the code of the sort that is left, their depth.
+// The result of the arguments of a node: whether they fit, the node behind them, the code of the sort that is left, their depth.
 // It stands for a node that is read too: the node behind its subterm, the code of its sort, its depth.
 pub struct Arguments {
     pub fit: bool,
@@ -64,7 +64,7 @@ fn fitting(end: usize, sort: usize, deep: usize) -> Arguments
     }
 }
 
-// What k arguments from node `at` on come to, of a head whose sort has the code `head`; the tables hold n nodes, and `next`
+// The result of k arguments from node `at` on, of a head whose sort has the code `head`; the tables hold n nodes, and `next`
 // is what they hold of node `at`.
 fn arguments_fit(
     froms: &[u16],

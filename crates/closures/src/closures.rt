@@ -28,7 +28,7 @@ fn cell_at(cells: &[u64], slot: usize) -> usize
     }
 }
 
-// The closure of parameter i of a frame: of so many closures, which are the last of a block.
+// The closure of parameter i of a frame: of a given number of closures, which are the last of a block.
 pub fn closure_at(cells: &[u64], block: usize, count: usize, i: usize) -> usize
     ensures { λ r. ⌜ IsClosureAt (now (cells .entry)) block count i r ⌝ }
 {

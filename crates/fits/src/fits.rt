@@ -29,7 +29,7 @@ fn small(number: usize) -> u8
     number as u8
 }
 
-// Stores at entry s of two tables the numbers of the sorts that sort s goes from and to, for so many sorts.
+// Stores at entry s of two tables the numbers of the sorts that sort s goes from and to, for a given number of sorts.
 fn read_sorts(file: &[u8], index: &[u16], sorts: usize, froms: &mut [u8], tos: &mut [u8])
     requires { ⌜ (sorts ≤ 64) × (length (now froms) ≡ 65) × (length (now tos) ≡ 65) ⌝ }
     ensures froms { λ _. ⌜ Small sorts (now (froms .exit)) × SortWords (now (file .entry)) (now (index .entry)) 0 sorts (now (froms .exit)) ⌝ }
@@ -156,7 +156,7 @@ fn fill_arrow(
     meet_members(file, froms, place, len, sorts, t, fit);
 }
 
-// Writes the row of type t: its flags for sort 0 and so many listed sorts.
+// Writes the row of type t: its flags for sort 0 and a given number of listed sorts.
 fn fill_row(
     file: &[u8],
     index: &[u16],
@@ -181,7 +181,7 @@ fn fill_row(
     }
 }
 
-// Writes the table of so many types: 1 where a type fits a sort, else 0. A file of fewer than four bytes has no type.
+// Writes the table of a given number of types: 1 where a type fits a sort, else 0. A file of fewer than four bytes has no type.
 pub fn fill_fits(file: &[u8], index: &[u16], types: usize, sorts: usize, fit: &mut Fits)
     ensures { λ _. ⌜ Fills (now (file .entry)) (now (index .entry)) types sorts (now (fit .exit)) ⌝ }
 {

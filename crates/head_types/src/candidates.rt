@@ -91,7 +91,7 @@ fn kept_type(index: &[u16], types: usize, kept: &[u8], j: usize) -> usize
     own_of(index, j)
 }
 
-// The type, where it is the goal with so many arrows off; else 65,535.
+// The type, where it is the goal with a given number of arrows off; else 65,535.
 fn if_leads(index: &[u16], types: usize, t: usize, count: usize, goal: usize) -> usize
     ensures { λ r. ⌜ Leads (now (index .entry)) types t count goal r ⌝ }
 {
@@ -104,7 +104,7 @@ fn if_leads(index: &[u16], types: usize, t: usize, count: usize, goal: usize) ->
     t
 }
 
-// Type number j of a head, where it has one and that is the goal with so many arrows off; else 65,535.
+// Type number j of a head, where it has one and that is the goal with a given number of arrows off; else 65,535.
 pub fn candidate(
     file: &[u8],
     index: &[u16],

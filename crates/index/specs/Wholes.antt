@@ -18,7 +18,7 @@ pub record Whole (p : List ℕ) : Type 0 where
   pub short : length p / 4 ≤ maxNodes
   pub tags : (i : ℕ) → i < length p / 4 → byte p (i * 4) ≤ 2
 
--- the index has so many rules, whose bodies are terms
+-- the index has a given number of rules, whose bodies are terms
 pub record Bodies (file index : List ℕ) (rules : ℕ) (rs : List Record) : Type 0 where
   pub there : Indexed file index Kind.rule rules rs
   pub whole : (f : ℕ) → f < rules → Whole (getD (payloads Kind.rule rs) f [])

@@ -206,7 +206,7 @@ pub const COUNT_UNIT: usize = NODE_UNITS * PLACE_UNITS;
 
 pub const BLOCK_UNIT: usize = COUNT_UNIT * COUNT_UNITS;
 
-// The cells of a block, and those for a path of up to so many letters: a block for each letter, and one for the start symbol.
+// The cells of a block, and those for a path of up to a given number of letters: a block for each letter, and one for the start symbol.
 pub const BLOCK: usize = MAX_ARGUMENTS;
 
 pub const TINY_PATH: usize = 16;

@@ -36,7 +36,7 @@ fn misfit(
     first_misfit(file, index, fit, bindings)
 }
 
-// The tests of the evidence, 10 to 12, for so many lent flags.
+// The tests of the evidence, 10 to 12, for a given number of lent flags.
 fn test_evidence(file: &[u8], index: &[u16], counts: &[u16], flags: usize, fit: &mut Fits) -> Case
     ensures { λ r. ⌜ TestsEvidence (now (file .entry)) (now (index .entry)) (now (counts .entry)) flags r ⌝ }
 {

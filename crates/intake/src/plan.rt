@@ -21,7 +21,7 @@ ghost use Rattle.casefile.specs.Kinds.{Kind, count};
 ghost use Rattle.index.specs.entries.Known.{Known};
 ghost use Rattle.intake.specs.plan.PlanTests.{TestsPlan};
 
-// What the tests of the plan come to.
+// The answer of the tests of the plan.
 pub enum Plan {
     Fine,
     Refused { number: usize, place: usize },

@@ -9,7 +9,7 @@ use lib.ListN.{getD, set}
 use Rattle.scheme.specs.Lists.{if_then_else_}
 use Rattle.scheme.specs.Flags.{bit}
 
--- there is an entry for a node and a goal, where each node has so many
+-- there is an entry for a node and a goal, where each node has as many
 unfoldable pub covered : ℕ → ℕ → ℕ → Bool
 covered width at goal = ltb at 256 && leb width 1040 && ltb goal width
 

@@ -28,7 +28,7 @@ use Rattle.plan_check.specs.Promises.{ofBindings, ofPath, JudgesBindingC
 use Rattle.plan_check.specs.declared.Verdict.{Verdict}
 use Rattle.plan_check.specs.declared.Verdict.the-variants.{Proved, Unproved, Refuted, Refused}
 
--- what comes of bindings, as a verdict
+-- the kept bindings, as a verdict
 pub bindings-proved : (b : Bool) (k t r : ℕ) → b ≡ true → Proved k t r ≡ ofBindings b k t r
 unfolding ofBindings
 bindings-proved b k t r e = sym (ap (λ x. ofBindings x k t r) e)

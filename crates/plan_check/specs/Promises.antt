@@ -10,7 +10,7 @@ use Rattle.binding_cases.specs.Judging.{JudgesBindings}
 use Rattle.plan_check.specs.declared.Verdict.{Verdict}
 use Rattle.plan_check.specs.declared.Verdict.the-variants.{Proved, Unproved, Refuted, Refused}
 
--- the verdict for what comes of bindings: whether they are accepted, how many are kept and were offered, and the rounds
+-- the verdict for the kept bindings: whether they are accepted, how many are kept and were offered, and the rounds
 unfoldable pub ofBindings : Bool → ℕ → ℕ → ℕ → Verdict
 ofBindings accepted k t r = if accepted then Proved k t r else Unproved k t r
 
@@ -19,7 +19,7 @@ unfoldable pub ofPath : Replayed → Verdict
 ofPath (Refuted′ n q c) = Refuted n q c
 ofPath (Refused′ n p) = Refused n p
 
--- v is the verdict for what comes of the bindings of a file, by its tables, and the lent flags became `marks`
+-- v is the verdict on the bindings of a file, by its tables, and the lent flags became `marks`
 pub record JudgesBindingCase (file index counts ends lent marks : List ℕ) (v : Verdict) : Type 0 where
   pub accepted : Bool
   pub kept : ℕ

@@ -19,7 +19,7 @@ fn precedes(a: usize, b: usize, c: usize, d: usize) -> bool
     a < c || (a == c && b < d)
 }
 
-// The code of the payload p of a binding after n bindings, with so many nonterminals and types.
+// The code of the payload p of a binding after n bindings, with a given number of nonterminals and types.
 pub fn test_binding(
     file: &[u8],
     index: &[u16],
@@ -65,7 +65,7 @@ fn wrong_targets(states: usize, arity: usize, p: &[u8]) -> bool
     false
 }
 
-// The code of the payload p of a transition after n transitions, with so many states and constructors.
+// The code of the payload p of a transition after n transitions, with a given number of states and constructors.
 pub fn test_transition(
     file: &[u8],
     index: &[u16],

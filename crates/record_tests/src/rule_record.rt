@@ -70,7 +70,7 @@ fn wrong_cells(p: &[u8], constructors: usize, nonterminals: usize, parameters: u
     false
 }
 
-// The code of the payload p of a rule after n rules, with so many sorts, constructors and nonterminals.
+// The code of the payload p of a rule after n rules, with a given number of sorts, constructors and nonterminals.
 pub fn test_rule(
     file: &[u8],
     index: &[u16],

@@ -24,7 +24,7 @@ pub fn test_constructor(n: usize, p: &[u8]) -> usize
     0
 }
 
-// The code of a nonterminal's payload p after n nonterminals, with so many sorts.
+// The code of a nonterminal's payload p after n nonterminals, with a given number of sorts.
 pub fn test_nonterminal(sorts: usize, n: usize, p: &[u8]) -> usize
     ensures { λ r. ⌜ TestsNonterminal sorts n (now (p .entry)) r ⌝ }
 {

@@ -50,7 +50,7 @@ fn members_ascend(p: &[u8]) -> bool
     true
 }
 
-// The code of a state, a payload p of one byte, after n types and with so many states; 0 also where it repeats a type.
+// The code of a state, a payload p of one byte, after n types and with a given number of states; 0 also where it repeats a type.
 fn state_code(n: usize, states: usize, p: &[u8]) -> usize
     ensures { λ r. ⌜ (length (now (p .entry)) ≡ 1 → CodesAlone n states (now (p .entry)) r) ⌝ }
 {
@@ -91,7 +91,7 @@ fn own_code(n: usize, states: usize, p: &[u8]) -> usize
     0
 }
 
-// The code of the payload p of a type, whose hash is h, after n types, with so many states.
+// The code of the payload p of a type, whose hash is h, after n types, with a given number of states.
 pub fn test_type(file: &[u8], index: &[u16], n: usize, states: usize, h: usize, p: &[u8]) -> usize
     ensures { λ r. ⌜ (h ≡ hashOf (now (p .entry)) → TestsType (now (file .entry)) (now (index .entry)) n states (now (p .entry)) r) ⌝ }
 {

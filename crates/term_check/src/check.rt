@@ -60,7 +60,7 @@ fn nothing() -> HeadNode
     }
 }
 
-// The node with a number, of the body of so many bytes at a place of the file.
+// The node with a number, of the body of a given number of bytes at a place of the file.
 fn node_at(file: &[u8], start: usize, len: usize, at: usize) -> HeadNode
     ensures { λ r. ⌜ IsNode (partOf (now (file .entry)) start len) at r ⌝ }
 {
@@ -97,7 +97,7 @@ fn end_of(ends: &[u16], first: usize, at: usize) -> usize
     place_at(&ends[first..], at)
 }
 
-// What is remembered of an argument of a constructor that has so many nodes, as `known` gives it; nothing of a small one. A
+// What is remembered of an argument of a constructor that has a given number of nodes, as `known` gives it; nothing of a small one. A
 // constructor has one type for a goal, so that its arguments are asked no more than once for each of its goals, and to ask a
 // small one again costs no more than to remember.
 fn known_part(memo: &[u8], types: usize, stamp: usize, at: usize, goal: usize, size: usize) -> usize

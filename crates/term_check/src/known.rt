@@ -5,7 +5,7 @@ use index::layout::MAX_TYPES;
 use memo::known;
 ghost use Rattle.term_check.specs.known.Runs.{RunsTo};
 
-// The first of an arrow's so many members, from one on, that is not remembered to hold of a node; `many` where all are.
+// The first of an arrow's given number of members, from one on, that is not remembered to hold of a node; `many` where all are.
 pub fn known_until(
     file: &[u8],
     index: &[u16],

@@ -16,7 +16,7 @@ pub enum Walked {
     Read,
 }
 
-// What a turn of the walk comes to: the walk is over, or it goes on at next, behind a record of a kind.
+// How a turn of the walk ends: the walk is over, or it goes on at next, behind a record of a kind.
 pub struct Turned {
     pub over: bool,
     pub walked: Walked,

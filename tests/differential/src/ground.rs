@@ -1,4 +1,4 @@
-//! The lines of the scope that say what a file is answered: the ground case E and its kin, and the small inputs of the
+//! The lines of the scope that say what a file is answered: the ground case E and its variants, and the small inputs of the
 //! table of refusals.
 
 use crate::case_file::{CaseFile, Node, TypeRecord, CONSTRUCTOR, NONTERMINAL, PARAMETER};

@@ -11,7 +11,7 @@ use Rattle.casefile.specs.Fields.{byte}
 use Rattle.casefile.specs.Records.{Record}
 use Rattle.goals.specs.goals.Goals.{Goal, Typed}
 
--- a type with k arrows off, where it has so many
+-- a type with k arrows off, where it has that many
 unfoldable pub off : ℕ → Ty → Option Ty
 off zero τ = some τ
 off (suc k) (state q) = none

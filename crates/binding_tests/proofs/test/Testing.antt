@@ -1,14 +1,13 @@
 -- The test of a binding is the check of its nonterminal's body, at the final state of its type.
 use Prim.Native.Nat.{ℕ, zero, suc, _+_, _-_, _*_, _/_, _<_, _≤_}
 use native.Mathlib.Omega.{arith}
-use native.Mathlib.Decide.{decLe}
-use mathlib.Core.Path.{_≡_, refl, sym, ap, ap₂, subst, _∙_}
-use mathlib.Core.Bool.{Bool, true, false}
+use mathlib.Core.Path.{_≡_, sym, ap, ap₂, subst, _∙_}
+use mathlib.Core.Bool.{Bool, false}
 use mathlib.Core.List.{List, [], _∷_, map, append-nil}
 use lib.Dec.{leb}
-use lib.ListN.{length, getD, take, drop, length-map}
+use lib.ListN.{length, getD, drop, length-map}
 use lib.Seq.{getD-drop}
-use Rattle.scheme.specs.Lists.{any, if_then_else_}
+use Rattle.scheme.specs.Lists.{any}
 use Rattle.scheme.specs.Sorts.{o, arguments}
 use Rattle.scheme.specs.Terms.{con, nt, par, node, []ᵗ, nodes}
 use Rattle.scheme.specs.Prefix.{terms, flat}
@@ -28,7 +27,6 @@ use Rattle.casefile.specs.Promises.{Passed, cellAt}
 use Rattle.casefile.proofs.Payloads.{arity-small}
 use Rattle.casefile.proofs.TypeTable.{count-payloads}
 use Rattle.casefile.proofs.Cells.{cells-length, cells-at, cell-range}
-use Rattle.records.specs.cursor.Reading.{partOf}
 use Rattle.index.specs.layout.Layout.{maxStates, maxBindings, rulesAt, bindingsAt, mostNodesAt}
 use Rattle.index.specs.entries.Index.{Indexed}
 use Rattle.index.specs.lookup.Lookup.{entryOf}
@@ -103,7 +101,7 @@ module _ (file index counts groups firsts ends : List ℕ) (kept memo : List ℕ
   unfolding number
   bindings-count rs w = (w .known .entries Kind.binding .counted, w .known .fits Kind.binding)
 
-  -- no file has so many bindings
+  -- no file has that many bindings
   pub binding-far : 1023 < b → TestsBinding file index counts groups firsts ends kept memo stamp b memo false
   binding-far h =
       record {

@@ -1,4 +1,4 @@
--- `arguments_fit` meets its contract: what is left of the arguments leads to what all of them come to.
+-- `arguments_fit` meets its contract: what is left of the arguments leads to the result of all of them.
 use native.Mathlib.Omega.{arith}
 use Rattle.bodies.proofs.Loop.{Leads, leads-start, leads-end, leads-short, leads-misfit, leads-next, first-deep}
 use borrow.Author.Needs.{needs}

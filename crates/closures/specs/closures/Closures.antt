@@ -23,7 +23,7 @@ placeIn v = v / nodeUnits % placeUnits
 abbrev pub sizeIn : ℕ → ℕ
 sizeIn v = v % nodeUnits
 
--- the cell of the first of so many closures in a block of eight cells: they are the last of it
+-- the cell of the first of a given number of closures in a block of eight cells: they are the last of it
 abbrev pub slotOf : ℕ → ℕ → ℕ
 slotOf block count = block * 8 + 8 - count
 

@@ -33,16 +33,16 @@ pub record TypeThere (file index : List ℕ) (t place len : ℕ) : Type 0 where
   pub place-is : place ≡ getD index (typesAt + t) 0
   pub len-is : len ≡ word file (place - 4)
 
--- the entries of a table for so many sorts are no more than 64
+-- the entries of a table for a given number of sorts are no more than 64
 abbrev pub Small : ℕ → List ℕ → Type 0
 Small sorts table = (s : ℕ) → 0 < s → s ≤ sorts → getD table s 0 ≤ 64
 
--- entry s of a table is the number at byte `at` of the payload of sort s, of so many listed sorts, where it is a sort's
+-- entry s of a table is the number at byte `at` of the payload of sort s, of a given number of listed sorts, where it is a sort's
 abbrev pub SortWords : List ℕ → List ℕ → ℕ → ℕ → List ℕ → Type 0
 SortWords file index at sorts table =
     (s : ℕ) → 0 < s → s ≤ sorts → word file (getD index (s - 1) 0 + at) ≤ 64 → getD table s 0 ≡ word file (getD index (s - 1) 0 + at)
 
--- the flags of type t for so many sorts are written, and no flag before them changed
+-- the flags of type t for a given number of sorts are written, and no flag before them changed
 pub record Wrote (sorts t : ℕ) (x : ℕ → ℕ) (old fit : List ℕ) : Type 0 where
   pub flags : (s : ℕ) → 0 < s → s ≤ sorts → flag fit t s ≡ x s
   pub before : (i : ℕ) → i ≤ t * 65 → getD fit i 0 ≡ getD old i 0

@@ -32,7 +32,7 @@ pub record Offered (file index fit : List ℕ) (bindings nonterminals types sort
   pub sorts-named : (f : ℕ) → f < nonterminals → word (getD (payloads nonterminal rs) f []) 0 ≤ sorts
   pub table : Fitted fit types sorts rs
 
--- r is the number of the first of so many bindings that does not fit, or the number of bindings where all fit
+-- r is the number of the first of a given number of bindings that does not fit, or the number of bindings where all fit
 pub record FirstMisfit (rs : List Record) (bindings r : ℕ) : Type 0 where
   pub within : r ≤ bindings
   pub fit-before : (i : ℕ) → i < r → bindingFits rs (getD (payloads binding rs) i []) ≡ true

@@ -27,18 +27,18 @@ pub record Given (file index : List ℕ) (n constructors : ℕ) (rs : List Recor
   pub few : constructors ≤ maxConstructors
   pub small : (c : ℕ) → arityIn rs c ≤ 4
 
--- r is the final state of a goal as the type of constructor c with so many arguments, 16 or more where the goal has none
+-- r is the final state of a goal as the type of constructor c with a given number of arguments, 16 or more where the goal has none
 pub record EndsIn (file index : List ℕ) (n constructors c count goal r : ℕ) : Type 0 where
   pub ends : (rs : List Record) → Given file index n constructors rs → (σ : Ty) → Goal rs n goal σ → r < 16 → (count ≤ arityIn rs c) × (off (arityIn rs c - count) σ ≡ some (state r))
   pub only : (rs : List Record) → Given file index n constructors rs → (σ : Ty) → Goal rs n goal σ → (q : ℕ) → q < 16 → count ≤ arityIn rs c → off (arityIn rs c - count) σ ≡ some (state q) → r ≡ q
 
--- the type of constructor c that is σ with so many arrows off: there is none where the place is 0, else it is that of the
+-- the type of constructor c that is σ with a given number of arrows off: there is none where the place is 0, else it is that of the
 -- transition whose payload lies at the place
 pub record Leads (file : List ℕ) (rs : List Record) (c count : ℕ) (σ : Ty) (place : ℕ) : Type 0 where
   pub absent : place ≡ 0 → (q : ℕ) (qs : List ℕ) → targetsAt (transitionsOf rs) q c ≡ some qs → off count (takes qs q) ≡ some σ → ⊥
   pub there : (place ≡ 0 → ⊥) → (q : ℕ) × (targetsAt (transitionsOf rs) q c ≡ some (take (arityIn rs c) (fourAt file place))) × (off count (takes (take (arityIn rs c) (fourAt file place)) q) ≡ some σ)
 
--- r is the place of the transition whose targets give the goal for constructor c with so many arguments, 0 where there is none
+-- r is the place of the transition whose targets give the goal for constructor c with a given number of arguments, 0 where there is none
 pub record LeadsFrom (file index : List ℕ) (n constructors c count goal r : ℕ) : Type 0 where
   pub leads : (rs : List Record) → Given file index n constructors rs → RowsFor file index rs → length (payloads Kind.states rs) ≤ 1 → (σ : Ty) → Goal rs n goal σ → Leads file rs c count σ r
   pub bound : r < 65536

@@ -29,18 +29,18 @@ Fitting k n rs = (i : ℕ) → i < n → wrongLength k (length (getD (payloads k
 abbrev pub Tests : Kind → ℕ → List ℕ → ℕ → Type 0
 Tests k n p r = (rs : List Record) → count k rs ≡ n → r ≡ codeFor rs p k
 
--- a nonterminal after n others, with so many sorts
+-- a nonterminal after n others, with a given number of sorts
 abbrev pub TestsNonterminal : ℕ → ℕ → List ℕ → ℕ → Type 0
 TestsNonterminal sorts n p r = (rs : List Record) → count nonterminal rs ≡ n → length (sortsOf rs) ≡ sorts → r ≡ codeFor rs p nonterminal
 
 module _ (file index : List ℕ) (n : ℕ) where
-  -- a binding after n others that the index has, with so many nonterminals and types
+  -- a binding after n others that the index has, with a given number of nonterminals and types
   abbrev pub TestsBinding : ℕ → ℕ → List ℕ → ℕ → Type 0
   TestsBinding nonterminals types p r =
       (rs : List Record) → Indexed file index binding n rs → Fitting binding n rs
       → count nonterminal rs ≡ nonterminals → count type rs ≡ types → r ≡ codeFor rs p binding
 
-  -- a transition after n others that the index has, with so many states, and constructors that the index has
+  -- a transition after n others that the index has, with a given number of states, and constructors that the index has
   abbrev pub TestsTransition : ℕ → ℕ → List ℕ → ℕ → Type 0
   TestsTransition states constructors p r =
       (rs : List Record) → Indexed file index transition n rs → Fitting transition n rs
@@ -56,7 +56,7 @@ module _ (file index : List ℕ) where
   abbrev pub TestsSort : List ℕ → ℕ → List ℕ → ℕ → Type 0
   TestsSort lens n p r = (rs : List Record) → Indexed file index sort n rs → SortLens lens n rs → r ≡ codeFor rs p sort
 
-  -- a rule after n others, with so many sorts, constructors and nonterminals
+  -- a rule after n others, with a given number of sorts, constructors and nonterminals
   abbrev pub TestsRule : List ℕ → ℕ → ℕ → ℕ → ℕ → List ℕ → ℕ → Type 0
   TestsRule lens n sorts constructors nonterminals p r =
       (rs : List Record) → count rule rs ≡ n → SortLens lens sorts rs → count constructor rs ≡ constructors
@@ -64,6 +64,6 @@ module _ (file index : List ℕ) where
       → ((i : ℕ) → i < nonterminals → word (getD (payloads nonterminal rs) i []) 0 < suc sorts)
       → r ≡ codeFor rs p rule
 
-  -- a type after n others, which are chained, with so many states
+  -- a type after n others, which are chained, with a given number of states
   abbrev pub TestsType : ℕ → ℕ → List ℕ → ℕ → Type 0
   TestsType n states p r = (rs : List Record) → Indexed file index type n rs → stateCount rs ≡ states → Chained index (payloads type rs) n → r ≡ codeFor rs p type

@@ -18,7 +18,7 @@ use Rattle.intake.specs.declared.evidence.Case.{Case}
 use Rattle.intake.specs.declared.evidence.Case.the-variants.{Refused, Bindings, Path}
 use Rattle.intake.specs.plan.PlanTests.{PlanFine, EndsAre}
 
--- what the tests over the whole file come to, 8 to 12, for records that all passed
+-- the answer of the tests over the whole file, 8 to 12, for records that all passed
 unfoldable pub WholeEnds : List Record → ℕ → Case → Type 0
 WholeEnds rs flags (Refused n p) = refuseWhole rs flags ≡ some (record { number = n; place = p })
 WholeEnds rs flags Bindings = (refuseWhole rs flags ≡ none) × (payloads Kind.path rs ≡ [])
@@ -34,7 +34,7 @@ FindsFirst file index types sorts bindings r =
     (rs : List Record) → Passed rs → Indexed file index Kind.type types rs → Indexed file index Kind.sort sorts rs → Indexed file index Kind.binding bindings rs
     → (n : ℕ) → Indexed file index Kind.nonterminal n rs → types ≤ maxTypes → sorts ≤ maxSorts → bindings ≤ maxBindings → FirstMisfit rs bindings r
 
--- what the tests over the whole file come to, and the table of ends where none is met
+-- the answer of the tests over the whole file, and the table of ends where none is met
 pub record WholeTested (rs : List Record) (flags : ℕ) (ends : List ℕ) (r : Case) : Type 0 where
   pub verdict : WholeEnds rs flags r
   pub ends-are : refuseWhole rs flags ≡ none → EndsAre rs ends

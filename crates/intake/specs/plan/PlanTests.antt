@@ -23,7 +23,7 @@ pub record PlanFine (rs : List Record) : Type 0 where
   pub start-right : first (wrongStart (ofKind Kind.nonterminal rs)) ≡ none
   pub bodies-right : first (wrongBodies (aritiesOf rs) (signaturesOf rs) (signaturesOf rs) (ofKind Kind.rule rs)) ≡ none
 
--- what the tests of the plan come to, for any number of flags
+-- the answer of the tests of the plan, for any number of flags
 unfoldable pub PlanEnds : List Record → Plan → Type 0
 PlanEnds rs Fine = PlanFine rs
 PlanEnds rs (Wrong n p) = (flags : ℕ) → refuseWhole rs flags ≡ some (record { number = n; place = p })
@@ -32,7 +32,7 @@ PlanEnds rs (Wrong n p) = (flags : ℕ) → refuseWhole rs flags ≡ some (recor
 abbrev pub EndsAre : List Record → List ℕ → Type 0
 EndsAre rs ends = (f i : ℕ) → f < count Kind.rule rs → i < length (ruleOf rs f) / 4 → getD ends (firstNode rs f + i) 0 ≡ endAt rs f i
 
--- what the tests of the plan come to, and the table of ends where they are not met
+-- the answer of the tests of the plan, and the table of ends where they are not met
 pub record PlanTested (rs : List Record) (ends : List ℕ) (r : Plan) : Type 0 where
   pub verdict : PlanEnds rs r
   pub ends-are : r ≡ Fine → EndsAre rs ends

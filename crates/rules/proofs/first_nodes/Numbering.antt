@@ -44,7 +44,7 @@ module _ {file index : List ℕ} {f : ℕ} where
       pub nodes-counted : len ≤ maxBody → CountsNodes file index f (len / 4)
       nodes-counted x = record { few = omega arith; nodes = λ rules rs ok ix l h. ap (λ n. n / 4) (length-is rules rs ix h) }
 
--- while the table is filled: the entries below f are in it, and the rules below f have so many nodes, none more than `most`
+-- while the table is filled: the entries below f are in it, and the rules below f have the counted number of nodes, none more than `most`
 pub record Sofar (file index : List ℕ) (rules : ℕ) (before after : List ℕ) (at most f : ℕ) : Type 0 where
   pub few : rules ≤ maxNonterminals
   pub room : rowsSize ≤ length after

@@ -86,7 +86,7 @@ pub finds : (file index : List ℕ) (sorts constructors nonterminals rules : ℕ
 finds file index sorts constructors nonterminals rules z₁ z₂ z₃ z₄ froms tos trees arities signatures before after r l₁ l₂ l₃ l₄ a b c d codes answer rs fi room =
     refusal fi after r (answer rs (judged fi z₁ z₂ z₃ z₄ froms tos trees arities signatures l₁ l₂ l₃ l₄ a b c d codes) room)
 
--- no file has so many records
+-- no file has that many records
 pub finds-not : (file index : List ℕ) (sorts constructors nonterminals rules : ℕ) (before after : List ℕ) (r : ℕ)
     → (sorts ≤ maxSorts → constructors ≤ maxConstructors → nonterminals ≤ maxNonterminals → rules ≤ nonterminals → ⊥) → FindsWrongBody file index sorts constructors nonterminals rules before after r
 finds-not file index sorts constructors nonterminals rules before after r z rs fi room = absurd (z (fi .few-sorts) (fi .few-constructors) (fi .few-nonterminals) (fi .few-rules))

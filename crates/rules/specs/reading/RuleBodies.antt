@@ -17,7 +17,7 @@ use Rattle.index.specs.layout.Layout.{maxNonterminals, maxBody}
 use Rattle.index.specs.entries.Index.{Indexed}
 use Rattle.bodies.specs.Bodies.{BodyTables}
 
--- the nodes of so many bodies, four bytes a node
+-- the nodes of a given number of bodies, four bytes a node
 unfoldable pub nodesIn : List (List ℕ) → ℕ
 nodesIn [] = 0
 nodesIn (p ∷ ps) = length p / 4 + nodesIn ps
@@ -42,7 +42,7 @@ wrongAt rs f = wrongBody (aritiesOf rs) (signaturesOf rs) (getD (signaturesOf rs
 abbrev pub endAt : List Record → ℕ → ℕ → ℕ
 endAt rs f i = i + nodes (firstTerm (terms (drop i (nodesOf (ruleOf rs f)))))
 
--- the arrays hold what the bodies of so many rules are judged by, and the index has the rules
+-- the arrays hold what the bodies of a given number of rules are judged by, and the index has the rules
 pub record Judged (file index froms tos trees arities signatures : List ℕ) (rules : ℕ) (rs : List Record) : Type 0 where
   pub there : Indexed file index rule rules rs
   pub few : rules ≤ maxNonterminals

@@ -45,7 +45,7 @@ pub record Filed (file index : List ℕ) (sorts constructors nonterminals rules 
   pub few-nonterminals : nonterminals ≤ maxNonterminals
   pub few-rules : rules ≤ nonterminals
 
--- r says which of so many rules is refused by 9, the number of rules where none is; then `ends` has the end of each subterm of each rule
+-- r says which of a given number of rules is refused by 9, the number of rules where none is; then `ends` has the end of each subterm of each rule
 pub record BodiesRead (rs : List Record) (rules : ℕ) (ends : List ℕ) (r : ℕ) : Type 0 where
   pub within : r ≤ rules
   pub none-refused : r ≡ rules → first (wrongBodies (aritiesOf rs) (signaturesOf rs) (signaturesOf rs) (ofKind rule rs)) ≡ none

@@ -131,7 +131,7 @@ module _ (x : Body) where
             record { others = ts; type = σ; there = al; many = omega arith; asks = t; arrows = (let z : count - 0 ≡ count = omega arith in ap (λ k. off k σ) z ∙ o); answer = args-whole (hasIn x rs τ) ts σ };
       }
 
-  -- no file has so many types
+  -- no file has that many types
   pub args-many : (memo : List ℕ) (first count : ℕ) (byRow : Bool) (head : ℕ) (row : List ℕ) → 1024 < n → ChecksArgs x memo first count byRow head row memo false
   args-many memo first count byRow head row h = record { keeps = keeps-all x memo; answer = λ rs τ s r ts al c σ ρ t o. absurd (let f = s .given .typed .few in omega arith) }
 

@@ -52,7 +52,7 @@ noted-length memo width stamp i goal b last (inr e) = learnt-length memo width s
 
 -- What is remembered.
 module _ (x : Body) (memo : List ℕ) (i goal : ℕ) where
-  -- no file has so many types
+  -- no file has that many types
   pub types-many : 1024 < x .test .types → ChecksTerm x memo i goal memo false
   types-many h = record { keeps = keeps-all x memo; answer = λ rs τ s r t a σ g. absurd (let f = s .given .typed .few in omega arith) }
 

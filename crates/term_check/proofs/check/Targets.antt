@@ -12,7 +12,7 @@ use Rattle.term_check.proofs.check.Arguments.{Args, args-past, args-stu
 
 module _ (x : Body) {memo₀ : List ℕ} {first count : ℕ} {row memo : List ℕ} {at k : ℕ} (w : Args x memo₀ first count true 0 row memo at k 0 0) (h : k < count) where
   module _ (target : ℕ) (is : IsTargetGoal (x .test .types) row k target) where
-    -- no file has so many types
+    -- no file has that many types
     pub target-past : target ≡ 65535 → ChecksArgs x memo₀ first count true 0 row memo false
     target-past e = args-past x w h (λ rs ty a τ t. let m = is .past e in omega (arith, ty .few))
 

@@ -20,7 +20,7 @@ module _ {file index memo : List ℕ} {n stamp at head many from : ℕ} where
   pub run-start : Run file index memo n stamp at head many from from
   run-start = record { onward = omega arith; within = λ h. h; held = λ k a b. absurd (omega arith) }
 
-  -- no file has so many types
+  -- no file has that many types
   pub run-many : 1024 < n → RunsTo file index memo n stamp at head many from from
   run-many h = record { onward = omega arith; within = λ l. l; held = λ k a b. absurd (omega arith); stops = λ l. absurd (omega arith) }
 

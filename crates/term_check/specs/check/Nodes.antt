@@ -9,7 +9,7 @@ use Rattle.casefile.specs.Fields.{field}
 use Rattle.records.specs.cursor.Reading.{partOf}
 use Rattle.term_check.specs.declared.check.HeadNode.{HeadNode}
 
--- a node has this tag, this number and so many arguments, and its first argument would be the node behind it
+-- a node has this tag, this number and this many arguments, and its first argument would be the node behind it
 pub record Placed (body : List ℕ) (i : ℕ) (a : HeadNode) : Type 0 where
   pub inside : i < length body / 4
   pub tag-is : a .tag ≡ field 1 body (i * 4)
@@ -34,7 +34,7 @@ pub record Test : Type 0 where
 abbrev pub testBy : List ℕ → Test
 testBy numbers = record { types = getD numbers 0 0; constructors = getD numbers 1 0; own = getD numbers 2 0; stamp = getD numbers 3 0 }
 
--- the body that is tested: so many bytes of the file from a place on
+-- the body that is tested: a given number of bytes of the file from a place on
 abbrev pub bodyBy : List ℕ → List ℕ → List ℕ
 bodyBy file numbers = partOf file (getD numbers 4 0) (getD numbers 5 0)
 

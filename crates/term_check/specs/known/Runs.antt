@@ -8,7 +8,7 @@ use Rattle.goals.specs.goals.Goals.{CountsMembers}
 use Rattle.arrows.specs.argument_goals.Wants.{Wants}
 use Rattle.memo.specs.Memo.{recalled}
 
--- what is remembered of member j of an arrow of so many members, for a node: 2 where it holds
+-- what is remembered of member j of an arrow of a given number of members, for a node: 2 where it holds
 pub record Recalls (file index memo : List ℕ) (n stamp at head many j r : ℕ) : Type 0 where
   pub goal : ℕ
   pub wants : CountsMembers file index n head many → (row : List ℕ) (i : ℕ) → Wants file index n false head row i j goal

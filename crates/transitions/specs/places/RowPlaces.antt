@@ -23,7 +23,7 @@ rowBase = placesAt
 abbrev pub placeIn : List ℕ → ℕ → ℕ → ℕ
 placeIn index q c = getD index (rowBase + (q * maxConstructors + c)) 0
 
--- the targets of a transition of so many arguments whose payload lies at a place; none at place 0
+-- the targets of a transition of a given number of arguments whose payload lies at a place; none at place 0
 unfoldable pub targetsFrom : List ℕ → ℕ → ℕ → Option (List ℕ)
 targetsFrom file arity place = if eqb place 0 then none else some (take arity (fourAt file place))
 

@@ -12,7 +12,7 @@ use Rattle.index.specs.layout.Layout.{maxConstructors}
 use Rattle.index.specs.entries.Index.{Indexed}
 use Rattle.transitions.specs.table.Moves.{targetsIn, TableFor}
 
--- r is the row of a table for a state and a constructor, of so many constructors: the targets of the definitions
+-- r is the row of a table for a state and a constructor, of a given number of constructors: the targets of the definitions
 pub record IsRow (table : List (List (List ℕ))) (constructors q c : ℕ) (r : List ℕ) : Type 0 where
   pub targets : (rs : List Record) → Passed rs → TableFor rs table → length (aritiesOf rs) ≡ constructors → constructors ≤ maxConstructors → targetsIn (getD (aritiesOf rs) c 0) r ≡ targetsAt (transitionsOf rs) q c
   pub four : (rs : List Record) → TableFor rs table → length r ≡ 4

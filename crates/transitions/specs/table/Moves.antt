@@ -29,7 +29,7 @@ unfoldable pub rowFor : List (List ℕ) → ℕ → ℕ → List ℕ
 rowFor [] q c = 255 ∷ 255 ∷ 255 ∷ 255 ∷ []
 rowFor (p ∷ ps) q c = let others = rowFor ps q c in if eqb (byte p 0) q && eqb (byte p 1) c then fourAt p 0 else others
 
--- a row as the targets of a constructor of so many arguments
+-- a row as the targets of a constructor of a given number of arguments
 unfoldable pub targetsIn : ℕ → List ℕ → Option (List ℕ)
 targetsIn arity row = if eqb (getD row 0 0) 255 then none else some (take arity row)
 

@@ -1,4 +1,4 @@
--- The walk under way: how it starts, what a record does to it, how it ends, and what a turn comes to.
+-- The walk under way: how it starts, what a record does to it, how it ends, and how a turn ends.
 use Prim.Native.Nat.{ℕ, zero, suc, _+_, _-_, _<_, _≤_, _^_}
 use native.Mathlib.Omega.{arith}
 use native.Mathlib.Nat.{zero-add}
@@ -395,7 +395,7 @@ module _ {file index lens counts : List ℕ} {at last : ℕ} (w : Walking file i
             counts-long = ap length counts-is ∙ length-set counts (number k) (n + 1) ∙ w .counts-long;
           }
 
--- What a turn comes to, from what its functions promise.
+-- How a turn ends, from what its functions promise.
 module _ {file index lens counts : List ℕ} {last : ℕ} where
   -- the walk is over
   over-at : (g : Rattle.records.specs.declared.cursor.Read.Read) (p index′ lens′ counts′ : List ℕ) (t : Turned) (w : Walked) → t ≡ ended w

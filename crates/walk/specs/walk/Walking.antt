@@ -1,10 +1,10 @@
 -- What our own crates promise each other; nothing here has to be believed.
--- The walk over a file, and what it comes to.
+-- The walk over a file, and how it ends.
 use Prim.Native.Nat.{ℕ, _+_, _-_, _<_, _≤_}
 use mathlib.Core.Path.{_≡_}
 use mathlib.Core.Bool.{Bool, true, false}
 use mathlib.Core.List.{List, [], _++_}
-use lib.ListN.{length, getD}
+use lib.ListN.{length}
 use Rattle.casefile.specs.Records.{Record, walk, recordsOf, listed}
 use Rattle.records.specs.cursor.Reading.{readAt}
 use Rattle.records.specs.reader.Parts.{payloadOf}
@@ -59,7 +59,7 @@ pub record GoesOn (file index lens counts index′ lens′ counts′ : List ℕ)
   pub less : length file - next < length file - at
   pub walking : length file ≤ maxFile → Walking file index lens counts at last → Walking file index′ lens′ counts′ next kind
 
--- what one turn comes to at a place: the end of the walk, or that it goes on
+-- how one turn ends at a place: the end of the walk, or that it goes on
 abbrev pub endsOr : Bool → Type 0 → Type 0 → Type 0
 endsOr true a b = a
 endsOr false a b = b

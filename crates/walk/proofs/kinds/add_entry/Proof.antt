@@ -1,5 +1,4 @@
 -- `add_entry` meets its contract.
-use mathlib.Core.Path.{refl, sym}
 use Rattle.walk.proofs.kinds.Taking.{nothing-added, one-added}
 use borrow.Author.Needs.{needs}
 use Rattle.walk.proofs.kinds.add_entry.Statement.{statement}
