@@ -4,7 +4,7 @@ use mathlib.Core.List.{map}
 use lib.ListN.{length}
 use Rattle.scheme.specs.Lists.{found, any, all, keepIf, select, lastOr}
 use Rattle.scheme.specs.Sorts.{sameSort, arguments, treeSort}
-use Rattle.scheme.specs.Terms.{countᵗ, termAt, nodes, applied, put}
+use Rattle.scheme.specs.Terms.{_++ᵗ_, countᵗ, termAt, nodes, applied, put}
 use Rattle.scheme.specs.Prefix.{takeᵗ, dropᵗ, terms, complete, depth}
 use Rattle.scheme.specs.Sorting.{headSort, sortOf}
 use Rattle.scheme.specs.Reduction.{body}
