@@ -61,6 +61,13 @@ fn fill(
     }
 }
 
+// Stores the first fields of n payloads, those of the entries of the index from `from` on.
+fn fill_column(file: &[u8], index: &[u16], width: usize, from: usize, n: usize, table: &mut [u16])
+    ensures { λ _. ⌜ Filled width (now (file .entry)) (now (index .entry)) from 0 n 0 (now (table .entry)) (now (table .exit)) ⌝ }
+{
+    fill(file, index, width, from, 0, n, 0, table);
+}
+
 // Are the counts within the limits of their kinds, and is there a nonterminal for each rule?
 fn within_limits(sorts: usize, constructors: usize, nonterminals: usize, rules: usize) -> bool
     ensures { λ r. ⌜ WithinLimits sorts constructors nonterminals rules r ⌝ }
@@ -101,24 +108,13 @@ pub fn first_wrong_body(
     let mut signatures = [0u16; MAX_NONTERMINALS];
     fill(file, index, 2, SORTS_AT, 0, sorts, 1, &mut froms);
     fill(file, index, 2, SORTS_AT, 2, sorts, 1, &mut tos);
-    fill(
-        file,
-        index,
-        1,
-        CONSTRUCTORS_AT,
-        0,
-        constructors,
-        0,
-        &mut arities,
-    );
-    fill(
+    fill_column(file, index, 1, CONSTRUCTORS_AT, constructors, &mut arities);
+    fill_column(
         file,
         index,
         2,
         NONTERMINALS_AT,
-        0,
         nonterminals,
-        0,
         &mut signatures,
     );
     let trees = tree_codes(&froms, &tos, sorts + 1);

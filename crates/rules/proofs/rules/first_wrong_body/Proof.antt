@@ -24,17 +24,17 @@ slice-aggregate-fill-2 c = search needs
 fill-requires-2 : tie.Need-fill-requires-2
 fill-requires-2 c κs = search needs
 
-slice-aggregate-fill-3 : tie.Need-slice-aggregate-fill-3
-slice-aggregate-fill-3 c = search needs
+slice-aggregate-fill-column : tie.Need-slice-aggregate-fill-column
+slice-aggregate-fill-column c = search needs
 
-fill-requires-3 : tie.Need-fill-requires-3
-fill-requires-3 c κs = search needs
+fill-column-requires : tie.Need-fill-column-requires
+fill-column-requires c κs = search needs
 
-slice-aggregate-fill-4 : tie.Need-slice-aggregate-fill-4
-slice-aggregate-fill-4 c = search needs
+slice-aggregate-fill-column-2 : tie.Need-slice-aggregate-fill-column-2
+slice-aggregate-fill-column-2 c = search needs
 
-fill-requires-4 : tie.Need-fill-requires-4
-fill-requires-4 c κs = search needs
+fill-column-requires-2 : tie.Need-fill-column-requires-2
+fill-column-requires-2 c κs = search needs
 
 slice-aggregate-tree-codes : tie.Need-slice-aggregate-tree-codes
 slice-aggregate-tree-codes c = search needs
@@ -76,7 +76,7 @@ returns-2 c =
     let t = c .before .before .before .before .before .before .before .before .before .before .before in
     let q = t .before .before .before .before .before .before .before .before .before .before .before .before .before in
     finds _ _ _ _ _ _ _ _ _ _ _ _ _ _ _ (q .before .before .before .before .before .before .before .args .ends .now) _ _ (search needs) (search needs) (search needs) (search needs)
-    (q .fill .ensures) (t .before .before .before .before .before .before .before .before .before .before .fill2 .ensures) (t .before .before .before .before .before .before .before .fill3 .ensures) (t .before .before .before .before .fill4 .ensures) (t .tree-codes .ensures) (c .before .before .read-rules .ensures)
+    (q .fill .ensures) (t .before .before .before .before .before .before .before .before .before .before .fill2 .ensures) (t .before .before .before .before .before .before .before .fill-column .ensures) (t .before .before .before .before .fill-column2 .ensures) (t .tree-codes .ensures) (c .before .before .read-rules .ensures)
 
 pub first-wrong-body-spec : {M : Type 1} → statement M
 first-wrong-body-spec =
@@ -88,10 +88,10 @@ first-wrong-body-spec =
     fill-requires
     slice-aggregate-fill-2
     fill-requires-2
-    slice-aggregate-fill-3
-    fill-requires-3
-    slice-aggregate-fill-4
-    fill-requires-4
+    slice-aggregate-fill-column
+    fill-column-requires
+    slice-aggregate-fill-column-2
+    fill-column-requires-2
     slice-aggregate-tree-codes
     slice-aggregate-tree-codes-2
     add-tree-codes
