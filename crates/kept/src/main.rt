@@ -1,7 +1,6 @@
 // Reads a case file from standard input and prints the line of its verdict. For a binding case it then prints a line for
 // each binding, in file order: `binding 0 nonterminal 0 type 0 kept`, or `dropped` at the end.
 use index::layout::BINDING;
-use index::layout::HEADER;
 use index::layout::MAX_BINDINGS;
 use index::layout::MAX_FILE;
 use libc::STDOUT_FILENO;
@@ -9,6 +8,7 @@ use plan_check::Verdict;
 use records::cursor::Cursor;
 use records::cursor::Read;
 use records::cursor::payload;
+use records::fields::HEADER;
 use records::fields::word_at;
 
 // No file that is not refused has more records.
