@@ -42,7 +42,7 @@ impl Types {
         sets.iter().rev().fold(result, |result, set| self.arrow(set.as_ref().iter().copied(), result))
     }
 
-    /// The member sets of the first `count` arrows and what is left, if there are so many.
+    /// The member sets of the first `count` arrows and what is left, if there are that many.
     fn taken_apart(&self, ty: usize, count: usize) -> Option<(Vec<Vec<usize>>, usize)> {
         let mut sets = Vec::new();
         let mut rest = ty;
@@ -61,7 +61,7 @@ const MOST_MEMBERS: usize = 16;
 const MOST_TYPES: usize = 1_024;
 const MOST_BINDINGS: usize = 1_024;
 
-/// What a search wants of a nonterminal with so many arguments: the goal, and the members asked of the arguments so far.
+/// What a search wants of a nonterminal that is applied to some arguments: the goal, and the members asked of the arguments so far.
 struct Wanted {
     nonterminal: usize,
     applied: usize,
@@ -132,7 +132,7 @@ impl<'a> Search<'a> {
         self.random.choose(sets).cloned().unwrap_or_default()
     }
 
-    /// Wants a goal of a nonterminal with so many arguments, and gives the number of the wish.
+    /// Wants a goal of a nonterminal with `applied` arguments, and gives the number of the wish.
     fn want(&mut self, nonterminal: usize, applied: usize, goal: usize) -> Option<usize> {
         let key = (nonterminal, applied, goal);
         if let Some(&known) = self.known.get(&key) {
