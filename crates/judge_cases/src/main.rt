@@ -9,6 +9,8 @@ use plan_check::Verdict;
 use test_files::FLAGS;
 use test_files::fresh_flags;
 use test_files::judge_lent;
+use test_files::same;
+use test_files::same_bytes;
 use test_files::untouched;
 use test_files::written;
 
@@ -17,35 +19,6 @@ const SHOWN: usize = 64;
 
 // What ends the name of a case file: `.case`.
 const ENDING: usize = 5;
-
-// Whether two byte strings are equal.
-fn same_bytes(a: &[u8], b: &[u8]) -> bool {
-    if a.len() != b.len() {
-        return false;
-    }
-    let mut i: usize = 0;
-    while i < a.len() && i < b.len() {
-        if a[i] != b[i] {
-            return false;
-        }
-        i = i + 1;
-    }
-    true
-}
-
-// Whether two lines are equal.
-fn same_lines(a: &[u8; 128], b: &[u8; 128]) -> bool {
-    same_bytes(a, b)
-}
-
-// Whether two verdicts are the same: they have the same line.
-fn same(a: Verdict, b: Verdict) -> bool {
-    let mut first = [0u8; 128];
-    let mut second = [0u8; 128];
-    verdict_lines::put_verdict(&mut first, a);
-    verdict_lines::put_verdict(&mut second, b);
-    same_lines(&first, &second)
-}
 
 // Whether each of the first n flags is 0 or 1.
 fn are_flags(flags: &[u8], n: usize) -> bool {

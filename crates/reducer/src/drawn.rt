@@ -49,7 +49,7 @@ fn stray(seed: usize) -> usize {
     }
 }
 
-// The next letter where there is a given number of ways to go on (`crate::ways`), or 256 to end the path.
+// The next letter where there are `ways` ways to go on (`crate::ways`), or 256 to end the path.
 fn letter(ways: usize, rate: usize, seed: usize) -> usize {
     let more = turn(seed);
     if 0 < rate && below(seed, rate) == 0 {

@@ -174,7 +174,7 @@ fn link_node(file: &[u8], at: usize, cells: &mut [u16], cell: usize, right: usiz
     set_cell(cells, cell, tag, number, right, rest);
 }
 
-// Makes the cells of a body of a given number of nodes, from the last node to the first, which gets the given cell.
+// Makes the cells of a body of `nodes` nodes, from the last node to the first, which gets the given cell.
 fn link(file: &[u8], at: usize, nodes: usize, cells: &mut [u16], cell: usize) {
     if 60000 < at {
         return;
@@ -491,7 +491,7 @@ pub fn ways(file: &[u8], plan: Plan, cells: &[u16], spot: Spot) -> usize
     4
 }
 
-// How a path of a given number of letters ends at a spot that no letter ended.
+// How a path of `letters` letters ends at a spot that no letter ended.
 fn finish(file: &[u8], plan: Plan, cells: &[u16], spot: Spot, letters: usize) -> Outcome {
     let term = spot.term;
     let constructor = field(cells, term, NUMBER);

@@ -20,36 +20,31 @@ struct Done {
     compared: usize,
 }
 
-// Whether a verdict is one of a binding case.
-fn of_bindings(verdict: Verdict) -> bool {
+fn say_answer(verdict: Verdict) {
     match verdict {
         Verdict::Proved {
             kept: _,
             total: _,
             rounds: _,
-        } => true,
+        } => {
+            io::write_all(STDOUT_FILENO, b"bindings");
+        }
         Verdict::Unproved {
             kept: _,
             total: _,
             rounds: _,
-        } => true,
+        } => {
+            io::write_all(STDOUT_FILENO, b"bindings");
+        }
         Verdict::Refuted {
             letters: _,
             state: _,
             constructor: _,
-        } => false,
+        } => verdict_lines::write_verdict(STDOUT_FILENO, verdict),
         Verdict::Refused {
             number: _,
             place: _,
-        } => false,
-    }
-}
-
-fn say_answer(verdict: Verdict) {
-    if of_bindings(verdict) {
-        io::write_all(STDOUT_FILENO, b"bindings");
-    } else {
-        verdict_lines::write_verdict(STDOUT_FILENO, verdict);
+        } => verdict_lines::write_verdict(STDOUT_FILENO, verdict),
     }
 }
 
@@ -97,32 +92,6 @@ fn replayed(verdict: Verdict) -> bool {
     }
 }
 
-fn same(verdict: Verdict, outcome: Outcome) -> bool {
-    match verdict {
-        Verdict::Proved {
-            kept: _,
-            total: _,
-            rounds: _,
-        } => false,
-        Verdict::Unproved {
-            kept: _,
-            total: _,
-            rounds: _,
-        } => false,
-        Verdict::Refuted {
-            letters,
-            state,
-            constructor,
-        } => {
-            outcome.number == 0
-                && outcome.place == letters
-                && outcome.state == state
-                && outcome.constructor == constructor
-        }
-        Verdict::Refused { number, place } => outcome.number == number && outcome.place == place,
-    }
-}
-
 // Prints the letters of a path.
 fn say_letters(file: &[u8], path: usize) {
     let n = reducer::word(file, path, 0);
@@ -166,7 +135,7 @@ fn answer_of(file: &[u8], lent: usize) -> Verdict {
 // Compares the library's answer with the reducer's on case k of a plan, whose path stands at an offset.
 fn compare(name: &[u8], file: &[u8], path: usize, k: usize, answer: Verdict, cells: &mut [u16]) {
     let outcome = reducer::replay(file, cells);
-    if !same(answer, outcome) {
+    if !test_files::same(answer, verdict_of(outcome)) {
         say_mismatch(name, k, answer, outcome);
         say_letters(file, path);
     }

@@ -1,13 +1,14 @@
 // What the programs that judge stored files share: the files and numbers that their arguments name, and the flags they lend.
 // Each flag holds 7 before a call, which no judge writes, so that a byte that changed is seen.
+use index::layout::MAX_BINDINGS;
 use plan_check::Verdict;
 ghost use Prim.Native.Nat.{_≤_};
 ghost use mathlib.Core.Path.{_≡_};
 ghost use lib.ListN.{length};
 ghost use Rattle.io.specs.Counts.{Counts};
 
-// As many flags are enough for every file.
-pub const FLAGS: usize = 1024;
+// This many flags are enough for every file.
+pub const FLAGS: usize = MAX_BINDINGS;
 
 // What each flag holds before a call.
 pub const BEFORE: u8 = 7;
@@ -72,6 +73,35 @@ pub fn judge_lent(file: &[u8], flags: &mut [u8], lent: usize) -> Verdict {
         };
     }
     plan_check::judge(file, &mut flags[..lent])
+}
+
+// Whether two byte strings are equal.
+pub fn same_bytes(a: &[u8], b: &[u8]) -> bool {
+    if a.len() != b.len() {
+        return false;
+    }
+    let mut i: usize = 0;
+    while i < a.len() && i < b.len() {
+        if a[i] != b[i] {
+            return false;
+        }
+        i = i + 1;
+    }
+    true
+}
+
+// Whether two lines are equal.
+fn same_lines(a: &[u8; 128], b: &[u8; 128]) -> bool {
+    same_bytes(a, b)
+}
+
+// Whether two verdicts are the same: they have the same line.
+pub fn same(a: Verdict, b: Verdict) -> bool {
+    let mut first = [0u8; 128];
+    let mut second = [0u8; 128];
+    verdict_lines::put_verdict(&mut first, a);
+    verdict_lines::put_verdict(&mut second, b);
+    same_lines(&first, &second)
 }
 
 // The decimal number in a text, at most 1,024.

@@ -386,7 +386,7 @@ fn choices(depth: usize) -> CaseFile {
     file
 }
 
-/// Doubles an argument a given number of times, then unfolds K x to K x. The path ends there: 15.
+/// Doubles an argument `doublings` times, then unfolds K x to K x. The path ends there: 15.
 fn long_path(letters: usize, doublings: usize) -> CaseFile {
     let loops = doublings + 1;
     let mut file = CaseFile {
@@ -407,7 +407,7 @@ fn long_path(letters: usize, doublings: usize) -> CaseFile {
     file
 }
 
-/// A given number of rules, each of a given number of nodes, and no bindings.
+/// `count` rules, all but the first of `nodes` nodes, and no bindings.
 fn many_rules(count: usize, nodes: usize) -> CaseFile {
     let mut file = CaseFile {
         sorts: vec![(0, 0), (0, 1), (1, 2)],
@@ -446,7 +446,7 @@ fn rules_of_60000_bytes() -> CaseFile {
     file
 }
 
-/// So many types, all but the states with 16 members, and no bindings.
+/// `count` types, all but the states with 16 members, and no bindings.
 fn many_types(count: usize) -> CaseFile {
     let mut file = CaseFile {
         sorts: vec![(0, 0)],

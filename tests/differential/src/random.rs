@@ -34,7 +34,7 @@ impl Random {
         low + self.below(high - low + 1)
     }
 
-    /// True in a given number of a hundred draws.
+    /// True in `chance` of a hundred draws.
     pub fn percent(&mut self, chance: usize) -> bool {
         self.below(100) < chance
     }

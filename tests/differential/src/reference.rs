@@ -118,7 +118,7 @@ impl Shapes<SortShape> {
         arguments
     }
 
-    /// o to .. to o, with a given number of arguments.
+    /// o to .. to o, with `arity` arguments.
     fn of_constructor(&mut self, arity: usize) -> Sort {
         let tree = self.number(SortShape::Tree);
         (0..arity).fold(tree, |sort, _| self.number(SortShape::Function(tree, sort)))
@@ -176,7 +176,7 @@ struct Node {
     count: usize,
 }
 
-/// One term from the front of `nodes`, at most a given number of levels deep, and the nodes behind it.
+/// One term from the front of `nodes`, at most `levels` deep, and the nodes behind it.
 fn read_term(nodes: &[Node], levels: usize) -> Option<(Rc<Term>, &[Node])> {
     let (first, mut rest) = nodes.split_first()?;
     if levels == 0 {
@@ -320,7 +320,7 @@ impl Entries {
         Ok(())
     }
 
-    /// A node of a body with a given number of parameters, or 6.
+    /// A node of a body whose nonterminal has `parameters` parameters, or 6.
     fn node(&self, bytes: &[u8], parameters: usize) -> Result<Node, u64> {
         let number = word(bytes, 1);
         let (head, entries) = match bytes[0] {
@@ -399,7 +399,7 @@ impl Entries {
 
 // The tests over the whole file
 
-/// The case that a file holds, or the first of 1 to 12 that it meets with a given number of flags lent.
+/// The case that a file holds, or the first of 1 to 12 that it meets where `flags` flags are lent.
 pub fn examine(file: &[u8], flags: usize) -> Result<Case, Refusal> {
     if file.len() > MOST_BYTES {
         return Err(Refusal { number: 1, place: 0 });
@@ -459,7 +459,7 @@ impl Entries {
         Some(sort)
     }
 
-    /// 10 to 12, with a given number of flags lent.
+    /// 10 to 12, where `flags` flags are lent.
     fn test_evidence(&self, flags: usize) -> Result<(), Refusal> {
         if self.path.is_some() && !(self.types.is_empty() && self.bindings.is_empty()) {
             return Err(Refusal { number: 10, place: 0 });

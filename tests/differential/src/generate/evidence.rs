@@ -61,7 +61,7 @@ const MOST_MEMBERS: usize = 16;
 const MOST_TYPES: usize = 1_024;
 const MOST_BINDINGS: usize = 1_024;
 
-/// What a search wants of a nonterminal with a given number of arguments: the goal, and the members asked of the arguments so far.
+/// What a search wants of a nonterminal that is applied to some arguments: the goal, and the members asked of the arguments so far.
 struct Wanted {
     nonterminal: usize,
     applied: usize,
@@ -132,7 +132,7 @@ impl<'a> Search<'a> {
         self.random.choose(sets).cloned().unwrap_or_default()
     }
 
-    /// Wants a goal of a nonterminal with a given number of arguments, and gives the number of the wish.
+    /// Wants a goal of a nonterminal with `applied` arguments, and gives the number of the wish.
     fn want(&mut self, nonterminal: usize, applied: usize, goal: usize) -> Option<usize> {
         let key = (nonterminal, applied, goal);
         if let Some(&known) = self.known.get(&key) {

@@ -62,7 +62,7 @@ impl Sorts {
         arguments
     }
 
-    /// What is left of a sort with a given number of arguments given.
+    /// What is left of a sort with `given` arguments given.
     pub fn applied(&self, sort: usize, given: usize) -> usize {
         (0..given).fold(sort, |rest, _| self.function(rest).map_or(0, |(_, to)| to))
     }
@@ -72,7 +72,7 @@ impl Sorts {
         self.arguments(sort).into_iter().map(|argument| 1 + self.order(argument)).max().unwrap_or(0)
     }
 
-    /// The number of o to .. to o with a given number of arguments, where it is listed.
+    /// The number of o to .. to o with `arity` arguments, where it is listed.
     fn of_constructor(&self, arity: usize) -> Option<usize> {
         (0..arity).try_fold(0, |sort, _| (1..self.count()).find(|&s| self.functions[s] == (0, sort)))
     }
@@ -376,7 +376,7 @@ struct Writer<'a> {
 }
 
 impl Writer<'_> {
-    /// A term of a sort that has one, of about a given number of nodes at most.
+    /// A term of a sort that has one, of about `budget` nodes at most.
     fn body(&mut self, sort: usize, budget: usize, levels: usize) -> Body {
         let Some(taken) = self.head(sort, budget, levels) else {
             return Body { tag: NONTERMINAL, number: 0, arguments: Vec::new(), id: 0 };

@@ -1,8 +1,8 @@
 use Prim.Native.Nat.{_-_}
 use lib.ListN.{length}
 use borrow.Author.Needs.{needs}
-use Rattle.judge_cases.proofs.same_bytes.Statement.{statement}
-use Rattle.judge_cases.proofs.same_bytes.Tie as tie
+use Rattle.test_files.proofs.same_bytes.Statement.{statement}
+use Rattle.test_files.proofs.same_bytes.Tie as tie
 
 abbrev Inv-loop : tie.InvT-loop
 Inv-loop a b i₀ i = Unit {0}
