@@ -20,7 +20,7 @@ use Rattle.index.proofs.lookup.Found.{entry-there}
 use Rattle.transitions.specs.table.Moves
 use Rattle.index.proofs.Wholes.{whole-bodies}
 use Rattle.casefile.specs.PathCases.{replayed}
-use Rattle.replay.specs.replay.Replays.{Runs, ReplaysPath, ReplaysShort}
+use Rattle.replay.specs.replay.Replays.{Runs, ReplaysPath}
 use Rattle.replay.specs.declared.replay.Replayed.{Replayed}
 
 -- "at most" 4,096 letters
@@ -61,6 +61,3 @@ module _ {file index counts : List ℕ} {n rules constructors : ℕ} (en : n ≡
             })
             (room short) short ∙ ap (replayed (automatonOf rs) (planOf rs)) e;
       }
-
-  pub short-answer : (length path ≤ 64 → length path * 8 + 8 ≤ length cells) → ReplaysShort file index counts r
-  short-answer room = record { answer = λ short. replay-answer (λ _. room (omega (arith, ap length ep))) }

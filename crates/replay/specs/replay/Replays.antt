@@ -12,7 +12,6 @@ use Rattle.casefile.specs.Tables.{planOf, automatonOf}
 use Rattle.casefile.specs.Refusals.{refuseWhole}
 use Rattle.casefile.specs.Promises.{Passed}
 use Rattle.index.specs.entries.Known.{Known}
-use Rattle.index.specs.lookup.Lookup.{entryOf}
 use Rattle.replay.specs.letters.Letters.{Replaying, Holding}
 use Rattle.replay.specs.declared.letters.Held.{Held}
 use Rattle.replay.specs.declared.letters.Step.{Step}
@@ -46,7 +45,3 @@ pub record Runs (file index : List ℕ) (rules constructors : ℕ) (table : List
 pub record ReplaysPath (file index counts : List ℕ) (r : Replayed) : Type 0 where
   pub answer : (lens : List ℕ) (rs : List Record) (flags : ℕ) → Known file index lens counts rs → Passed rs → refuseWhole rs flags ≡ none → 0 < count Kind.path rs
       → pathAs r ≡ replayed (automatonOf rs) (planOf rs) (getD (payloads Kind.path rs) 0 [])
-
--- the same for a path of at most 64 letters
-pub record ReplaysShort (file index counts : List ℕ) (r : Replayed) : Type 0 where
-  pub answer : length (entryOf file index 3169) ≤ 64 → ReplaysPath file index counts r
