@@ -26,7 +26,7 @@ use records::fields::byte_at;
 use transitions::rows::row_of;
 use transitions::table::moves;
 ghost use mathlib.Core.Path.{_≡_};
-ghost use Rattle.replay.specs.replay.Replays.{stoppedAt, Arrives, Runs, ReplaysPath, ReplaysShort};
+ghost use Rattle.replay.specs.replay.Replays.{stoppedAt, Arrives, Runs, ReplaysPath};
 
 // The answer to a path.
 pub enum Replayed {
@@ -136,10 +136,10 @@ fn run(
     arrive(table, constructors, held, i)
 }
 
-// The answer to a path of at most 64 letters, by the tables of its file; of other paths nothing is said. It stands apart from
-// `replay_long` so that a short path needs no large frame.
-fn replay_short(file: &[u8], index: &Index, counts: &Counts) -> Replayed
-    ensures { λ r. ⌜ ReplaysShort (now (file .entry)) (now (index .entry)) (now (counts .entry)) r ⌝ }
+// The answer to the path of a file, by its tables. A path has the smallest of four sets of cells that is enough for its letters:
+// those of up to 4,096 letters take 262 KB of stack.
+pub fn replay_path(file: &[u8], index: &Index, counts: &Counts) -> Replayed
+    ensures { λ r. ⌜ ReplaysPath (now (file .entry)) (now (index .entry)) (now (counts .entry)) r ⌝ }
 {
     let table = moves(file, index, place_at(counts, TRANSITION));
     let path = entry(file, index, PATH_AT);
@@ -149,33 +149,14 @@ fn replay_short(file: &[u8], index: &Index, counts: &Counts) -> Replayed
         let mut cells = [0u64; TINY_CELLS];
         return run(file, index, rules, constructors, table, path, &mut cells);
     }
-    let mut cells = [0u64; SHORT_CELLS];
-    run(file, index, rules, constructors, table, path, &mut cells)
-}
-
-// The answer to a path, by the tables of its file. The cells of up to 4,096 letters take 262 KB of stack.
-fn replay_long(file: &[u8], index: &Index, counts: &Counts) -> Replayed
-    ensures { λ r. ⌜ ReplaysPath (now (file .entry)) (now (index .entry)) (now (counts .entry)) r ⌝ }
-{
-    let table = moves(file, index, place_at(counts, TRANSITION));
-    let path = entry(file, index, PATH_AT);
-    let rules = place_at(counts, RULE);
-    let constructors = place_at(counts, CONSTRUCTOR);
+    if path.len() <= SHORT_PATH {
+        let mut cells = [0u64; SHORT_CELLS];
+        return run(file, index, rules, constructors, table, path, &mut cells);
+    }
     if path.len() <= LONG_PATH {
         let mut cells = [0u64; LONG_CELLS];
         return run(file, index, rules, constructors, table, path, &mut cells);
     }
     let mut cells = [0u64; ALL_CELLS];
     run(file, index, rules, constructors, table, path, &mut cells)
-}
-
-// The answer to the path of a file, by its tables.
-pub fn replay_path(file: &[u8], index: &Index, counts: &Counts) -> Replayed
-    ensures { λ r. ⌜ ReplaysPath (now (file .entry)) (now (index .entry)) (now (counts .entry)) r ⌝ }
-{
-    let letters = entry(file, index, PATH_AT);
-    if letters.len() <= SHORT_PATH {
-        return replay_short(file, index, counts);
-    }
-    replay_long(file, index, counts)
 }

@@ -125,10 +125,6 @@ shared = 64
 abbrev pub sharedSize : ℕ
 sharedSize = shared + 1
 
--- the longest path that is replayed with a small frame
-abbrev pub shortPath : ℕ
-shortPath = 64
-
 -- a closure as a number
 abbrev pub nodeUnits : ℕ
 nodeUnits = 8192

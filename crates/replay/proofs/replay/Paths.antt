@@ -14,14 +14,14 @@ use Rattle.casefile.specs.Refusals.{tooMany, tooLarge}
 use Rattle.casefile.proofs.Passed.{entry}
 use Rattle.casefile.specs.Promises.{Passed}
 use Rattle.casefile.proofs.TypeTable.{count-payloads}
-use Rattle.index.specs.layout.Layout.{maxLetters, pathAt, shortPath}
+use Rattle.index.specs.layout.Layout.{maxLetters, pathAt}
 use Rattle.index.specs.entries.Index.{Indexed}
 use Rattle.index.specs.lookup.Lookup.{entryOf}
 use Rattle.index.proofs.lookup.Found.{entry-there}
 use Rattle.transitions.specs.table.Moves
 use Rattle.index.proofs.Wholes.{whole-bodies}
 use Rattle.casefile.specs.PathCases.{replayed}
-use Rattle.replay.specs.replay.Replays.{Runs, ReplaysPath, ReplaysShort}
+use Rattle.replay.specs.replay.Replays.{Runs, ReplaysPath}
 use Rattle.replay.specs.declared.replay.Replayed.{Replayed}
 
 -- "at most" 4,096 letters
@@ -62,6 +62,3 @@ module _ {file index counts : List ℕ} {n rules constructors : ℕ} (en : n ≡
             })
             (room short) short ∙ ap (replayed (automatonOf rs) (planOf rs)) e;
       }
-
-  pub short-answer : (length path ≤ shortPath → length path * 8 + 8 ≤ length cells) → ReplaysShort file index counts r
-  short-answer room = record { answer = λ short. replay-answer (λ _. room (omega (arith, ap length ep))) }
