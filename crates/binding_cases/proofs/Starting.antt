@@ -30,6 +30,7 @@ use Rattle.goals.specs.groups.Groups.{nonterminalOf, Grouped}
 use Rattle.goals.specs.goals.Goals.{of-state, Typed, typeOfBinding, IsOwn}
 use Rattle.goals.proofs.goals.Goals.{goals-same}
 use Rattle.binding_cases.specs.Judging.{startsAt, StartsAt, FindsStart}
+use Rattle.scheme.proofs.Flags.{kept-byte}
 
 -- an element that is chosen and passes, or none
 module _ {B : Type 0} (p : B → Bool) where
@@ -66,11 +67,6 @@ module _ (index : List ℕ) (types b flag : ℕ) where
   pub starts-far : 1024 ≤ b → StartsAt index types b flag false
   starts-far k = record { answer = λ n rs w ix few h. absurd (omega arith) }
 
-  on : (v : ℕ) → (v ≡ 0 → ⊥) → isKept v ≡ true
-  unfolding isKept
-  on zero h = absurd (h refl)
-  on (suc v) h = refl
-
   pub starts-here : (flag ≡ 0 → ⊥) → b < maxBindings → (g : ℕ) → IsOwn index b g → StartsAt index types b flag (eqb g types)
   starts-here nz near g own = record { answer = λ n rs w ix few h. answer n rs w ix h }
     where
@@ -81,7 +77,7 @@ module _ (index : List ℕ) (types b flag : ℕ) where
           let τ = getD (typesOf rs) (typeOfBinding rs b) (state 0) in
           let same-type : same τ (state 0) ≡ eqb g types = goals-same w g types τ (state 0) (own .own rs types w (omega arith) near) (of-state 0 (omega arith) (sym (add-zero types)) refl) in
           let is-type : getD (bindingsOf rs) b noBinding .type ≡ τ = ap (λ (x : Binding). x .type) (binding-at rs b (omega arith)) in
-          sym same-type ∙ ap (λ σ. same σ (state 0)) (sym is-type) ∙ ap (λ x. x && same (getD (bindingsOf rs) b noBinding .type) (state 0)) (sym (on flag nz))
+          sym same-type ∙ ap (λ σ. same σ (state 0)) (sym is-type) ∙ ap (λ x. x && same (getD (bindingsOf rs) b noBinding .type) (state 0)) (sym (kept-byte flag nz))
 
 -- The bindings of nonterminal 0, one after the other.
 -- none of the first b starts

@@ -13,15 +13,12 @@ use lib.Dec.{eqb, ltb}
 use lib.ListN.{length, getD, take, length-append, List·getD-append}
 use lib.Seq.{take-append-seam, take-append-le, getD-append-seam}
 use Rattle.scheme.specs.Lists.{if_then_else_, keepIf, select}
-use Rattle.scheme.proofs.Lists.{select-append}
+use Rattle.scheme.proofs.Lists.{select-append, none-some}
 use Rattle.casefile.specs.Records.{Record, Walk, end, cut, next, recordsOf, listed}
 use Rattle.casefile.specs.Kinds.{Kind, sort, constructor, nonterminal, rule, states, transition, type, binding, path, number, kindOf, ofKind, payloads, count}
 use Rattle.casefile.specs.Refusals.{Refusal, Test, refuse_at_when_, first, tooLong, wrongLength, tooMany, tooLarge, outOfRange, misplaced, refuseAs, refuseKind, lastKind, refuseRecord, refuseWhole}
 use Rattle.casefile.specs.Cases.{Case, refusedCase, bindingCase, pathCase, unlessRefused, acceptedCase, caseFrom, caseOf}
 use Rattle.casefile.specs.Promises.{Passed, nothing, also}
-
-none-some : {A : Type 0} {a : A} {x : Option A} → x ≡ none → x ≡ some a → ⊥
-none-some e f = let z : _≡_ {A = ℕ} 0 1 = cc in omega arith
 
 -- no test in a list was met
 pub first-none : (n p : ℕ) (b : Bool) (ts : List Test) → first ((refuse n at p when b) ∷ ts) ≡ none → (b ≡ false) × (first ts ≡ none)

@@ -1,6 +1,6 @@
 -- After a round, a binding that is kept and whose body names no nonterminal that lost a binding in it holds still: the test
 -- depends on the bindings of the nonterminals that the body names, and those are as they were.
-use Prim.Native.Nat.{ℕ, zero, suc, _+_, _/_, _%_, _<_, _≤_}
+use Prim.Native.Nat.{ℕ, _+_, _/_, _%_, _<_, _≤_}
 use native.Mathlib.Omega.{arith}
 use native.Mathlib.Decide.{ℕ-discrete}
 use mathlib.Core.Path.{_≡_, refl, sym, ap, _∙_}
@@ -41,11 +41,6 @@ unfolding bit isKept
 kept-holds true true e = refl
 kept-holds true false e = e
 kept-holds false b e = let z : _≡_ {A = ℕ} 0 1 = cc in absurd (omega arith)
-
-pub kept-byte : (v : ℕ) → (v ≡ 0 → ⊥) → isKept v ≡ true
-unfolding isKept
-kept-byte zero h = absurd (h refl)
-kept-byte (suc v) h = refl
 
 module _ {file index counts groups firsts ends : List ℕ} {rs : List Record} (w : Ready file index counts groups firsts ends rs) where
   inside : (b : ℕ) → b < count Kind.binding rs → b < length (payloads Kind.binding rs)

@@ -11,7 +11,7 @@ use lib.ListN.{length, getD, set, take, drop, replicate, length-set, getD-replic
 use lib.Seq.{getD-take, drop-set-lt, drop-drop}
 use Rattle.scheme.specs.Rounds
 use Rattle.scheme.specs.Flags.{bit, isKept, chosen, roundFlags}
-use Rattle.scheme.proofs.Flags.{chosen-round}
+use Rattle.scheme.proofs.Flags.{chosen-round, kept-byte}
 use Rattle.casefile.specs.Records.{Record}
 use Rattle.casefile.specs.Kinds.{Kind, number, count}
 use Rattle.casefile.specs.Tables.{bindingsOf}
@@ -28,7 +28,7 @@ use Rattle.binding_tests.specs.mentions.Touched.{touches}
 use Rattle.binding_tests.proofs.mentions.Touching.{untouched}
 use Rattle.binding_tests.specs.test.BindingTests.{Ready, entriesFor, symbolOf, IsSymbol, TestsBinding}
 use Rattle.rounds.specs.Shrinking.{testOf, Numbered, Settled, Retests, Marks, Turns, Copies, ShrinksByRounds}
-use Rattle.rounds.proofs.Settling.{kept-byte, rule-there, settle}
+use Rattle.rounds.proofs.Settling.{rule-there, settle}
 use Rattle.rounds.proofs.Flagged.{bit-small, chosen-take, round-length, round-at}
 use Rattle.rounds.proofs.Counted.{Sofar, sofar-none, sofar-more, sofar-flags, sofar-kept, Left, left-start, left-turn, left-rounds, left-made, left-kept}
 

@@ -10,7 +10,7 @@ use borrow.Author.Tests.{eqb-true, ne-eqb, leb-false, ltb-false}
 use lib.Dec.{eqb, leb, ltb}
 use lib.ListN.{length, getD, take, drop, length-map, length-append}
 use Rattle.scheme.specs.Lists.{if_then_else_, any, select, lastOr}
-use Rattle.scheme.proofs.Lists.{or-false, select-append}
+use Rattle.scheme.proofs.Lists.{or-false, select-append, last-more}
 use Rattle.casefile.specs.Fields.{field, byte}
 use Rattle.casefile.specs.Records.{Record}
 use Rattle.casefile.specs.Kinds.{Kind, number, ofKind, payloads}
@@ -21,11 +21,6 @@ use Rattle.casefile.specs.Promises.{Passed, nothing, also}
 use Rattle.transitions.specs.table.Moves.{rowAt, fourAt, rowFor, targetsIn, Sofar, Holds}
 use Rattle.transitions.proofs.table.Filling.{six}
 use Rattle.index.specs.layout.Layout.{maxConstructors, maxStates}
-
-last-more : (d : ℕ) (l : List ℕ) (x : ℕ) → lastOr d (l ++ (x ∷ [])) ≡ x
-unfolding lastOr
-last-more d [] x = refl
-last-more d (y ∷ l) x = last-more y l x
 
 -- "how many (1)" states: at most 16
 pub states-few : {rs : List Record} → Passed rs → stateCount rs ≤ maxStates

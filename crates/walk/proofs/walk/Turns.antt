@@ -34,7 +34,7 @@ use Rattle.casefile.proofs.Passed.{Tested, passed-tested}
 use Rattle.casefile.specs.Promises.{Passed, nothing, also}
 use Rattle.casefile.proofs.Plans.{signatures-length}
 use Rattle.walk.proofs.kinds.Dispatch.{sorts-length}
-use Rattle.scheme.proofs.Lists.{or-false, and-false}
+use Rattle.scheme.proofs.Lists.{or-false, and-false, last-more}
 use Rattle.index.specs.layout.Layout.{maxFile, maxSorts, maxConstructors, maxNonterminals, maxTransitions, maxTypes, maxBindings, hashes, hashesAt, goalsAt, kinds, allSorts}
 use Rattle.index.specs.entries.Codes.{codeFor}
 use Rattle.index.specs.entries.Index.{base, Indexed}
@@ -172,11 +172,7 @@ to-listed rs p t =
 
 last-kind : (rs : List Record) (r : Record) → lastKind (rs ++ (r ∷ [])) ≡ r .kind
 unfolding lastKind lastOr
-last-kind rs r = ap (lastOr 0) (map-append (λ (r : Record). r .kind) rs (r ∷ [])) ∙ last-of 0 (map (λ (r : Record). r .kind) rs) (r .kind)
-  where
-    last-of : (d : ℕ) (l : List ℕ) (x : ℕ) → lastOr d (l ++ (x ∷ [])) ≡ x
-    last-of d [] x = refl
-    last-of d (y ∷ l) x = last-of y l x
+last-kind rs r = ap (lastOr 0) (map-append (λ (r : Record). r .kind) rs (r ∷ [])) ∙ last-more 0 (map (λ (r : Record). r .kind) rs) (r .kind)
 
 some-kind : (a b : Kind) → some a ≡ some b → a ≡ b
 some-kind a b e = cc
