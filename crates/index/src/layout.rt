@@ -47,7 +47,6 @@ pub const LAST_BINDING: usize = MAX_BINDINGS - 1;
 pub const LAST_MEMBER: usize = MAX_MEMBERS - 1;
 
 // The bytes of a node of a body.
-
 pub const NODE: usize = 4;
 
 // The numbers of the kinds, by which the counts of a file's records stand.
@@ -134,6 +133,7 @@ pub type Rows = [u16; ROWS];
 pub const FITS: usize = MAX_TYPES * ALL_SORTS;
 
 pub type Fits = [u8; FITS];
+
 // The number of a sort for each sort.
 pub type SortNumbers = [u8; ALL_SORTS];
 
@@ -161,12 +161,15 @@ pub const LAST_STAMP: usize = 127;
 
 // What stands for no number: no result, no member, no target, no type.
 pub const NONE: usize = 65535;
+
 // What stands in a row of the transition table for no transition.
 pub const NO_TARGET: u8 = 255;
+
 // The transition table: for each state and constructor a row of targets.
 pub type Row = [u8; MAX_ARITY];
 
 pub type Transitions = [[Row; MAX_CONSTRUCTORS]; MAX_STATES];
+
 // What stands for no state where a target is asked for.
 pub const NO_STATE: usize = 256;
 
@@ -206,7 +209,8 @@ pub const COUNT_UNIT: usize = NODE_UNITS * PLACE_UNITS;
 
 pub const BLOCK_UNIT: usize = COUNT_UNIT * COUNT_UNITS;
 
-// The cells of a block, and those for a path of up to a given number of letters: a block for each letter, and one for the start symbol.
+// The cells of a block; up to how many letters a path gets fewer cells than the longest; and the cells of each: a block for each
+// letter, and one for the start symbol.
 pub const BLOCK: usize = MAX_ARGUMENTS;
 
 pub const TINY_PATH: usize = 16;

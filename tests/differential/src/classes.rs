@@ -79,11 +79,11 @@ pub fn series() -> Vec<Class> {
     ]
 }
 
-/// Schemes that the papers on recursion schemes print in full, with bindings that prove them or a path that refutes them.
+/// Schemes that Kobayashi (2009, 2011) prints in full, with bindings that prove them or a path that refutes them.
 fn papers_examples() -> Result<Vec<Subject>, String> {
     let examples = [
         (
-            "linear time algorithm, example 1",
+            "Kobayashi 2011, example 1",
             "constructor a 2
              constructor b 1
              constructor c 0
@@ -99,7 +99,7 @@ fn papers_examples() -> Result<Vec<Subject>, String> {
              binding F : (1 > 1) & (1 > 0) > 1 > 0",
         ),
         (
-            "higher-order functions, example 2.1",
+            "Kobayashi 2009, example 2.1",
             "constructor a 2
              constructor b 1
              constructor c 0
@@ -115,7 +115,7 @@ fn papers_examples() -> Result<Vec<Subject>, String> {
              binding F : 0 & 1 > 0",
         ),
         (
-            "higher-order functions, example 2.3",
+            "Kobayashi 2009, example 2.3",
             "constructor br 2
              constructor e 0
              constructor fail 0
@@ -134,7 +134,7 @@ fn papers_examples() -> Result<Vec<Subject>, String> {
              binding G0 : T > 0",
         ),
         (
-            "higher-order functions, example 3.1",
+            "Kobayashi 2009, example 3.1",
             "constructor a 2
              constructor b 1
              constructor c 0
@@ -149,7 +149,7 @@ fn papers_examples() -> Result<Vec<Subject>, String> {
              path 0 0 2 1 0",
         ),
         (
-            "higher-order functions, file",
+            "Kobayashi 2009, file",
             "constructor br 2
              constructor c 1
              constructor r 1
@@ -166,7 +166,7 @@ fn papers_examples() -> Result<Vec<Subject>, String> {
              binding G : T > 1 > 0",
         ),
         (
-            "higher-order functions, flow",
+            "Kobayashi 2009, flow",
             "constructor flow 1
              constructor end 0
              rule S : o = C1 Id
@@ -187,7 +187,7 @@ fn papers_examples() -> Result<Vec<Subject>, String> {
              binding LamPrime : 0 > 0",
         ),
         (
-            "higher-order functions, exception",
+            "Kobayashi 2009, exception",
             "constructor br 2
              constructor uncaught 0
              constructor end 0

@@ -1,4 +1,4 @@
-//! Plans written as the papers write them, made case files.
+//! Plans written as Kobayashi (2009) writes them, made case files.
 //!
 //! ```text
 //! constructor a 2

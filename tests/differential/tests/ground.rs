@@ -30,20 +30,14 @@ fn reference_answers_the_lines_of_the_scope() {
 }
 
 #[test]
+#[cfg_attr(without_library, ignore = "`rt staticlib capi` makes the library")]
 fn library_answers_the_lines_of_the_scope() {
-    if !library::LINKED {
-        eprintln!("the library is not linked: nothing is tried");
-        return;
-    }
     try_lines(|file, flags| library::judge(file, flags).expect("a verdict"));
 }
 
 #[test]
+#[cfg_attr(without_library, ignore = "`rt staticlib capi` makes the library")]
 fn library_needs_less_than_1_mb_of_stack() {
-    if !library::LINKED {
-        eprintln!("the library is not linked: nothing is tried");
-        return;
-    }
     let (right, wrong) = stack::try_files().expect("threads");
     assert!(right > 0 && wrong == 0, "{wrong} wrong answers");
 }

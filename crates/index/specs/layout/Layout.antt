@@ -116,6 +116,12 @@ rowsSize = maxNonterminals + 1
 abbrev pub fitsSize : ℕ
 fitsSize = 66560
 
+abbrev pub maxGoals : ℕ
+maxGoals = maxTypes + maxStates
+
+abbrev pub memoSize : ℕ
+memoSize = maxNodes * maxGoals
+
 abbrev pub lastStamp : ℕ
 lastStamp = 127
 

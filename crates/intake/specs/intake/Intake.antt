@@ -14,7 +14,7 @@ use Rattle.intake.specs.plan.PlanTests.{EndsAre}
 use Rattle.intake.specs.declared.evidence.Case.{Case}
 use Rattle.intake.specs.declared.evidence.Case.the-variants.{Refused, Bindings, Path}
 
--- each answer as a case of the definitions: the paper's number and place, or the records of the file
+-- each answer as a case of the definitions: the scope's number and place, or the records of the file
 unfoldable pub caseAs : List ℕ → Case → Cases.Case
 caseAs file (Refused n p) = refusedCase (record { number = n; place = p })
 caseAs file Bindings = bindingCase (listed (recordsOf file))

@@ -22,7 +22,7 @@ use Rattle.casefile.specs.PathCases.{PathAnswer, refutedPath, refusedPath, path
 use Rattle.replay.specs.declared.replay.Replayed.{Replayed}
 use Rattle.replay.specs.declared.replay.Replayed.the-variants.{Refuted, Refused}
 
--- each answer as one of the definitions: letters, state and constructor, or the paper's number and place
+-- each answer as one of the definitions: letters, state and constructor, or the scope's number and place
 unfoldable pub pathAs : Replayed → PathAnswer
 pathAs (Refuted n q c) = refutedPath n q c
 pathAs (Refused n p) = refusedPath (record { number = n; place = p })
