@@ -12,7 +12,7 @@ ghost use Rattle.arrows.specs.arrows.Arrows.{RowAt};
 ghost use Rattle.goals.specs.goals.Goals.{CountsMembers};
 ghost use Rattle.arrows.specs.argument_goals.Wants.{Wants, IsTargetGoal};
 
-// Member j of the set that the next argument must have, by the head's type, an arrow of a given number of members; 65,535 behind the
+// Member j of the set that the next argument must have, by the head's type, an arrow of a given number of members; NONE behind the
 // last.
 pub fn wanted(file: &[u8], index: &[u16], types: usize, head: usize, many: usize, j: usize) -> usize
     ensures { λ r. ⌜ (CountsMembers (now (file .entry)) (now (index .entry)) types head many → (row : List ℕ) (i : ℕ) → Wants (now (file .entry)) (now (index .entry)) types false head row i j r) ⌝ }
@@ -26,7 +26,7 @@ pub fn wanted(file: &[u8], index: &[u16], types: usize, head: usize, many: usize
     member_of(file, index, types, head, j)
 }
 
-// Target i of the transition at a place, as a goal; 65,535 for more types than a file has. A constructor has four arguments at
+// Target i of the transition at a place, as a goal; NONE for more types than a file has. A constructor has four arguments at
 // most.
 pub fn target_of(file: &[u8], types: usize, place: usize, i: usize) -> usize
     ensures { λ r. ⌜ (place < 65536 → (row : List ℕ) → RowAt (now (file .entry)) place row → IsTargetGoal types row i r) ⌝ }

@@ -8,7 +8,7 @@ ghost use mathlib.Core.List.{List};
 ghost use Prim.Native.Nat.{ℕ, _<_};
 ghost use Rattle.arrows.specs.arrows.Arrows.{TakesOff, RowAt, Matches};
 
-// The goal with k arrows off; 65,535 where it has fewer.
+// The goal with k arrows off; NONE where it has fewer.
 pub fn off(index: &[u16], types: usize, goal: usize, k: usize) -> usize
     ensures { λ r. ⌜ TakesOff (now (index .entry)) types goal k r ⌝ }
 {

@@ -1,6 +1,6 @@
 // Types by number, as the goals of a check: of a given number of types, an arrow by its number, and a state by its number behind
-// those of the types. The index of a file has, behind its entries, the goal that each type is from number 4,450 on, the
-// result of each arrow from 5,474 on, and the type of each binding from 6,498 on.
+// those of the types. The index of a file has, behind its entries, the goal that each type is, the result of each arrow, and the
+// type of each binding.
 use index::enter::store;
 use index::entries::place_at;
 use index::layout::BINDINGS_AT;

@@ -78,7 +78,7 @@ pub fn span_of(
     member_span(file, index, types, own, number)
 }
 
-// The type of a binding that is kept, as a goal; 65,535 for one that was dropped.
+// The type of a binding that is kept, as a goal; NONE for one that was dropped.
 fn kept_type(index: &[u16], types: usize, kept: &[u8], j: usize) -> usize
     ensures { λ r. ⌜ IsKeptTy (now (index .entry)) types (now (kept .entry)) j r ⌝ }
 {
@@ -91,7 +91,7 @@ fn kept_type(index: &[u16], types: usize, kept: &[u8], j: usize) -> usize
     own_of(index, j)
 }
 
-// The type, where it is the goal with a given number of arrows off; else 65,535.
+// The type, where it is the goal with a given number of arrows off; else NONE.
 fn if_leads(index: &[u16], types: usize, t: usize, count: usize, goal: usize) -> usize
     ensures { λ r. ⌜ Leads (now (index .entry)) types t count goal r ⌝ }
 {
@@ -104,7 +104,7 @@ fn if_leads(index: &[u16], types: usize, t: usize, count: usize, goal: usize) ->
     t
 }
 
-// Type number j of a head, where it has one and that is the goal with a given number of arrows off; else 65,535.
+// Type number j of a head, where it has one and that is the goal with a given number of arrows off; else NONE.
 pub fn candidate(
     file: &[u8],
     index: &[u16],

@@ -8,7 +8,7 @@ ghost use Prim.Native.Nat.{ℕ};
 ghost use Rattle.transitions.specs.rows.Rows.{IsArity};
 ghost use Rattle.head_types.specs.constructors.Serving.{EndsIn, LeadsFrom};
 
-// The final state of a goal, as the type of a constructor of an arity with `count` arguments; 65,535 where it has none.
+// The final state of a goal, as the type of a constructor of an arity with `count` arguments; NONE where it has none.
 fn state_at(
     file: &[u8],
     index: &[u16],

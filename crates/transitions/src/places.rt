@@ -1,5 +1,5 @@
-// The transitions by state and constructor: behind the goals the index has, from number 7,522 on, where the payload of each
-// lies in the file, 32 for each state; 0 where there is none.
+// The transitions by state and constructor: behind the goals the index has where the payload of each lies in the file, an entry
+// for each state and constructor; 0 where there is none.
 use index::enter::clear;
 use index::enter::store;
 use index::entries::place_at;
