@@ -125,6 +125,9 @@ fitArguments = 2
 abbrev pub fitMasks : ℕ
 fitMasks = 3
 
+abbrev pub fitsSize : ℕ
+fitsSize = maxTypes * fitMasks
+
 abbrev pub maxGoals : ℕ
 maxGoals = maxTypes + maxStates
 
