@@ -14,6 +14,7 @@ use index::layout::TYPES_AT;
 use records::fields::length_at;
 use records::fields::word_at;
 ghost use Prim.Native.Nat.{_<_};
+ghost use Rattle.index.specs.layout.Layout.{maxTypes};
 ghost use Rattle.fits.specs.fits.Filled.{FitsArrow, ReadsRow, Fills};
 
 // A row of the table: the listed sorts that a type fits, those whose result it fits, and those whose argument it fits.
@@ -47,7 +48,7 @@ fn row_of(
     t: usize,
     fit: &[u64],
 ) -> Row
-    requires { ⌜ t < 1024 ⌝ }
+    requires { ⌜ t < maxTypes ⌝ }
     ensures { λ r. ⌜ ReadsRow (now (file .entry)) (now (index .entry)) (now (froms .entry)) (now (tos .entry)) t (now (fit .entry)) (r .sorts) (r .results) (r .arguments) ⌝ }
 {
     let place = place_at(index, TYPES_AT + t);

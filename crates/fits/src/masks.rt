@@ -7,11 +7,12 @@ use index::layout::SortMasks;
 use records::fields::word_at;
 ghost use mathlib.Core.Path.{_≡_};
 ghost use Prim.Native.Nat.{_<_, _≤_};
+ghost use Rattle.index.specs.layout.Layout.{maxSorts, fitMasks};
 ghost use Rattle.fits.specs.masks.Masks.{maskOf, SortsWith, Unites};
 
 // A word of the row of type t in a table of fits; 0 past its end.
 pub(crate) fn mask_at(fit: &[u64], t: usize, part: usize) -> u64
-    requires { ⌜ (t < 65536) × (part < 3) ⌝ }
+    requires { ⌜ (t < 65536) × (part < fitMasks) ⌝ }
     ensures { λ r. ⌜ r ≡ maskOf (now (fit .entry)) t part ⌝ }
 {
     let at = t * FIT_MASKS + part;
@@ -20,7 +21,7 @@ pub(crate) fn mask_at(fit: &[u64], t: usize, part: usize) -> u64
 
 // For each number of a sort, the listed sorts whose record has it at byte `at`, of a given number of sorts.
 pub(crate) fn sorts_with(file: &[u8], index: &[u16], sorts: usize, at: usize) -> SortMasks
-    requires { ⌜ (sorts ≤ 64) × (at ≤ 2) ⌝ }
+    requires { ⌜ (sorts ≤ maxSorts) × (at ≤ 2) ⌝ }
     ensures { λ r. ⌜ SortsWith (now (file .entry)) (now (index .entry)) sorts at r ⌝ }
 {
     let mut masks = [0u64; ALL_SORTS];

@@ -1,11 +1,11 @@
 -- The sorts of an arrow, met member by member.
 use Prim.Native.Nat.{ℕ, _+_, _<_, _≤_}
 use native.Mathlib.Omega.{arith}
-use mathlib.Core.Path.{_≡_, refl, sym, ap, ap₂, _∙_}
+use mathlib.Core.Path.{_≡_, refl, sym, ap, _∙_}
 use mathlib.Core.Bool.{Bool, true, false, _&&_}
-use mathlib.Core.List.{List, _∷_}
+use mathlib.Core.List.{List}
 use lib.Bits.{bitAnd}
-use lib.ListN.{length, drop}
+use lib.ListN.{drop}
 use Rattle.scheme.specs.Lists.{all}
 use Rattle.casefile.specs.Fields.{word}
 use Rattle.casefile.specs.Tables.{words}

@@ -3,22 +3,20 @@ use Prim.Native.Nat.{ℕ, zero, suc, _+_, _*_, _<_, _≤_}
 use native.Mathlib.Omega.{arith}
 use native.Mathlib.Decide.{decLt}
 use mathlib.Core.Path.{_≡_, refl, sym, ap, ap₂, subst, _∙_}
-use mathlib.Core.Bool.{Bool, true, false, _&&_}
+use mathlib.Core.Bool.{Bool, _&&_}
 use mathlib.Core.List.{List, [], _∷_, List·Memᴰ, List·Memᴰ·head, List·Memᴰ·tail}
 use lib.Dec.{eqb, eqb·suc-zero}
-use lib.ListN.{length, getD, set, drop, length-set}
+use lib.ListN.{length, getD, set, length-set}
 use lib.Seq.{getD-set-same, getD-set-other}
 use Rattle.scheme.specs.Lists.{all}
-use Rattle.casefile.specs.Fields.{word}
 use Rattle.casefile.specs.Records.{Record}
 use Rattle.casefile.specs.Kinds.{type, payloads}
-use Rattle.casefile.specs.Tables.{words}
 use Rattle.records.specs.fields.Promises.{HasLength}
 use Rattle.index.specs.layout.Layout.{typesAt, fitSorts, fitResults, fitArguments, fitMasks}
-use Rattle.fits.specs.masks.Masks.{has, hasSort, maskOf, SortsWith, Unites}
+use Rattle.fits.specs.masks.Masks.{has, hasSort, maskOf, Unites}
 use Rattle.fits.specs.fits.Filled.{fitsAt, fromOf, toOf, SaysFits, Fitted, TypesAndSorts, PayloadThere, FitsArrow, ReadsRow}
 use Rattle.fits.proofs.masks.Bits.{has-zero}
-use Rattle.fits.proofs.fits.Rows.{SortThere, sort-there, Arrow, type-behind, payload-there, length-is, state-fits, arrow-there, arrow-tree, arrow-numbers, arrow-fits}
+use Rattle.fits.proofs.fits.Rows.{sort-there, payload-there, length-is, state-fits, arrow-there, arrow-tree, arrow-numbers, arrow-fits}
 
 -- two tests that say the same of each element
 all-same : (f g : ℕ → Bool) (ms : List ℕ) → ((m : ℕ) → List·Memᴰ m ms → f m ≡ g m) → all f ms ≡ all g ms
@@ -76,46 +74,45 @@ module _ (file index : List ℕ) (froms tos : List ℕ) (t place len : ℕ) (fit
 
 -- the table with the row of type t stored
 module _ (fit : List ℕ) (t a b c : ℕ) where
-  abbrev pub stored : List ℕ
-  stored = set (set (set fit (t * fitMasks + fitSorts) a) (t * fitMasks + fitResults) b) (t * fitMasks + fitArguments) c
+  abbrev once : List ℕ
+  once = set fit (t * fitMasks + fitSorts) a
+
+  abbrev twice : List ℕ
+  twice = set once (t * fitMasks + fitResults) b
+
+  abbrev stored : List ℕ
+  stored = set twice (t * fitMasks + fitArguments) c
 
   pub stored-long : length stored ≡ length fit
   stored-long = simp length-set
 
   stored-before : (u part : ℕ) → u < t → part < fitMasks → maskOf stored u part ≡ maskOf fit u part
   stored-before u part l h =
-      getD-set-other (set (set fit (t * fitMasks + fitSorts) a) (t * fitMasks + fitResults) b) (t * fitMasks + fitArguments) (u * fitMasks + part) c 0 (λ e. omega arith)
-      ∙ getD-set-other (set fit (t * fitMasks + fitSorts) a) (t * fitMasks + fitResults) (u * fitMasks + part) b 0 (λ e. omega arith)
+      getD-set-other twice (t * fitMasks + fitArguments) (u * fitMasks + part) c 0 (λ e. omega arith)
+      ∙ getD-set-other once (t * fitMasks + fitResults) (u * fitMasks + part) b 0 (λ e. omega arith)
       ∙ getD-set-other fit (t * fitMasks + fitSorts) (u * fitMasks + part) a 0 (λ e. omega arith)
 
   module _ (long : t * fitMasks + fitMasks ≤ length fit) where
     stored-sorts : maskOf stored t fitSorts ≡ a
     stored-sorts =
-        getD-set-other (set (set fit (t * fitMasks + fitSorts) a) (t * fitMasks + fitResults) b) (t * fitMasks + fitArguments) (t * fitMasks + fitSorts) c 0 (λ e. omega arith)
-        ∙ getD-set-other (set fit (t * fitMasks + fitSorts) a) (t * fitMasks + fitResults) (t * fitMasks + fitSorts) b 0 (λ e. omega arith)
+        getD-set-other twice (t * fitMasks + fitArguments) (t * fitMasks + fitSorts) c 0 (λ e. omega arith)
+        ∙ getD-set-other once (t * fitMasks + fitResults) (t * fitMasks + fitSorts) b 0 (λ e. omega arith)
         ∙ getD-set-same fit (t * fitMasks + fitSorts) a 0 (omega arith)
 
     stored-results : maskOf stored t fitResults ≡ b
     stored-results =
-        getD-set-other (set (set fit (t * fitMasks + fitSorts) a) (t * fitMasks + fitResults) b) (t * fitMasks + fitArguments) (t * fitMasks + fitResults) c 0 (λ e. omega arith)
-        ∙ getD-set-same (set fit (t * fitMasks + fitSorts) a) (t * fitMasks + fitResults) b 0 (simp length-set (omega arith))
+        getD-set-other twice (t * fitMasks + fitArguments) (t * fitMasks + fitResults) c 0 (λ e. omega arith)
+        ∙ getD-set-same once (t * fitMasks + fitResults) b 0 (simp length-set (omega arith))
 
     stored-arguments : maskOf stored t fitArguments ≡ c
-    stored-arguments = getD-set-same (set (set fit (t * fitMasks + fitSorts) a) (t * fitMasks + fitResults) b) (t * fitMasks + fitArguments) c 0 (simp length-set (omega arith))
+    stored-arguments = getD-set-same twice (t * fitMasks + fitArguments) c 0 (simp length-set (omega arith))
 
     pub fitted-more : (sorts : ℕ) (rs : List Record) → Fitted fit t sorts rs → ((i : ℕ) → i < sorts → SaysFits rs t i a b c) → Fitted stored (t + 1) sorts rs
     fitted-more sorts rs rows row u i lu li = by (decLt u t)
       where
         by : Dec (u < t) → SaysFits rs u i (maskOf stored u fitSorts) (maskOf stored u fitResults) (maskOf stored u fitArguments)
-        by (yes l) =
-            let old = rows u i l li in
-            record {
-              sort-right = ap (λ x. has x i) (stored-before u fitSorts l (omega arith)) ∙ old .sort-right;
-              result-right = ap (λ x. has x i) (stored-before u fitResults l (omega arith)) ∙ old .result-right;
-              argument-right = ap (λ x. has x i) (stored-before u fitArguments l (omega arith)) ∙ old .argument-right;
-            }
-        by (no l) = subst (λ v. SaysFits rs v i (maskOf stored v fitSorts) (maskOf stored v fitResults) (maskOf stored v fitArguments)) (omega arith) (record {
-          sort-right = ap (λ x. has x i) stored-sorts ∙ row i li .sort-right;
-          result-right = ap (λ x. has x i) stored-results ∙ row i li .result-right;
-          argument-right = ap (λ x. has x i) stored-arguments ∙ row i li .argument-right;
-        })
+        by (yes l) = rw (stored-before u fitSorts l (omega arith), stored-before u fitResults l (omega arith), stored-before u fitArguments l (omega arith)) (rows u i l li)
+        by (no l) =
+            let same : t ≡ u = omega arith in
+            subst (λ v. SaysFits rs v i (maskOf stored v fitSorts) (maskOf stored v fitResults) (maskOf stored v fitArguments)) same
+            (rw (stored-sorts, stored-results, stored-arguments) (row i li))

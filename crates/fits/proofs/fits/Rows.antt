@@ -71,7 +71,7 @@ module _ {file index : List ℕ} {types sorts : ℕ} {rs : List Record} (li : Ty
       }
 
   module _ {t place : ℕ} (h : t < types) (ep : place ≡ getD index (typesAt + t) 0) where
-    pub type-behind : 4 ≤ place
+    type-behind : 4 ≤ place
     type-behind = subst (λ k. 4 ≤ k) (sym ep) (li .types-there .behind-header t h)
 
     made : getD (typesOf rs) t (state 0) ≡ typeFrom (typesOf rs) (typePay t)

@@ -1,14 +1,13 @@
 -- The bits of a number, the lowest first: those of `and` and `or`, of a single bit, and the lowest bit that is set.
-use Prim.Native.Nat.{ℕ, zero, suc, _+_, _-_, _*_, _/_, _%_, _^_, _<_, _≤_, min, max}
+use Prim.Native.Nat.{ℕ, zero, suc, _+_, _-_, _*_, _/_, _%_, _^_, _<_, min, max}
 use native.Mathlib.Omega.{arith}
 use native.Mathlib.Decide.{ℕ-discrete}
-use native.Mathlib.Nat.{suc-add, zero-add}
 use native.Mathlib.Numerals.{add-one}
-use mathlib.Core.Path.{_≡_, refl, sym, ap, ap₂, subst, _∙_}
+use mathlib.Core.Path.{_≡_, refl, sym, ap, _∙_}
 use mathlib.Core.Bool.{Bool, true, false, not, _&&_, _||_}
 use lib.Arith.{digits-div, digits-mod}
 use lib.Bits.{bitAnd, bitOr, and-step, or-step, shifted-half, shifted-even}
-use lib.Count.{under, trailingZeros}
+use lib.Count.{trailingZeros}
 use lib.Dec.{eqb, eqb·zero-suc, eqb·suc-zero, eqb·suc-suc}
 use lib.Pow.{shl-exact, shr-shr, shr-lt}
 use Rattle.fits.specs.masks.Masks.{has}
@@ -28,29 +27,21 @@ module _ (op f : ℕ → ℕ → ℕ) (g : Bool → Bool → Bool) (step : (a b 
   has-op (suc i) a b =
       ap (λ x. has (x / 2) i) (step a b) ∙ ap (λ x. has x i) (digits-div (op (a / 2) (b / 2)) (small (a % 2) (b % 2) (omega arith) (omega arith))) ∙ has-op i (a / 2) (b / 2)
 
-min-digit : (a b : ℕ) → a < 2 → b < 2 → eqb (min a b) 1 ≡ (eqb a 1 && eqb b 1)
-min-digit zero zero h k = refl
-min-digit zero (suc zero) h k = refl
-min-digit (suc zero) zero h k = refl
-min-digit (suc zero) (suc zero) h k = refl
-min-digit (suc (suc a)) b h k = absurd (omega arith)
-min-digit zero (suc (suc b)) h k = absurd (omega arith)
-min-digit (suc zero) (suc (suc b)) h k = absurd (omega arith)
-
-max-digit : (a b : ℕ) → a < 2 → b < 2 → eqb (max a b) 1 ≡ (eqb a 1 || eqb b 1)
-max-digit zero zero h k = refl
-max-digit zero (suc zero) h k = refl
-max-digit (suc zero) zero h k = refl
-max-digit (suc zero) (suc zero) h k = refl
-max-digit (suc (suc a)) b h k = absurd (omega arith)
-max-digit zero (suc (suc b)) h k = absurd (omega arith)
-max-digit (suc zero) (suc (suc b)) h k = absurd (omega arith)
+-- what holds of the four pairs of digits
+each-pair : (P : ℕ → ℕ → Type 0) → P 0 0 → P 0 1 → P 1 0 → P 1 1 → (a b : ℕ) → a < 2 → b < 2 → P a b
+each-pair P x y z w zero zero h k = x
+each-pair P x y z w zero (suc zero) h k = y
+each-pair P x y z w (suc zero) zero h k = z
+each-pair P x y z w (suc zero) (suc zero) h k = w
+each-pair P x y z w (suc (suc a)) b h k = absurd (omega arith)
+each-pair P x y z w zero (suc (suc b)) h k = absurd (omega arith)
+each-pair P x y z w (suc zero) (suc (suc b)) h k = absurd (omega arith)
 
 pub has-and : (i a b : ℕ) → has (bitAnd a b) i ≡ (has a i && has b i)
-has-and = has-op bitAnd min _&&_ and-step (λ a b h k. omega arith) min-digit
+has-and = has-op bitAnd min _&&_ and-step (λ a b h k. omega arith) (each-pair (λ a b. eqb (min a b) 1 ≡ (eqb a 1 && eqb b 1)) refl refl refl refl)
 
 pub has-or : (i a b : ℕ) → has (bitOr a b) i ≡ (has a i || has b i)
-has-or = has-op bitOr max _||_ or-step (λ a b h k. omega arith) max-digit
+has-or = has-op bitOr max _||_ or-step (λ a b h k. omega arith) (each-pair (λ a b. eqb (max a b) 1 ≡ (eqb a 1 || eqb b 1)) refl refl refl refl)
 
 pub has-zero : (i : ℕ) → has 0 i ≡ false
 unfolding has
@@ -75,7 +66,9 @@ has-one i j h = ap (λ x. has x i) (shl-exact {a = 1} 1 j 64 (omega arith) (omeg
 pub has-shifted : (i n : ℕ) → eqb (n / 2 ^ i % 2) 1 ≡ has n i
 unfolding has
 has-shifted zero n = let same : n / 1 ≡ n = omega arith in ap (λ x. eqb (x % 2) 1) same
-has-shifted (suc i) n = let same : n / 2 ^ suc i ≡ n / 2 / 2 ^ i = ap (λ k. n / 2 ^ k) (sym (suc-add 0 i ∙ ap suc (zero-add i))) ∙ sym (shr-shr n 1 i) in ap (λ x. eqb (x % 2) 1) same ∙ has-shifted i (n / 2)
+has-shifted (suc i) n =
+    let next : suc i ≡ 1 + i = omega arith in
+    ap (λ k. eqb (n / 2 ^ k % 2) 1) next ∙ ap (λ x. eqb (x % 2) 1) (sym (shr-shr n 1 i)) ∙ has-shifted i (n / 2)
 
 -- the lowest bit that is set, and the number without it
 pub record Lowest (k n : ℕ) : Type 0 where
@@ -86,10 +79,6 @@ pub record Lowest (k n : ℕ) : Type 0 where
 and-once : (a : Bool) → (a && a) ≡ (a && true)
 and-once true = refl
 and-once false = refl
-
-and-never : (a : Bool) → (a && false) ≡ false
-and-never true = refl
-and-never false = refl
 
 -- of a number by its lowest digit and the rest
 module _ (k n : ℕ) where

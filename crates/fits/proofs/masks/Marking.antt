@@ -2,7 +2,7 @@
 use Prim.Native.Nat.{ℕ, _+_, _<_, _≤_}
 use native.Mathlib.Omega.{arith}
 use native.Mathlib.Decide.{decLt, ℕ-discrete}
-use mathlib.Core.Path.{_≡_, refl, sym, ap, ap₂, subst, _∙_}
+use mathlib.Core.Path.{_≡_, refl, sym, ap, ap₂, _∙_}
 use mathlib.Core.Bool.{Bool, true, false, _&&_, _||_}
 use mathlib.Core.List.{List}
 use borrow.Author.Tests.{lt-ltb, le-ltb, eq-eqb, ne-eqb}
@@ -11,7 +11,7 @@ use lib.Dec.{eqb, ltb}
 use lib.ListN.{length, getD, set, replicate, length-set, length-replicate, getD-replicate}
 use lib.Seq.{getD-set-same, getD-set-other}
 use Rattle.scheme.proofs.Lists.{and-no}
-use Rattle.casefile.specs.Fields.{field, word}
+use Rattle.casefile.specs.Fields.{word}
 use Rattle.index.specs.layout.Layout.{maxSorts, allSorts}
 use Rattle.fits.specs.masks.Masks.{has, SortsWith}
 use Rattle.fits.proofs.masks.Bits.{oneBit, has-or, has-zero, has-one, or-no}
@@ -61,7 +61,7 @@ module _ (file index : List ℕ) (at : ℕ) where
     pub marked-past : (masks′ : List ℕ) → masks′ ≡ masks → maxSorts < number → MarkedTo masks′ (s + 1)
     marked-past masks′ e l = rw e (record { long = marked .long; marks = λ n i h. kept n i h (λ f. omega arith) })
 
-    pub marked-more : (masks′ : List ℕ) → masks′ ≡ set masks number (bitOr (getD masks number 0) (oneBit s)) → s < 64 → number ≤ maxSorts → MarkedTo masks′ (s + 1)
+    pub marked-more : (masks′ : List ℕ) → masks′ ≡ set masks number (bitOr (getD masks number 0) (oneBit s)) → s < maxSorts → number ≤ maxSorts → MarkedTo masks′ (s + 1)
     marked-more masks′ e few l = rw e (record { long = length-set masks number new ∙ marked .long; marks = λ n i h. by n i h (ℕ-discrete n number) })
       where
         new : ℕ

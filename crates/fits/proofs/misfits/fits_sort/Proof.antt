@@ -1,5 +1,4 @@
 -- `fits_sort` meets its contract.
-use native.Mathlib.Omega.{arith}
 use borrow.Author.Needs.{needs}
 use Rattle.fits.proofs.misfits.Misfits.{tree-tested, unlisted-tested, listed-tested}
 use Rattle.fits.proofs.misfits.fits_sort.Statement.{statement}
