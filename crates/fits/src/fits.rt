@@ -25,7 +25,7 @@ struct Row {
 }
 
 // The listed sorts that an arrow fits whose payload is the len bytes at place: its result fits their results, and each member
-// their arguments, by the rows of a table.
+// their arguments, by the rows of a table. Where no sort is left, no further member is looked at.
 fn arrow_sorts(file: &[u8], place: usize, len: usize, fit: &[u64]) -> u64
     requires { ⌜ (place < 65536) × (len < 65536) ⌝ }
     ensures { λ r. ⌜ FitsArrow (now (file .entry)) place len (now (fit .entry)) r ⌝ }
@@ -33,6 +33,9 @@ fn arrow_sorts(file: &[u8], place: usize, len: usize, fit: &[u64]) -> u64
     let mut sorts = mask_at(fit, word_at(file, place), FIT_RESULTS);
     let mut i: usize = 2;
     while i + 2 <= len {
+        if sorts == 0 {
+            return 0;
+        }
         sorts = sorts & mask_at(fit, word_at(file, place + i), FIT_ARGUMENTS);
         i = i + 2;
     }

@@ -13,7 +13,7 @@ use Rattle.casefile.proofs.Steps.{words-step, words-done}
 use Rattle.index.specs.layout.Layout.{fitResults, fitArguments}
 use Rattle.fits.specs.masks.Masks.{has, maskOf}
 use Rattle.fits.specs.fits.Filled.{PayloadThere, FitsArrow}
-use Rattle.fits.proofs.masks.Bits.{has-and}
+use Rattle.fits.proofs.masks.Bits.{has-and, has-zero}
 
 and-assoc : (a b c : Bool) → ((a && b) && c) ≡ (a && (b && c))
 and-assoc true b c = refl
@@ -46,6 +46,10 @@ module _ (file : List ℕ) (place len : ℕ) (fit : List ℕ) where
           ∙ sym (ap (all (λ m. has (maskOf fit m fitArguments) i)) (words-step p at (omega (arith, there .long)))))
           ∙ met .decides p there i;
     }
+
+    -- no sort is left
+    pub met-empty : r ≡ 0 → FitsArrow file place len fit 0
+    met-empty e p there i = has-zero i ∙ sym (ap (λ b. b && restHas p at i) (ap (λ x. has x i) e ∙ has-zero i)) ∙ met .decides p there i
 
     pub met-all : len < at + 2 → FitsArrow file place len fit r
     unfolding all

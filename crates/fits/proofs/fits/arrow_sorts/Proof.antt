@@ -2,7 +2,7 @@
 use Prim.Native.Nat.{_+_, _-_, _≤_}
 use native.Mathlib.Omega.{arith}
 use borrow.Author.Needs.{needs}
-use Rattle.fits.proofs.fits.Arrows.{MetTo, met-none, met-more, met-all}
+use Rattle.fits.proofs.fits.Arrows.{MetTo, met-none, met-more, met-empty, met-all}
 use Rattle.fits.proofs.fits.arrow_sorts.Statement.{statement}
 use Rattle.fits.proofs.fits.arrow_sorts.Tie as tie
 
@@ -24,6 +24,9 @@ loop-holds c = (omega arith, met-none _ _ _ _ _ _ (c .before .word-at .ensures .
 add-loop : tie.Need-add-loop Inv-loop μ-loop
 add-loop c = omega arith
 
+returns : tie.Need-returns Inv-loop μ-loop
+returns c = let l = c .before .before .loop in met-empty _ _ _ _ (l .sorts) (l .i) (l .inv .1) (c .if1 .taken)
+
 add-word-at : tie.Need-add-word-at Inv-loop μ-loop
 add-word-at c = omega arith
 
@@ -40,10 +43,10 @@ loop-less : tie.Need-loop-less Inv-loop μ-loop
 loop-less c = omega arith
 
 loop-again : tie.Need-loop-again Inv-loop μ-loop
-loop-again c = let l = c .before .before .before .loop in (omega arith, met-more _ _ _ _ (l .sorts) (l .i) (l .inv .1) _ _ (omega arith) (c .before .word-at2 .ensures .value) (c .mask-at2 .ensures))
+loop-again c = let l = c .before .before .before .before .loop in (omega arith, met-more _ _ _ _ (l .sorts) (l .i) (l .inv .1) _ _ (omega arith) (c .before .word-at2 .ensures .value) (c .mask-at2 .ensures))
 
-returns : tie.Need-returns Inv-loop μ-loop
-returns c = let l = c .before .loop in met-all _ _ _ _ (l .sorts) (l .i) (l .inv .1) (omega arith)
+returns-2 : tie.Need-returns-2 Inv-loop μ-loop
+returns-2 c = let l = c .before .loop in met-all _ _ _ _ (l .sorts) (l .i) (l .inv .1) (omega arith)
 
 pub arrow-sorts-spec : {M : Type 1} → statement M
 arrow-sorts-spec =
@@ -55,10 +58,11 @@ arrow-sorts-spec =
     mask-at-requires
     loop-holds
     add-loop
+    returns
     add-word-at
     word-at-requires-2
     mask-at-requires-2
     add-i
     loop-less
     loop-again
-    returns)
+    returns-2)
