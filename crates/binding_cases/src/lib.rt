@@ -7,7 +7,7 @@ use index::entries::place_at;
 use index::layout::BINDING;
 use index::layout::Counts;
 use index::layout::Ends;
-use index::layout::Fits;
+use index::layout::Flags;
 use index::layout::Index;
 use index::layout::MAX_BINDINGS;
 use index::layout::NONTERMINAL;
@@ -73,7 +73,7 @@ pub fn judge_bindings(
     ends: &Ends,
     groups: &mut Rows,
     firsts: &mut Rows,
-    old: &mut Fits,
+    old: &mut Flags,
     flags: &mut [u8],
     memo: &mut [u8],
 ) -> Shrunken

@@ -5,7 +5,7 @@ use index::entries::place_at;
 use index::layout::BINDINGS_AT;
 use index::layout::CONSTRUCTOR;
 use index::layout::Ends;
-use index::layout::Fits;
+use index::layout::Flags;
 use index::layout::Index;
 use index::layout::LAST_BINDING;
 use index::layout::RULES_AT;
@@ -34,7 +34,7 @@ pub fn holds(
     groups: &Rows,
     firsts: &[u16],
     ends: &Ends,
-    kept: &Fits,
+    kept: &Flags,
     memo: &mut [u8],
     stamp: usize,
     b: usize,

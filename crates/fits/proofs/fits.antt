@@ -1,5 +1,3 @@
-pub mod Numbers
 pub mod Rows
-pub mod Filling
-pub mod Members
 pub mod Arrows
+pub mod Filling

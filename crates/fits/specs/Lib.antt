@@ -1,3 +1,3 @@
-pub mod flags
+pub mod masks
 pub mod fits
 pub mod misfits

@@ -1,3 +1,3 @@
 pub mod fits;
-pub mod flags;
+pub mod masks;
 pub mod misfits;

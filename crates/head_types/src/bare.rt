@@ -1,7 +1,7 @@
 // A nonterminal or a parameter that stands alone, against a goal.
 use crate::candidates::candidate;
 use crate::candidates::span_of;
-use index::layout::Fits;
+use index::layout::Flags;
 use index::layout::Index;
 use index::layout::NONE;
 use index::layout::Rows;
@@ -13,7 +13,7 @@ pub fn bare_has(
     index: &Index,
     types: usize,
     groups: &Rows,
-    kept: &Fits,
+    kept: &Flags,
     own: usize,
     nonterminal: bool,
     number: usize,

@@ -129,13 +129,24 @@ pub const ROWS: usize = MAX_NONTERMINALS + 1;
 
 pub type Rows = [u16; ROWS];
 
-// Whether each type fits each sort; later the flags of the bindings as a round began.
-pub const FITS: usize = MAX_TYPES * ALL_SORTS;
+// The fit of types to sorts: for each type a row of words, which have bit i for sort i + 1. The words of a row: the listed sorts
+// that the type fits, those whose result it fits, those whose argument it fits. A word for each sort.
+pub const FIT_SORTS: usize = 0;
 
-pub type Fits = [u8; FITS];
+pub const FIT_RESULTS: usize = 1;
 
-// The number of a sort for each sort.
-pub type SortNumbers = [u8; ALL_SORTS];
+pub const FIT_ARGUMENTS: usize = 2;
+
+pub const FIT_MASKS: usize = 3;
+
+pub const FITS: usize = MAX_TYPES * FIT_MASKS;
+
+pub type Fits = [u64; FITS];
+
+pub type SortMasks = [u64; ALL_SORTS];
+
+// The flags of the bindings as a round began.
+pub type Flags = [u8; MAX_BINDINGS];
 
 // The codes of sorts: the number of a listed one; for the sort of a constructor that is not listed, UNLISTED and how many
 // arguments it has; NO_SORT for none.

@@ -7,7 +7,7 @@ use binding_tests::test::symbol_of;
 use index::entries::place_at;
 use index::layout::BINDING;
 use index::layout::Ends;
-use index::layout::Fits;
+use index::layout::Flags;
 use index::layout::Index;
 use index::layout::LAST_STAMP;
 use index::layout::Lost;
@@ -50,7 +50,7 @@ fn retest(
     groups: &Rows,
     firsts: &[u16],
     ends: &Ends,
-    old: &Fits,
+    old: &Flags,
     lost: &Lost,
     memo: &mut [u8],
     stamp: usize,
@@ -110,7 +110,7 @@ fn round(
     groups: &Rows,
     firsts: &[u16],
     ends: &Ends,
-    old: &Fits,
+    old: &Flags,
     gone: &Lost,
     flags: &mut [u8],
     lost: &mut Lost,
@@ -155,7 +155,7 @@ fn round(
 }
 
 // Takes over the first n flags.
-fn copy(from: &[u8], n: usize, to: &mut Fits)
+fn copy(from: &[u8], n: usize, to: &mut Flags)
     ensures { λ _. ⌜ Copies (now (from .entry)) n (now (to .entry)) (now (to .exit)) ⌝ }
 {
     if MAX_BINDINGS < n {
@@ -196,7 +196,7 @@ pub fn shrink(
     firsts: &[u16],
     ends: &Ends,
     memo: &mut [u8],
-    old: &mut Fits,
+    old: &mut Flags,
     flags: &mut [u8],
 ) -> Ended
     ensures { λ r. ⌜ ShrinksByRounds (now (file .entry)) (now (index .entry)) (now (counts .entry)) (now (groups .entry)) (now (firsts .entry)) (now (ends .entry)) (now (flags .entry)) (now (flags .exit)) (r .kept) (r .rounds) ⌝ }

@@ -10,7 +10,7 @@ use head_types::candidates::span_of;
 use head_types::constructors::place_for;
 use index::entries::place_at;
 use index::layout::Ends;
-use index::layout::Fits;
+use index::layout::Flags;
 use index::layout::Index;
 use index::layout::MAX_STATES;
 use index::layout::MAX_TYPES;
@@ -140,7 +140,7 @@ pub fn check_term(
     file: &[u8],
     index: &Index,
     groups: &Rows,
-    kept: &Fits,
+    kept: &Flags,
     ends: &Ends,
     test: &Test,
     memo: &mut [u8],
@@ -184,7 +184,7 @@ fn check_head(
     file: &[u8],
     index: &Index,
     groups: &Rows,
-    kept: &Fits,
+    kept: &Flags,
     ends: &Ends,
     test: &Test,
     memo: &mut [u8],
@@ -252,7 +252,7 @@ fn check_choices(
     file: &[u8],
     index: &Index,
     groups: &Rows,
-    kept: &Fits,
+    kept: &Flags,
     ends: &Ends,
     test: &Test,
     memo: &mut [u8],
@@ -310,7 +310,7 @@ fn check_args(
     file: &[u8],
     index: &Index,
     groups: &Rows,
-    kept: &Fits,
+    kept: &Flags,
     ends: &Ends,
     test: &Test,
     memo: &mut [u8],

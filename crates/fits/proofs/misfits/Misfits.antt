@@ -1,5 +1,6 @@
--- Refusal 11: the flag of a binding, and the first binding that does not fit.
-use Prim.Native.Nat.{ℕ, zero, suc, _+_, _<_, _≤_}
+-- Refusal 11: the fit of a type and of a binding, and the first binding that does not fit.
+use Prim.Native.Nat.{ℕ, zero, suc, _+_, _-_, _/_, _%_, _^_, _<_, _≤_}
+use native.Mathlib.Decide.{ℕ-discrete}
 use native.Mathlib.Omega.{arith}
 use native.Mathlib.Nat.{add-zero, le-of-suc-le-suc}
 use mathlib.Core.Path.{_≡_, refl, sym, ap, ap₂, _∙_}
@@ -12,7 +13,6 @@ use lib.Dec.{eqb}
 use lib.ListN.{length, getD}
 use Rattle.scheme.specs.Sorts.{Sort, o}
 use Rattle.scheme.specs.Types.{Ty, state, fits}
-use Rattle.scheme.specs.Flags.{bit}
 use Rattle.scheme.proofs.Lists.{getD-map-in}
 use Rattle.casefile.specs.Fields.{field, word}
 use Rattle.casefile.specs.Records.{Record}
@@ -20,12 +20,34 @@ use Rattle.casefile.specs.Kinds.{nonterminal, binding, ofKind, payloads, count,
 use Rattle.casefile.specs.Tables.{typesOf, sortsOf, signaturesOf, bindingsOf}
 use Rattle.casefile.specs.Refusals.{Test, refuse_at_when_, first, wrongLength, misfits}
 use Rattle.casefile.proofs.TypeTable.{count-payloads}
-use Rattle.fits.specs.flags.Fitted.{flag}
-use Rattle.fits.specs.misfits.Misfits.{bindingFits, Offered, FirstMisfit, FindsMisfit}
-use Rattle.fits.proofs.flags.Flags.{bit-says}
-use Rattle.index.specs.layout.Layout.{nonterminalsAt, bindingsAt}
+use Rattle.records.specs.fields.Promises.{HasLength}
+use Rattle.index.specs.layout.Layout.{maxSorts, nonterminalsAt, typesAt, bindingsAt, fitSorts}
+use Rattle.fits.specs.masks.Masks.{has, maskOf}
+use Rattle.fits.specs.fits.Filled.{fitsAt}
+use Rattle.fits.specs.misfits.Misfits.{TestsFit, bindingFits, Offered, FirstMisfit, FindsMisfit}
+use Rattle.fits.proofs.masks.Bits.{has-shifted}
+use Rattle.fits.proofs.fits.Rows.{state-fits, arrow-tree}
 
--- The flag of binding i: its numbers and its nonterminal's sort, read through the index.
+-- What the program looks at says whether type t fits sort s.
+module _ (file index fit : List ℕ) (t : ℕ) where
+  -- sort 0: where the payload has one byte
+  pub tree-tested : (s place len : ℕ) → s ≡ 0 → place ≡ getD index (typesAt + t) 0 → HasLength file place len → TestsFit file index fit t s (eqb len 1)
+  tree-tested s place len zeroth ep el types sorts rs listed table h l = by (ℕ-discrete len 1) ∙ ap (fitsAt rs t) (sym zeroth)
+    where
+      by : Dec (len ≡ 1) → eqb len 1 ≡ fitsAt rs t 0
+      by (yes one) = eq-eqb len 1 one ∙ sym (state-fits listed h ep el 0 one (omega arith))
+      by (no ne) = ne-eqb len 1 ne ∙ sym (arrow-tree listed h ep el ne)
+
+  -- a sort that no file lists
+  pub unlisted-tested : (s : ℕ) (r : Bool) → maxSorts < s → TestsFit file index fit t s r
+  unlisted-tested s r late types sorts rs listed table h l = absurd (let few = listed .few-sorts in omega arith)
+
+  -- a listed sort: by its bit
+  pub listed-tested : (s m : ℕ) → (s ≡ 0 → ⊥) → m ≡ maskOf fit t fitSorts → TestsFit file index fit t s (eqb (m / 2 ^ (s - 1) % 2) 1)
+  listed-tested s m ne em types sorts rs listed table h l =
+      has-shifted (s - 1) m ∙ ap (λ x. has x (s - 1)) em ∙ table t (s - 1) h (omega arith) .sort-right ∙ ap (fitsAt rs t) (omega arith)
+
+-- Whether binding i fits: its numbers and its nonterminal's sort, read through the index.
 module _ {file index fit : List ℕ} {bindings nonterminals types sorts : ℕ} {rs : List Record} (of : Offered file index fit bindings nonterminals types sorts rs) where
   abbrev pay : ℕ → List ℕ
   pay i = getD (payloads binding rs) i []
@@ -35,11 +57,11 @@ module _ {file index fit : List ℕ} {bindings nonterminals types sorts : ℕ} {
   sort-of f h =
       getD-map-in (λ (p : List ℕ). getD (sortsOf rs) (word p 0) o) (payloads nonterminal rs) f o [] (omega (arith, of .nonterminals-there .counted, count-payloads nonterminal rs))
 
-  module _ (i place f t start s x : ℕ) (h : i < bindings) (ep : place ≡ getD index (bindingsAt + i) 0) (ef : f ≡ word file place) (et : t ≡ word file (place + 2))
-      (eq : start ≡ getD index (nonterminalsAt + f) 0) (es : s ≡ word file start) (ex : x ≡ flag fit t s) where
-    binding-flag : x ≡ bit (bindingFits rs (pay i))
+  module _ (i place f t start s : ℕ) (x : Bool) (h : i < bindings) (ep : place ≡ getD index (bindingsAt + i) 0) (ef : f ≡ word file place) (et : t ≡ word file (place + 2))
+      (eq : start ≡ getD index (nonterminalsAt + f) 0) (es : s ≡ word file start) (tests : TestsFit file index fit t s x) where
+    binding-tested : x ≡ bindingFits rs (pay i)
     unfolding wrongLength
-    binding-flag =
+    binding-tested =
         let four : length (pay i) ≡ 4 = eqb-true (length (pay i)) 4 (not-false (eqb (length (pay i)) 4) (of .bindings-whole i h)) in
         let f-is : f ≡ word (pay i) 0 = ef ∙ ap (field 2 file) (ep ∙ sym (add-zero (getD index (bindingsAt + i) 0))) ∙ of .bindings-there .field-there i h 2 0 (omega arith) in
         let t-is : t ≡ word (pay i) 2 = et ∙ ap (λ k. field 2 file (k + 2)) ep ∙ of .bindings-there .field-there i h 2 2 (omega arith) in
@@ -49,15 +71,9 @@ module _ {file index fit : List ℕ} {bindings nonterminals types sorts : ℕ} {
         let two : length sig ≡ 2 = eqb-true (length sig) 2 (not-false (eqb (length sig) 2) (of .nonterminals-whole f hf)) in
         let s-is : s ≡ word sig 0 = es ∙ ap (field 2 file) (eq ∙ sym (add-zero (getD index (nonterminalsAt + f) 0))) ∙ of .nonterminals-there .field-there f hf 2 0 (omega arith) in
         let hs : s ≤ sorts = (let b = of .sorts-named f hf in omega arith) in
-        ex ∙ of .table t s ht hs
-        ∙ ap bit (ap₂ (λ (k : ℕ) (z : Sort). fits (getD (typesOf rs) k (state 0)) z) t-is
-        (ap (λ k. getD (sortsOf rs) k o) s-is ∙ sym (sort-of f hf) ∙ ap (λ k. getD (signaturesOf rs) k o) f-is))
-
-    misfit-here : x ≡ 0 → bindingFits rs (pay i) ≡ false
-    misfit-here z = sym (bit-says (bindingFits rs (pay i)) x binding-flag) ∙ ap not (eq-eqb x 0 z)
-
-    fit-here : (x ≡ 0 → ⊥) → bindingFits rs (pay i) ≡ true
-    fit-here z = sym (bit-says (bindingFits rs (pay i)) x binding-flag) ∙ ap not (ne-eqb x 0 z)
+        tests types sorts rs (of .listed) (of .table) ht hs
+        ∙ ap₂ (λ (k : ℕ) (z : Sort). fits (getD (typesOf rs) k (state 0)) z) t-is
+        (ap (λ k. getD (sortsOf rs) k o) s-is ∙ sym (sort-of f hf) ∙ ap (λ k. getD (signaturesOf rs) k o) f-is)
 
 -- The bindings one after the other.
 module _ (file index fit : List ℕ) (bindings : ℕ) where
@@ -73,14 +89,14 @@ module _ (file index fit : List ℕ) (bindings : ℕ) where
   pub fit-all : (i : ℕ) → FitTo i → bindings ≤ i → FindsMisfit file index fit bindings bindings
   fit-all i sofar h ns ts ss rs of = record { within = omega arith; fit-before = λ k l. sofar ns ts ss rs of k (omega arith); misfit-there = λ l. absurd (omega arith) }
 
-  module _ (i place f t start s x : ℕ) (sofar : FitTo i) (h : i < bindings) (ep : place ≡ getD index (bindingsAt + i) 0) (ef : f ≡ word file place)
-      (et : t ≡ word file (place + 2)) (eq : start ≡ getD index (nonterminalsAt + f) 0) (es : s ≡ word file start) (ex : x ≡ flag fit t s) where
-    pub fit-stop : x ≡ 0 → FindsMisfit file index fit bindings i
-    fit-stop z ns ts ss rs of = record { within = omega arith; fit-before = sofar ns ts ss rs of; misfit-there = λ l. misfit-here of i place f t start s x h ep ef et eq es ex z }
+  module _ (i place f t start s : ℕ) (x : Bool) (sofar : FitTo i) (h : i < bindings) (ep : place ≡ getD index (bindingsAt + i) 0) (ef : f ≡ word file place)
+      (et : t ≡ word file (place + 2)) (eq : start ≡ getD index (nonterminalsAt + f) 0) (es : s ≡ word file start) (tests : TestsFit file index fit t s x) where
+    pub fit-stop : x ≡ false → FindsMisfit file index fit bindings i
+    fit-stop z ns ts ss rs of = record { within = omega arith; fit-before = sofar ns ts ss rs of; misfit-there = λ l. sym (binding-tested of i place f t start s x h ep ef et eq es tests) ∙ z }
 
-    pub fit-more : (x ≡ 0 → ⊥) → FitTo (i + 1)
+    pub fit-more : x ≡ true → FitTo (i + 1)
     fit-more z ns ts ss rs of =
-        below-more (λ k. bindingFits rs (getD (payloads binding rs) k []) ≡ true) i (sofar ns ts ss rs of) (fit-here of i place f t start s x h ep ef et eq es ex z)
+        below-more (λ k. bindingFits rs (getD (payloads binding rs) k []) ≡ true) i (sofar ns ts ss rs of) (sym (binding-tested of i place f t start s x h ep ef et eq es tests) ∙ z)
 
 -- The tests of refusal 11, one a binding.
 module _ (signatures : List Sort) (types : List Ty) where

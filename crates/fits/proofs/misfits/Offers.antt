@@ -23,7 +23,7 @@ use Rattle.casefile.specs.Promises.{Passed, nothing, also}
 use Rattle.casefile.proofs.TypeTable.{count-payloads}
 use Rattle.index.specs.layout.Layout.{maxBindings}
 use Rattle.index.specs.entries.Index.{Indexed}
-use Rattle.fits.specs.flags.Fitted.{Fitted}
+use Rattle.fits.specs.fits.Filled.{Fitted, TypesAndSorts}
 use Rattle.fits.specs.misfits.Misfits.{Offered}
 
 -- what a tested record of a kind has, and more records leave, each record of the kind has
@@ -87,11 +87,12 @@ module _ {rs : List Record} (ok : Passed rs) where
 
   -- so the first misfit of such records is found by the index and a table that has their types and sorts
   pub offered : {file index : List ℕ} (fit : List ℕ) {bindings nonterminals types sorts : ℕ} → Indexed file index binding bindings rs → bindings ≤ maxBindings
-      → Indexed file index nonterminal nonterminals rs → Indexed file index type types rs → Indexed file index sort sorts rs → Fitted fit types sorts rs
-      → Offered file index fit bindings nonterminals types sorts rs
-  offered fit bs few ns ts ss table =
+      → Indexed file index nonterminal nonterminals rs → TypesAndSorts file index types sorts rs → Fitted fit types sorts rs → Offered file index fit bindings nonterminals types sorts rs
+  offered fit bs few ns listed table =
       let b = count-payloads binding rs in
       let n = count-payloads nonterminal rs in
+      let ts = listed .types-there in
+      let ss = listed .sorts-there in
       record {
         bindings-there = bs;
         bindings-whole = λ i h. whole binding i (omega arith);
@@ -101,5 +102,6 @@ module _ {rs : List Record} (ok : Passed rs) where
         nonterminals-named = λ i h. let q = binding-numbers i (omega arith) in omega arith;
         types-named = λ i h. let q = binding-numbers i (omega arith) in omega arith;
         sorts-named = λ i h. let q = nonterminal-sort i (omega arith) in omega arith;
+        listed = listed;
         table = table;
       }

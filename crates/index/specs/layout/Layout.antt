@@ -113,8 +113,20 @@ mostNodesAt = maxNonterminals
 abbrev pub rowsSize : ℕ
 rowsSize = maxNonterminals + 1
 
+abbrev pub fitSorts : ℕ
+fitSorts = 0
+
+abbrev pub fitResults : ℕ
+fitResults = 1
+
+abbrev pub fitArguments : ℕ
+fitArguments = 2
+
+abbrev pub fitMasks : ℕ
+fitMasks = 3
+
 abbrev pub fitsSize : ℕ
-fitsSize = 66560
+fitsSize = maxTypes * fitMasks
 
 abbrev pub maxGoals : ℕ
 maxGoals = maxTypes + maxStates

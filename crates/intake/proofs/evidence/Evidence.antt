@@ -15,9 +15,9 @@ use Rattle.casefile.specs.Kinds.{sort, nonterminal, type, binding, path, number
 use Rattle.casefile.specs.Tables.{signaturesOf, bindingsOf}
 use Rattle.casefile.specs.Refusals.{first, misfits}
 use Rattle.casefile.proofs.TypeTable.{count-payloads}
-use Rattle.index.specs.layout.Layout.{maxSorts, bindingsAt}
+use Rattle.index.specs.layout.Layout.{maxSorts, bindingsAt, fitsSize}
 use Rattle.index.specs.entries.Index.{Indexed}
-use Rattle.fits.specs.fits.Filled.{Fills}
+use Rattle.fits.specs.fits.Filled.{TypesAndSorts, Fills}
 use Rattle.fits.specs.misfits.Misfits.{FirstMisfit, FindsMisfit}
 use Rattle.fits.proofs.misfits.Misfits.{misfits-none, misfits-first}
 use Rattle.fits.proofs.misfits.Offers.{offered}
@@ -31,10 +31,11 @@ use Rattle.intake.specs.declared.plan.Plan.the-variants as plan
 use Rattle.intake.specs.declared.plan.Plan.{Plan}
 
 -- the table of fits, then the first binding that does not fit
-pub finds-first : (file index fit : List ℕ) (types sorts bindings r : ℕ) → Bytes file → Fills file index types sorts fit → FindsMisfit file index fit bindings r → FindsFirst file index types sorts bindings r
-finds-first file index fit types sorts bindings r bytes fills finds rs ok ti si bi n ni tf sf bf =
-    finds n types sorts rs (offered ok fit bi bf ni ti si
-    (fills rs (record { passed = ok; type-bytes = payload-bytes ti bytes; sort-bytes = payload-bytes si bytes; types-there = ti; sorts-there = si; few-types = tf; few-sorts = sf })))
+pub finds-first : (file index old fit : List ℕ) (types sorts bindings r : ℕ) → Bytes file → length old ≡ fitsSize → Fills file index types sorts old fit → FindsMisfit file index fit bindings r
+    → FindsFirst file index types sorts bindings r
+finds-first file index old fit types sorts bindings r bytes long fills finds rs ok ti si bi n ni tf sf bf =
+    let listed : TypesAndSorts file index types sorts rs = record { passed = ok; type-bytes = payload-bytes ti bytes; sort-bytes = payload-bytes si bytes; types-there = ti; sorts-there = si; few-types = tf; few-sorts = sf } in
+    finds n types sorts rs (offered ok fit bi bf ni listed (fills .filled rs listed (omega arith)))
 
 module _ {file index counts lens : List ℕ} {rs : List Record} (flags : ℕ) (known : Known file index lens counts rs) (ok : Passed rs) (fine : PlanFine rs)
     (types bindings paths : ℕ) (et : types ≡ getD counts 7 0) (eb : bindings ≡ getD counts 8 0) (ep : paths ≡ getD counts 9 0) where

@@ -2,6 +2,7 @@
 use Prim.Native.Nat.{_-_, _≤_}
 use native.Mathlib.Omega.{arith}
 use borrow.Author.Needs.{needs}
+use borrow.Author.Tests.{not-true, not-false}
 use Rattle.fits.proofs.misfits.Misfits.{FitTo, fit-none, fit-stop, fit-more, fit-all}
 use Rattle.fits.proofs.misfits.first_misfit.Statement.{statement}
 use Rattle.fits.proofs.misfits.first_misfit.Tie as tie
@@ -13,7 +14,7 @@ abbrev μ-loop : tie.MeasureT-loop
 μ-loop file index fit bindings i₀ i = bindings - i
 
 returns : tie.Need-returns Inv-loop μ-loop
-returns c ns ts ss rs of = absurd (omega arith)
+returns c = λ ns ts ss rs of. absurd (omega (arith, of .few-bindings))
 
 loop-holds : tie.Need-loop-holds Inv-loop μ-loop
 loop-holds c = (omega arith, fit-none _ _ _ _)
@@ -42,14 +43,14 @@ place-at-requires-2 c κs = search needs
 word-at-requires-3 : tie.Need-word-at-requires-3 Inv-loop μ-loop
 word-at-requires-3 c κs = search needs
 
-flag-at-requires : tie.Need-flag-at-requires Inv-loop μ-loop
-flag-at-requires c κs = search needs
+fits-sort-requires : tie.Need-fits-sort-requires Inv-loop μ-loop
+fits-sort-requires c κs = search needs
 
 returns-2 : tie.Need-returns-2 Inv-loop μ-loop
 returns-2 c =
-    let b = c .before .before .before .before .before .before in
-    fit-stop _ _ _ _ _ _ _ _ _ _ _ (b .before .before .loop .inv .1) (b .before .loop-test .taken) (b .place-at .ensures .value) (c .before .before .before .before .before .word-at .ensures .value)
-    (c .before .before .before .before .word-at2 .ensures .value) (c .before .before .before .place-at2 .ensures .value) (c .before .before .word-at3 .ensures .value) (c .before .flag-at .ensures) (c .if2 .taken)
+    let w = c .before .before in
+    let b = w .before .before .before .before in
+    fit-stop _ _ _ _ _ _ _ _ _ _ _ (b .before .before .loop .inv .1) (b .before .loop-test .taken) (b .place-at .ensures .value) (w .before .before .before .word-at .ensures .value) (w .before .before .word-at2 .ensures .value) (w .before .place-at2 .ensures .value) (w .word-at3 .ensures .value) (c .before .fits-sort .ensures) (not-true _ (c .if2 .taken))
 
 add-i : tie.Need-add-i Inv-loop μ-loop
 add-i c = omega arith
@@ -59,14 +60,14 @@ loop-less c = omega arith
 
 loop-again : tie.Need-loop-again Inv-loop μ-loop
 loop-again c =
-    let b = c .before .before .before .before .before .before in (
+    let w = c .before .before in
+    let b = w .before .before .before .before in (
       omega arith,
-      fit-more _ _ _ _ _ _ _ _ _ _ _ (b .before .before .loop .inv .1) (b .before .loop-test .taken) (b .place-at .ensures .value) (c .before .before .before .before .before .word-at .ensures .value)
-          (c .before .before .before .before .word-at2 .ensures .value) (c .before .before .before .place-at2 .ensures .value) (c .before .before .word-at3 .ensures .value) (c .before .flag-at .ensures) (c .if2 .left),
+      fit-more _ _ _ _ _ _ _ _ _ _ _ (b .before .before .loop .inv .1) (b .before .loop-test .taken) (b .place-at .ensures .value) (w .before .before .before .word-at .ensures .value) (w .before .before .word-at2 .ensures .value) (w .before .place-at2 .ensures .value) (w .word-at3 .ensures .value) (c .before .fits-sort .ensures) (not-false _ (c .if2 .left)),
     )
 
 returns-3 : tie.Need-returns-3 Inv-loop μ-loop
-returns-3 c = fit-all _ _ _ _ (c .before .loop .i) (c .before .loop .inv .1) (omega arith)
+returns-3 c = let l = c .before .loop in fit-all _ _ _ _ (l .i) (l .inv .1) (omega arith)
 
 pub first-misfit-spec : {M : Type 1} → statement M
 first-misfit-spec =
@@ -84,7 +85,7 @@ first-misfit-spec =
     add-place-at-2
     place-at-requires-2
     word-at-requires-3
-    flag-at-requires
+    fits-sort-requires
     returns-2
     add-i
     loop-less

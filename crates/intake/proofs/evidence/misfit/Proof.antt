@@ -12,7 +12,7 @@ first-misfit-requires : tie.Need-first-misfit-requires
 first-misfit-requires c κs = search needs
 
 returns : tie.Need-returns
-returns c = finds-first _ _ _ _ _ _ _ (λ k. omega (arith, c .before .before .before .before .before .before .shared-slice-known .given k)) (c .before .before .before .fill-fits .ensures) (c .first-misfit .ensures)
+returns c = finds-first _ _ _ _ _ _ _ _ (λ k. omega (arith, c .before .before .before .before .before .before .shared-slice-known .given k)) (omega arith) (c .before .before .before .fill-fits .ensures) (c .first-misfit .ensures)
 
 pub misfit-spec : {M : Type 1} → statement M
 misfit-spec = tie.close (tie.spec fill-fits-requires first-misfit-requires returns)

@@ -1,0 +1,51 @@
+// Sets of listed sorts as words, with bit i for sort i + 1.
+use index::entries::place_at;
+use index::layout::ALL_SORTS;
+use index::layout::FIT_MASKS;
+use index::layout::MAX_SORTS;
+use index::layout::SortMasks;
+use records::fields::word_at;
+ghost use mathlib.Core.Path.{_≡_};
+ghost use Prim.Native.Nat.{_<_, _≤_};
+ghost use Rattle.index.specs.layout.Layout.{maxSorts, fitMasks};
+ghost use Rattle.fits.specs.masks.Masks.{maskOf, SortsWith, Unites};
+
+// A word of the row of type t in a table of fits; 0 past its end.
+pub(crate) fn mask_at(fit: &[u64], t: usize, part: usize) -> u64
+    requires { ⌜ (t < 65536) × (part < fitMasks) ⌝ }
+    ensures { λ r. ⌜ r ≡ maskOf (now (fit .entry)) t part ⌝ }
+{
+    let at = t * FIT_MASKS + part;
+    if at < fit.len() { fit[at] } else { 0 }
+}
+
+// For each number of a sort, the listed sorts whose record has it at byte `at`, of a given number of sorts.
+pub(crate) fn sorts_with(file: &[u8], index: &[u16], sorts: usize, at: usize) -> SortMasks
+    requires { ⌜ (sorts ≤ maxSorts) × (at ≤ 2) ⌝ }
+    ensures { λ r. ⌜ SortsWith (now (file .entry)) (now (index .entry)) sorts at r ⌝ }
+{
+    let mut masks = [0u64; ALL_SORTS];
+    let mut i: usize = 0;
+    while i < sorts {
+        let number = word_at(file, place_at(index, i) + at);
+        if number <= MAX_SORTS {
+            masks[number] = masks[number] | 1u64 << (i as u64);
+        }
+        i = i + 1;
+    }
+    masks
+}
+
+// The union of the words that a table has for the sorts of a word.
+pub(crate) fn union_of(masks: &SortMasks, word: u64) -> u64
+    ensures { λ r. ⌜ Unites (now (masks .entry)) word r ⌝ }
+{
+    let mut out: u64 = 0;
+    let mut left = word;
+    while left != 0 {
+        let i = u64::trailing_zeros(left) as usize;
+        out = out | masks[i + 1];
+        left = left & (left - 1);
+    }
+    out
+}
