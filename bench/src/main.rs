@@ -5,12 +5,10 @@
 //! keeps its tables from call to call. Both run in one thread, by turns; each figure is a median of processor time. Before
 //! that, the fast implementation is compared with the reference of the differential tests.
 
-mod fast;
-
 use differential::classes::{self, Class, Subject};
+use differential::fast::Judge;
 use differential::verdict::Verdict;
 use differential::{generate, ground, library, reference};
-use fast::Judge;
 use std::hint::black_box;
 use std::process::ExitCode;
 use std::time::Duration;

@@ -1,6 +1,6 @@
 //! The files that are measured, by class, and files that double in one respect.
 
-use crate::case_file::{CaseFile, Node, TypeRecord, CONSTRUCTOR, NONTERMINAL, PARAMETER};
+use crate::case_file::{arrow, constructor, nonterminal, parameter, CaseFile, TypeRecord};
 use crate::ground;
 use crate::notation::case_file;
 
@@ -207,22 +207,6 @@ fn papers_examples() -> Result<Vec<Subject>, String> {
         ),
     ];
     examples.iter().map(|(name, text)| Ok(Subject::new(*name, &case_file(text)?))).collect()
-}
-
-fn constructor(number: usize, count: u8) -> Node {
-    Node { tag: CONSTRUCTOR, number: number as u16, count }
-}
-
-fn nonterminal(number: usize, count: u8) -> Node {
-    Node { tag: NONTERMINAL, number: number as u16, count }
-}
-
-fn parameter(number: u16, count: u8) -> Node {
-    Node { tag: PARAMETER, number, count }
-}
-
-fn arrow(members: &[u16], result: u16) -> TypeRecord {
-    TypeRecord::Arrow { result, members: members.to_vec() }
 }
 
 /// 64 sorts, 32 constructors, 256 nonterminals, 512 transitions, 1,024 types and 1,024 bindings; all but three hold.

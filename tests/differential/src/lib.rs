@@ -2,8 +2,10 @@
 
 pub mod case_file;
 pub mod classes;
+pub mod fast;
 pub mod generate;
 pub mod ground;
+pub mod hostile;
 pub mod library;
 mod notation;
 pub mod random;

@@ -4,7 +4,7 @@
 //! judge from call to call and are never cleared: counts and stamps tell what belongs to the file in hand. A check keeps
 //! what it found for a node and a goal; a replay shares the parts of its terms. Rounds are full rounds, as in the scope.
 
-use differential::verdict::Verdict;
+use crate::verdict::Verdict;
 
 const MOST_NODES: usize = 15_000;
 const MOST_SORTS: usize = 64;
