@@ -2,7 +2,8 @@
 //!
 //! One pass over the records fills fixed arrays and makes the tests 2 to 7, 9 and 11 on the way. The arrays stay with the
 //! judge from call to call and are never cleared: counts and stamps tell what belongs to the file in hand. A check keeps
-//! what it found for a node and a goal; a replay shares the parts of its terms. Rounds are full rounds, as in the scope.
+//! what it found for a node and a goal, and notes the bindings that it rests on; after a round only those bindings are tested
+//! again that rested on a dropped one, and what served last is tried first. A replay shares the parts of its terms.
 
 use crate::verdict::Verdict;
 
@@ -16,13 +17,10 @@ const UNLISTED: u8 = 65;
 const SORT_CODES: usize = 70;
 const NO_SORT: u8 = 255;
 
-/// Goals are the numbers of arrow types; a state is `STATE` and its number.
-const STATE: u16 = 1_024;
-const GOALS: usize = 1_040;
-
 const CONSTRUCTOR: u8 = 0;
 const NONTERMINAL: u8 = 1;
 
+/// The result of a state, which has none.
 const NONE: u16 = u16::MAX;
 
 /// A node of a body, and the node behind its term, counted within the rule.
@@ -90,6 +88,113 @@ impl Reading {
 
 const SLOTS: usize = 2_048;
 
+/// The binding that served last for a node and a goal, in the call whose number has these low bits: a hint of another call
+/// would make calls for one file faster than they are.
+#[derive(Clone, Copy)]
+struct Hint {
+    call: u16,
+    place: u16,
+}
+
+/// Cells of hints.
+const HINTS: usize = 1 << 15;
+const OWN_HINTS: usize = 1 << 18;
+/// A bucket of so many bindings is gone through without hints, in as many rounds; later one of one.
+const FEW: usize = 8;
+
+/// Bits for the bindings, or for the types, 64 in a word.
+const WORDS: usize = MOST_BINDINGS / 64;
+
+/// A set of bindings or of types. Words that `full` lacks hold anything.
+#[derive(Clone, Copy)]
+struct Set {
+    full: u32,
+    words: [u64; WORDS],
+}
+
+impl Set {
+    const NONE: Set = Set { full: 0, words: [0; WORDS] };
+
+    fn clear(&mut self) {
+        self.full = 0;
+    }
+
+    #[inline]
+    fn word(&self, word: usize) -> u64 {
+        if self.full >> word & 1 == 1 {
+            self.words[word]
+        } else {
+            0
+        }
+    }
+
+    #[inline]
+    fn put(&mut self, item: usize) {
+        self.words[item / 64] = self.word(item / 64) | 1 << (item % 64);
+        self.full |= 1 << (item / 64);
+    }
+
+    fn join(&mut self, other: &Set) {
+        for word in bits_in(u64::from(other.full)) {
+            self.words[word] = self.word(word) | other.words[word];
+        }
+        self.full |= other.full;
+    }
+
+    fn copy(&mut self, other: &Set) {
+        self.full = other.full;
+        bits_in(u64::from(other.full)).for_each(|word| self.words[word] = other.words[word]);
+    }
+
+    fn meets(&self, other: &Set) -> bool {
+        bits_in(u64::from(self.full & other.full)).any(|word| self.words[word] & other.words[word] != 0)
+    }
+}
+
+/// The numbers of the bits that a word has.
+fn bits_in(mut word: u64) -> impl Iterator<Item = usize> {
+    std::iter::from_fn(move || {
+        let bit = (word != 0).then_some(word.trailing_zeros() as usize);
+        word &= word.wrapping_sub(1);
+        bit
+    })
+}
+
+/// The places from one to another that are still to be gone through.
+struct Span {
+    from: usize,
+    to: usize,
+}
+
+impl Span {
+    fn new((from, to): (u16, u16)) -> Span {
+        Span { from: usize::from(from), to: usize::from(to) }
+    }
+
+    /// The next place that has a bit.
+    #[inline]
+    fn next(&mut self, bits: &[u64; WORDS]) -> Option<usize> {
+        while self.from < self.to {
+            let left = bits[self.from / 64] >> (self.from % 64);
+            if left != 0 {
+                let place = self.from + left.trailing_zeros() as usize;
+                self.from = place + 1;
+                return (place < self.to).then_some(place);
+            }
+            self.from = (self.from / 64 + 1) * 64;
+        }
+        None
+    }
+}
+
+/// States that a node was asked for in the test with the stamp, and those of them that it has.
+#[derive(Clone, Copy)]
+struct Found {
+    stamp: u64,
+    known: u16,
+    had: u16,
+}
+
 /// Number and place.
 type Refusal = (u64, usize);
 
@@ -133,26 +238,60 @@ pub struct Judge {
     nonterminals: [u8; 256],
     first_nodes: [u16; 257],
     nodes: [Node; MOST_NODES],
-    present: [u32; 16],
+    /// By constructor: the states that have a transition.
+    present: [u16; 32],
     targets: [[[u8; 4]; 32]; 16],
     // the evidence
     type_places: [(u16, u16); MOST_TYPES],
-    goals: [u16; MOST_TYPES],
     results: [u16; MOST_TYPES],
+    /// The final state of a type.
+    ends: [u8; MOST_TYPES],
     members: [u16; 16 * MOST_TYPES],
     first_members: [u16; MOST_TYPES + 1],
+    /// The states among the members of a type.
+    member_states: [u16; MOST_TYPES],
     fits: [u128; MOST_TYPES],
     slots: [(u64, u16); SLOTS],
     binding_nonterminals: [u8; MOST_BINDINGS],
-    groups: [u16; 257],
-    /// By arrows off and binding: the goal that is left.
-    left: [[u16; MOST_BINDINGS]; 9],
-    by_state: [[u16; 16]; 256],
-    next: [u16; MOST_BINDINGS],
-    kept: [u8; MOST_BINDINGS],
-    tested: [u8; MOST_BINDINGS],
-    memo: [u32; 256 * GOALS],
-    stamp: u32,
+    binding_types: [u16; MOST_BINDINGS],
+    // the bindings by place: by nonterminal, final state and type
+    bindings: [u16; MOST_BINDINGS],
+    types: [u16; MOST_BINDINGS],
+    first_states: [u16; MOST_BINDINGS],
+    /// The places of a nonterminal's bindings to a final state, where it has some.
+    buckets: [[(u16, u16); 16]; 256],
+    /// The final states of a nonterminal's kept bindings.
+    bound: [u16; 256],
+    kept: [u64; WORDS],
+    /// What the last test of a binding rested on, and the bindings that rested on one.
+    rows: [Set; MOST_BINDINGS],
+    columns: [Set; MOST_BINDINGS],
+    round: u64,
+    later: bool,
+    narrow: usize,
+    // the test in hand
+    stamp: u64,
+    tested: usize,
+    first: usize,
+    /// By parameter: the arrow that takes it, and the states that it has.
+    parts: [u16; 8],
+    part_states: [u16; 8],
+    used: Set,
+    found: [Found; 256],
+    arrow_stamps: [u64; 256],
+    arrows_known: [Set; 256],
+    arrows_had: [Set; 256],
+    // for all tests
+    serving: bool,
+    serves: [[u64; WORDS]; MOST_TYPES],
+    member_sets: [Set; MOST_TYPES],
+    member_set_calls: [u64; MOST_TYPES],
+    /// By type: the round and the nonterminal that was asked for its members, and in the lowest bit whether it has them; the
+    /// test that noted what serves.
+    bare: [u64; MOST_TYPES],
+    noted: [u64; MOST_TYPES],
+    hints: [Hint; HINTS],
+    own_hints: [Hint; OWN_HINTS],
     call: u64,
     // replay
     cells: [[Cell; CELLS]; 2],
@@ -179,24 +318,47 @@ impl Judge {
             nonterminals: [0; 256],
             first_nodes: [0; 257],
             nodes: [Node { tag: 0, count: 0, number: 0, end: 0 }; MOST_NODES],
-            present: [0; 16],
+            present: [0; 32],
             targets: [[[0; 4]; 32]; 16],
             type_places: [(0, 0); MOST_TYPES],
-            goals: [0; MOST_TYPES],
             results: [0; MOST_TYPES],
+            ends: [0; MOST_TYPES],
             members: [0; 16 * MOST_TYPES],
             first_members: [0; MOST_TYPES + 1],
+            member_states: [0; MOST_TYPES],
             fits: [0; MOST_TYPES],
             slots: [(0, 0); SLOTS],
             binding_nonterminals: [0; MOST_BINDINGS],
-            groups: [0; 257],
-            left: [[0; MOST_BINDINGS]; 9],
-            by_state: [[0; 16]; 256],
-            next: [0; MOST_BINDINGS],
-            kept: [0; MOST_BINDINGS],
-            tested: [0; MOST_BINDINGS],
-            memo: [0; 256 * GOALS],
+            binding_types: [0; MOST_BINDINGS],
+            bindings: [0; MOST_BINDINGS],
+            types: [0; MOST_BINDINGS],
+            first_states: [0; MOST_BINDINGS],
+            buckets: [[(0, 0); 16]; 256],
+            bound: [0; 256],
+            kept: [0; WORDS],
+            rows: [Set::NONE; MOST_BINDINGS],
+            columns: [Set::NONE; MOST_BINDINGS],
+            round: 0,
+            later: false,
+            narrow: FEW,
             stamp: 0,
+            tested: 0,
+            first: 0,
+            parts: [0; 8],
+            part_states: [0; 8],
+            used: Set::NONE,
+            found: [Found { stamp: 0, known: 0, had: 0 }; 256],
+            arrow_stamps: [0; 256],
+            arrows_known: [Set::NONE; 256],
+            arrows_had: [Set::NONE; 256],
+            serving: false,
+            serves: [[0; WORDS]; MOST_TYPES],
+            member_sets: [Set::NONE; MOST_TYPES],
+            member_set_calls: [0; MOST_TYPES],
+            bare: [0; MOST_TYPES],
+            noted: [0; MOST_TYPES],
+            hints: [Hint { call: 0, place: 0 }; HINTS],
+            own_hints: [Hint { call: 0, place: 0 }; OWN_HINTS],
             call: 0,
             cells: [[cell; CELLS]; 2],
         });
@@ -228,7 +390,7 @@ impl Judge {
         self.tree_sorts = [0, UNLISTED + 1, UNLISTED + 2, UNLISTED + 3, UNLISTED + 4];
         self.with_from[0] = 0;
         self.with_to[0] = 0;
-        self.present = [0; 16];
+        self.present = [0; 32];
         self.call += 1;
         self.walk(file)?;
         let now = &self.now;
@@ -411,7 +573,7 @@ impl Judge {
             return Err(7);
         }
         self.now.last_transition = pair;
-        self.present[usize::from(state)] |= 1 << constructor;
+        self.present[usize::from(constructor)] |= 1 << state;
         self.targets[usize::from(state)][usize::from(constructor)] = targets;
         self.now.transitions += 1;
         Ok(())
@@ -517,7 +679,8 @@ impl Judge {
                 return Err(7);
             }
             self.now.listed_states |= 1 << state;
-            self.goals[count] = STATE + u16::from(state);
+            self.results[count] = NONE;
+            self.ends[count] = state;
             self.fits[count] = 1;
         } else {
             self.arrow(file, payload)?;
@@ -537,6 +700,7 @@ impl Judge {
         let first = self.now.members;
         self.first_members[count] = first as u16;
         let mut all_fit = u128::MAX;
+        let mut states = 0;
         let mut next = first;
         let mut least = 0;
         let mut ascending = true;
@@ -549,7 +713,10 @@ impl Judge {
             ascending &= member >= least;
             least = member + 1;
             all_fit &= self.fits[member];
-            self.members[next] = self.goals[member];
+            if self.results[member] == NONE {
+                states |= 1 << self.ends[member];
+            }
+            self.members[next] = member as u16;
             hash = (hash.rotate_left(7) ^ member as u64).wrapping_mul(0x9E37_79B9_7F4A_7C15);
             next += 1;
         }
@@ -557,8 +724,9 @@ impl Judge {
             return Err(7);
         }
         self.now.members = next;
-        self.goals[count] = count as u16;
-        self.results[count] = self.goals[result];
+        self.results[count] = result as u16;
+        self.ends[count] = self.ends[result];
+        self.member_states[count] = states;
         let results = union_of(self.fits[result], &self.with_to);
         self.fits[count] = if next == first { results } else { results & union_of(all_fit, &self.with_from) };
         Ok(())
@@ -599,7 +767,7 @@ impl Judge {
             self.now.misfit = place;
         }
         self.binding_nonterminals[count] = nonterminal as u8;
-        self.left[0][count] = self.goals[ty];
+        self.binding_types[count] = ty as u16;
         self.now.bindings = count + 1;
         Ok(())
     }
@@ -608,212 +776,593 @@ impl Judge {
 
     fn shrink(&mut self, flags: &mut [u8]) -> Verdict {
         let total = self.now.bindings;
-        self.group();
-        self.kept[..total].fill(1);
+        self.place_bindings();
+        self.begin_rounds();
+        flags[..total].fill(1);
+        let mut failed = [0; MOST_BINDINGS];
+        let mut count = self.first_round(&mut failed);
         let mut kept = total;
         let mut rounds = 0;
-        loop {
-            let mut left = 0;
-            for binding in 0..total {
-                let holds = self.kept[binding] == 1 && self.holds(binding);
-                self.tested[binding] = u8::from(holds);
-                left += usize::from(holds);
-            }
-            if left == kept {
-                break;
-            }
-            kept = left;
+        while count > 0 {
+            kept -= count;
             rounds += 1;
-            std::mem::swap(&mut self.kept, &mut self.tested);
+            failed[..count].iter().for_each(|&place| flags[usize::from(self.bindings[usize::from(place)])] = 0);
+            count = self.later_round(&mut failed, count, rounds);
         }
-        flags[..total].copy_from_slice(&self.kept[..total]);
-        let start = usize::from(self.groups[1]);
-        let accepted = (0..start).any(|binding| self.left[0][binding] == STATE && self.kept[binding] == 1);
         let (kept, total) = (kept as u64, total as u64);
-        if accepted {
+        if self.bound[0] & 1 == 1 {
             Verdict::Proved { kept, total, rounds }
         } else {
             Verdict::Unproved { kept, total, rounds }
         }
     }
 
-    /// Where the bindings of each nonterminal begin; what is left of their types behind each arrow; those that end in each
-    /// state.
-    fn group(&mut self) {
+    /// Orders the bindings by nonterminal, final state and type: those of a nonterminal and a final state are its bucket.
+    fn place_bindings(&mut self) {
         let total = self.now.bindings;
-        let mut binding = 0;
+        let mut end = 0;
         for nonterminal in 0..self.now.nonterminals {
-            self.groups[nonterminal] = binding as u16;
-            let arity = usize::from(self.arity[usize::from(self.nonterminals[nonterminal])]);
-            self.by_state[nonterminal] = [NONE; 16];
-            let first = binding;
-            while binding < total && usize::from(self.binding_nonterminals[binding]) == nonterminal {
-                let mut goal = self.left[0][binding];
-                for off in 1..=arity {
-                    goal = self.results[usize::from(goal)];
-                    self.left[off][binding] = goal;
+            let first = end;
+            let mut counts = [0u16; 16];
+            let mut bound = 0;
+            while end < total && usize::from(self.binding_nonterminals[end]) == nonterminal {
+                let state = self.ends[usize::from(self.binding_types[end])];
+                counts[usize::from(state)] += 1;
+                bound |= 1 << state;
+                end += 1;
+            }
+            self.bound[nonterminal] = bound;
+            let mut from = first as u16;
+            for state in bits_in(u64::from(bound)) {
+                let to = from + counts[state];
+                self.buckets[nonterminal][state] = (from, to);
+                counts[state] = from;
+                from = to;
+            }
+            for binding in first..end {
+                let ty = self.binding_types[binding];
+                let next = &mut counts[usize::from(self.ends[usize::from(ty)])];
+                let place = usize::from(*next);
+                *next += 1;
+                self.bindings[place] = binding as u16;
+                self.types[place] = ty;
+                self.first_states[place] = self.member_states[usize::from(ty)];
+            }
+        }
+    }
+
+    fn begin_rounds(&mut self) {
+        let total = self.now.bindings;
+        self.kept = [0; WORDS];
+        (0..total).for_each(|place| self.kept[place / 64] |= 1 << (place % 64));
+        self.serving = false;
+        self.later = false;
+        self.narrow = FEW;
+        self.round += 1;
+    }
+
+    /// Tests all bindings; lists those that fail, and gives their number.
+    fn first_round(&mut self, failed: &mut [u16; MOST_BINDINGS]) -> usize {
+        let mut count = 0;
+        for place in 0..self.now.bindings {
+            if !self.holds(place) {
+                failed[count] = place as u16;
+                count += 1;
+            }
+        }
+        if count > 0 {
+            self.fill_columns();
+            self.later = true;
+        }
+        count
+    }
+
+    /// Drops what failed in the round before, tests what rested on it, and lists what fails.
+    fn later_round(&mut self, failed: &mut [u16; MOST_BINDINGS], count: usize, rounds: u64) -> usize {
+        let mut lost = Set::NONE;
+        let mut touched = Set::NONE;
+        for &place in &failed[..count] {
+            let place = usize::from(place);
+            self.drop_binding(place);
+            lost.put(place);
+            touched.join(&self.columns[place]);
+        }
+        self.round += 1;
+        if rounds > FEW as u64 {
+            self.narrow = 1;
+        }
+        let mut count = 0;
+        for word in bits_in(u64::from(touched.full)) {
+            for bit in bits_in(touched.words[word] & self.kept[word]) {
+                let place = word * 64 + bit;
+                if self.rows[place].meets(&lost) && !self.holds(place) {
+                    failed[count] = place as u16;
+                    count += 1;
                 }
-                binding += 1;
-            }
-            for binding in (first..binding).rev() {
-                let state = usize::from(self.left[arity][binding] - STATE);
-                self.next[binding] = self.by_state[nonterminal][state];
-                self.by_state[nonterminal][state] = binding as u16;
             }
         }
-        self.groups[self.now.nonterminals] = total as u16;
+        count
     }
 
-    fn holds(&mut self, binding: usize) -> bool {
-        if self.stamp >= u32::MAX / 2 - 1 {
-            self.memo.fill(0);
-            self.stamp = 0;
+    /// Drops a binding from all that is gone through; a final state that no kept binding has goes too.
+    fn drop_binding(&mut self, place: usize) {
+        let (word, bit) = (place / 64, 1 << (place % 64));
+        self.kept[word] &= !bit;
+        let mut ty = self.types[place];
+        let state = usize::from(self.ends[usize::from(ty)]);
+        if self.serving {
+            while self.results[usize::from(ty)] != NONE {
+                self.serves[usize::from(ty)][word] &= !bit;
+                ty = self.results[usize::from(ty)];
+            }
         }
+        let nonterminal = usize::from(self.binding_nonterminals[place]);
+        let (from, to) = self.buckets[nonterminal][state];
+        if Span::new((from, to)).next(&self.kept).is_none() {
+            self.bound[nonterminal] &= !(1 << state);
+        }
+    }
+
+    // Notes: what a test rests on
+
+    fn note(&mut self, place: usize) {
+        self.used.put(place);
+    }
+
+    /// Whether the binding at a place holds against those that are kept. What a yes used becomes its row.
+    fn holds(&mut self, place: usize) -> bool {
+        let mut ty = usize::from(self.types[place]);
+        let state = self.ends[ty];
+        let mut parameter = 0;
+        while self.results[ty] != NONE {
+            self.parts[parameter] = ty as u16;
+            self.part_states[parameter] = self.member_states[ty];
+            ty = usize::from(self.results[ty]);
+            parameter += 1;
+        }
+        let nonterminal = usize::from(self.binding_nonterminals[place]);
+        self.first = usize::from(self.first_nodes[nonterminal]);
+        self.tested = place;
         self.stamp += 1;
-        let nonterminal = usize::from(self.binding_nonterminals[binding]);
-        let arity = usize::from(self.arity[usize::from(self.nonterminals[nonterminal])]);
-        let first = usize::from(self.first_nodes[nonterminal]);
-        self.has(first, binding, 0, self.left[arity][binding])
+        self.used.clear();
+        let holds = self.has_states(0, 1 << state);
+        if holds {
+            self.enter_row(place);
+        } else {
+            self.rows[place].clear();
+        }
+        holds
     }
 
-    /// Whether the term at a node of the body that begins at `first` has a goal, under the members that `binding` gives.
-    fn has(&mut self, first: usize, binding: usize, node: usize, goal: u16) -> bool {
-        let Node { tag, count, number, .. } = self.nodes[first + node];
+    /// The notes of a test become the row of its binding; after the first round the columns follow.
+    fn enter_row(&mut self, place: usize) {
+        if self.later {
+            for word in bits_in(u64::from(self.used.full)) {
+                let new = self.used.words[word] & !self.rows[place].word(word);
+                self.enter_columns(place, word, new);
+            }
+        }
+        self.rows[place].copy(&self.used);
+    }
+
+    /// Puts a place into the columns of those that a word of its row names.
+    fn enter_columns(&mut self, place: usize, word: usize, bits: u64) {
+        bits_in(bits).for_each(|bit| self.columns[word * 64 + bit].put(place));
+    }
+
+    fn fill_columns(&mut self) {
+        let total = self.now.bindings;
+        self.columns[..total].iter_mut().for_each(Set::clear);
+        for place in 0..total {
+            for word in bits_in(u64::from(self.rows[place].full)) {
+                self.enter_columns(place, word, self.rows[place].words[word]);
+            }
+        }
+    }
+
+    // The check of states
+
+    /// Whether the term at a node of the body has all of some states.
+    fn has_states(&mut self, node: usize, states: u16) -> bool {
+        let Node { tag, count, number, .. } = self.nodes[self.first + node];
         let number = usize::from(number);
         if count == 0 {
-            return self.lone_has(binding, tag, number, goal);
+            return self.alone_has_states(tag, number, states);
         }
-        let place = usize::from(goal) * 256 + node;
-        let found = self.memo[place];
-        if found >> 1 == self.stamp {
-            return found & 1 == 1;
+        if tag == CONSTRUCTOR && states & (states - 1) == 0 {
+            return self.constructor_has(node, states.trailing_zeros() as usize);
         }
-        let has = match tag {
-            CONSTRUCTOR => self.constructor_has(first, binding, node, goal),
-            NONTERMINAL => self.nonterminal_has(first, binding, node, goal),
-            _ => {
-                let (from, to) = self.members_of(self.left[number][binding]);
-                (from..to).any(|member| {
-                    let mut rest = self.members[member];
-                    for _ in 0..count {
-                        rest = self.results[usize::from(rest)];
-                    }
-                    rest == goal && self.arguments_have(first, binding, node, self.members[member])
-                })
-            }
-        };
-        self.memo[place] = self.stamp << 1 | u32::from(has);
-        has
-    }
-
-    fn lone_has(&self, binding: usize, tag: u8, number: usize, goal: u16) -> bool {
-        match tag {
-            CONSTRUCTOR => self.row_of(number, 0, goal).is_some(),
-            NONTERMINAL => {
-                let group = usize::from(self.groups[number])..usize::from(self.groups[number + 1]);
-                if goal >= STATE {
-                    let found = self.by_state[number][usize::from(goal - STATE)];
-                    return found != NONE && self.kept[usize::from(found)] == 1;
-                }
-                // Within a group types ascend, and an arrow's goal is its number.
-                let found = self.left[0][group.clone()].binary_search(&goal);
-                found.is_ok_and(|place| self.kept[group.start + place] == 1)
-            }
-            _ => {
-                let (from, to) = self.members_of(self.left[number][binding]);
-                self.members[from..to].contains(&goal)
-            }
+        let mut found = self.found[node];
+        if found.stamp != self.stamp {
+            found = Found { stamp: self.stamp, known: 0, had: 0 };
         }
-    }
-
-    fn members_of(&self, arrow: u16) -> (usize, usize) {
-        let arrow = usize::from(arrow);
-        (usize::from(self.first_members[arrow]), usize::from(self.first_members[arrow + 1]))
-    }
-
-    /// The targets of a constructor, if its type with some arrows off is the goal.
-    fn row_of(&self, constructor: usize, given: usize, goal: u16) -> Option<[u8; 4]> {
-        let arity = usize::from(self.constructors[constructor]);
-        let mut rest = goal;
-        let mut asked = [0u8; 4];
-        for target in &mut asked[given..arity] {
-            if rest >= STATE {
-                return None;
-            }
-            let (from, to) = self.members_of(rest);
-            if to != from + 1 || self.members[from] < STATE {
-                return None;
-            }
-            *target = (self.members[from] - STATE) as u8;
-            rest = self.results[usize::from(rest)];
-        }
-        if rest < STATE {
-            return None;
-        }
-        let state = usize::from(rest - STATE);
-        if self.present[state] >> constructor & 1 == 0 {
-            return None;
-        }
-        let targets = self.targets[state][constructor];
-        (targets[given..arity] == asked[given..arity]).then_some(targets)
-    }
-
-    fn constructor_has(&mut self, first: usize, binding: usize, node: usize, goal: u16) -> bool {
-        let Node { number, count, .. } = self.nodes[first + node];
-        let Some(targets) = self.row_of(usize::from(number), usize::from(count), goal) else {
+        if states & found.known & !found.had != 0 {
             return false;
-        };
-        let mut argument = node + 1;
-        for &target in &targets[..usize::from(count)] {
-            if !self.has(first, binding, argument, STATE + u16::from(target)) {
-                return false;
+        }
+        let mut all = true;
+        for state in bits_in(u64::from(states & !found.known)) {
+            all = match tag {
+                CONSTRUCTOR => self.constructor_has(node, state),
+                NONTERMINAL => self.nonterminal_has(node, state),
+                _ => self.parameter_has(node, number, state),
+            };
+            found.known |= 1 << state;
+            if !all {
+                break;
             }
-            argument = usize::from(self.nodes[first + argument].end);
+            found.had |= 1 << state;
+        }
+        self.found[node] = found;
+        all
+    }
+
+    /// The states that a head alone has.
+    fn states_alone(&self, tag: u8, number: usize) -> u16 {
+        match tag {
+            CONSTRUCTOR => self.present[number],
+            NONTERMINAL => self.bound[number],
+            _ => self.part_states[number],
+        }
+    }
+
+    fn alone_has_states(&mut self, tag: u8, number: usize, states: u16) -> bool {
+        if states & !self.states_alone(tag, number) != 0 {
+            return false;
+        }
+        if tag == NONTERMINAL {
+            // Of a nonterminal of trees each binding is alone in its bucket.
+            bits_in(u64::from(states)).for_each(|state| self.note(usize::from(self.buckets[number][state].0)));
         }
         true
     }
 
-    fn nonterminal_has(&mut self, first: usize, binding: usize, node: usize, goal: u16) -> bool {
-        let Node { number, count, .. } = self.nodes[first + node];
-        let (number, count) = (usize::from(number), usize::from(count));
-        if goal >= STATE {
-            let mut candidate = self.by_state[number][usize::from(goal - STATE)];
-            while candidate != NONE {
-                let there = usize::from(candidate);
-                if self.kept[there] == 1 && self.arguments_have(first, binding, node, self.left[0][there]) {
-                    return true;
-                }
-                candidate = self.next[there];
-            }
+    /// The states that the term at a node is known to lack.
+    fn lacks(&self, node: usize) -> u16 {
+        let Node { tag, count, number, .. } = self.nodes[self.first + node];
+        if count == 0 {
+            return !self.states_alone(tag, usize::from(number));
+        }
+        let found = self.found[node];
+        if found.stamp == self.stamp {
+            found.known & !found.had
+        } else {
+            0
+        }
+    }
+
+    fn constructor_has(&mut self, node: usize, state: usize) -> bool {
+        let Node { number, count, .. } = self.nodes[self.first + node];
+        let constructor = usize::from(number);
+        if self.present[constructor] >> state & 1 == 0 {
             return false;
         }
-        let (from, to) = (usize::from(self.groups[number]), usize::from(self.groups[number + 1]));
-        for candidate in from..to {
-            if self.left[count][candidate] == goal
-                && self.kept[candidate] == 1
-                && self.arguments_have(first, binding, node, self.left[0][candidate])
-            {
+        let targets = self.targets[state][constructor];
+        self.arguments_have_targets(node, &targets[..usize::from(count)])
+    }
+
+    fn arguments_have_targets(&mut self, node: usize, targets: &[u8]) -> bool {
+        let mut argument = node + 1;
+        for &target in targets {
+            if !self.has_states(argument, 1 << target) {
+                return false;
+            }
+            argument = usize::from(self.nodes[self.first + argument].end);
+        }
+        true
+    }
+
+    fn nonterminal_has(&mut self, node: usize, state: usize) -> bool {
+        let number = usize::from(self.nodes[self.first + node].number);
+        if self.bound[number] >> state & 1 == 0 {
+            return false;
+        }
+        let (from, to) = self.buckets[number][state];
+        let wide = usize::from(to - from) > self.narrow;
+        if wide && self.hinted(node, state) {
+            return true;
+        }
+        let mut lacking = self.lacks(node + 1);
+        let mut span = Span::new((from, to));
+        while let Some(place) = span.next(&self.kept) {
+            if self.first_states[place] & lacking != 0 {
+                continue;
+            }
+            if self.arguments_have(node, self.types[place]) {
+                self.note(place);
+                if wide {
+                    self.hint(node, state, place);
+                }
+                return true;
+            }
+            lacking = self.lacks(node + 1);
+        }
+        false
+    }
+
+    fn parameter_has(&mut self, node: usize, number: usize, state: usize) -> bool {
+        let (from, to) = self.members_of(self.parts[number]);
+        (from..to).any(|member| {
+            let ty = self.members[member];
+            usize::from(self.ends[usize::from(ty)]) == state && self.arguments_have(node, ty)
+        })
+    }
+
+    /// Whether each argument of a node has every member that the arrows of a type ask of it.
+    fn arguments_have(&mut self, node: usize, ty: u16) -> bool {
+        let mut rest = ty;
+        let mut argument = node + 1;
+        for _ in 0..self.nodes[self.first + node].count {
+            let states = self.member_states[usize::from(rest)];
+            // A type that fits a sort has sets of states alone or of arrows alone.
+            let has = if states != 0 { self.has_states(argument, states) } else { self.has_arrows(argument, rest) };
+            if !has {
+                return false;
+            }
+            argument = usize::from(self.nodes[self.first + argument].end);
+            rest = self.results[usize::from(rest)];
+        }
+        true
+    }
+
+    // Hints: what served before is tried first. Any number will do for a hint
+
+    /// The cell of a node and a goal, a state or 16 and a type, for all tests, and for those of one binding.
+    fn shared_cell(&self, node: usize, goal: usize) -> usize {
+        ((self.first + node) * 16 + goal) % HINTS
+    }
+
+    fn own_cell(&self, node: usize, goal: usize) -> usize {
+        ((self.first + node) * 16 + goal + self.tested * 4_093) % OWN_HINTS
+    }
+
+    fn hint(&mut self, node: usize, goal: usize, place: usize) {
+        let hint = Hint { call: self.call as u16, place: place as u16 };
+        self.hints[self.shared_cell(node, goal)] = hint;
+        self.own_hints[self.own_cell(node, goal)] = hint;
+    }
+
+    /// Whether something that served before serves for a node and a goal: what did last for any binding, what did last for this
+    /// one, then all that the last test of this one used.
+    fn hinted(&mut self, node: usize, goal: usize) -> bool {
+        let shared = self.hinted_by(self.hints[self.shared_cell(node, goal)]);
+        if shared.is_some_and(|place| self.serves_for(node, goal, place)) {
+            return true;
+        }
+        if !self.later {
+            return false;
+        }
+        let own = self.hinted_by(self.own_hints[self.own_cell(node, goal)]).filter(|&place| shared != Some(place));
+        let found = own.filter(|&place| self.serves_for(node, goal, place)).or_else(|| self.row_serves(node, goal));
+        found.map(|place| self.hint(node, goal, place)).is_some()
+    }
+
+    fn hinted_by(&self, hint: Hint) -> Option<usize> {
+        (hint.call == self.call as u16).then_some(usize::from(hint.place))
+    }
+
+    fn row_serves(&mut self, node: usize, goal: usize) -> Option<usize> {
+        let (from, to) = self.bucket(node, goal);
+        for word in usize::from(from) / 64..usize::from(to).div_ceil(64) {
+            let row = self.rows[self.tested].word(word);
+            let found = bits_in(row).map(|bit| word * 64 + bit).find(|&place| self.serves_for(node, goal, place));
+            if found.is_some() {
+                return found;
+            }
+        }
+        None
+    }
+
+    /// The bucket of a node's head and a goal.
+    fn bucket(&self, node: usize, goal: usize) -> (u16, u16) {
+        let state = if goal < 16 { goal } else { usize::from(self.ends[goal - 16]) };
+        self.buckets[usize::from(self.nodes[self.first + node].number)][state]
+    }
+
+    /// Whether the binding at a place, any number, serves for a node and a goal.
+    fn serves_for(&mut self, node: usize, goal: usize, place: usize) -> bool {
+        let (from, to) = self.bucket(node, goal);
+        if place < usize::from(from) || place >= usize::from(to) || self.kept[place / 64] >> (place % 64) & 1 == 0 {
+            return false;
+        }
+        let ty = self.types[place];
+        if goal >= 16 && usize::from(self.without(ty, self.nodes[self.first + node].count)) != goal - 16 {
+            return false;
+        }
+        if !self.arguments_have(node, ty) {
+            return false;
+        }
+        self.note(place);
+        true
+    }
+
+    // The check of arrows
+
+    /// A type with arrows off.
+    fn without(&self, ty: u16, arrows: u8) -> u16 {
+        (0..arrows).fold(ty, |rest, _| self.results[usize::from(rest)])
+    }
+
+    /// Whether the term at a node has all members, arrows, of a type.
+    fn has_arrows(&mut self, node: usize, of: u16) -> bool {
+        let (from, to) = self.members_of(of);
+        if from == to {
+            return true;
+        }
+        let Node { tag, count, number, .. } = self.nodes[self.first + node];
+        match tag {
+            CONSTRUCTOR => (from..to).all(|member| self.constructor_leads(node, self.members[member])),
+            NONTERMINAL if count == 0 => self.nonterminal_alone_has(usize::from(number), of),
+            _ if count == 0 => {
+                let (low, high) = self.members_of(self.parts[usize::from(number)]);
+                contains_all(&self.members[low..high], &self.members[from..to])
+            }
+            _ => self.head_leads(node, of),
+        }
+    }
+
+    fn constructor_leads(&mut self, node: usize, goal: u16) -> bool {
+        let Node { number, count, .. } = self.nodes[self.first + node];
+        let Some(targets) = self.row_of(usize::from(number), usize::from(count), goal) else {
+            return false;
+        };
+        self.arguments_have_targets(node, &targets[..usize::from(count)])
+    }
+
+    /// The targets of a constructor, if its type with some arrows off is the goal.
+    fn row_of(&self, constructor: usize, given: usize, goal: u16) -> Option<[u8; 4]> {
+        let state = usize::from(self.ends[usize::from(goal)]);
+        if self.present[constructor] >> state & 1 == 0 {
+            return None;
+        }
+        let targets = self.targets[state][constructor];
+        let mut rest = usize::from(goal);
+        for &target in &targets[given..usize::from(self.constructors[constructor])] {
+            if self.member_states[rest] != 1 << target {
+                return None;
+            }
+            rest = usize::from(self.results[rest]);
+        }
+        Some(targets)
+    }
+
+    /// Whether a nonterminal alone has all members of a type. That depends on the kept alone: the answer stands for the round.
+    fn nonterminal_alone_has(&mut self, nonterminal: usize, of: u16) -> bool {
+        let (from, to) = self.members_of(of);
+        let of = usize::from(of);
+        let key = self.round << 9 | (nonterminal as u64) << 1;
+        if self.bare[of] & !1 != key {
+            let all = (from..to).all(|member| self.bound_place(nonterminal, self.members[member]).is_some());
+            self.bare[of] = key | u64::from(all);
+            self.noted[of] = 0;
+        }
+        if self.bare[of] & 1 == 1 && self.noted[of] != self.stamp {
+            self.noted[of] = self.stamp;
+            for member in from..to {
+                if let Some(place) = self.bound_place(nonterminal, self.members[member]) {
+                    self.note(place);
+                }
+            }
+        }
+        self.bare[of] & 1 == 1
+    }
+
+    /// The place of a nonterminal's kept binding to a type.
+    fn bound_place(&self, nonterminal: usize, ty: u16) -> Option<usize> {
+        let state = usize::from(self.ends[usize::from(ty)]);
+        if self.bound[nonterminal] >> state & 1 == 0 {
+            return None;
+        }
+        let (from, to) = self.buckets[nonterminal][state];
+        let from = usize::from(from);
+        let place = from + self.types[from..usize::from(to)].binary_search(&ty).ok()?;
+        (self.kept[place / 64] >> (place % 64) & 1 == 1).then_some(place)
+    }
+
+    /// Whether a head with arguments has all members of a type. What a node has is kept for the test.
+    fn head_leads(&mut self, node: usize, of: u16) -> bool {
+        if self.arrow_stamps[node] != self.stamp {
+            self.arrow_stamps[node] = self.stamp;
+            self.arrows_known[node].clear();
+            self.arrows_had[node].clear();
+        }
+        let of = usize::from(of);
+        self.fill_member_set(of);
+        let (known, had) = (&self.arrows_known[node], &self.arrows_had[node]);
+        let asked = &self.member_sets[of];
+        if bits_in(u64::from(asked.full)).any(|word| asked.words[word] & known.word(word) & !had.word(word) != 0) {
+            return false;
+        }
+        for word in bits_in(u64::from(asked.full)) {
+            let todo = self.member_sets[of].words[word] & !self.arrows_known[node].word(word);
+            for goal in bits_in(todo).map(|bit| word * 64 + bit) {
+                let leads = self.leads(node, goal);
+                self.arrows_known[node].put(goal);
+                if !leads {
+                    return false;
+                }
+                self.arrows_had[node].put(goal);
+            }
+        }
+        true
+    }
+
+    /// The members of a type as a set, made when it is first asked for.
+    fn fill_member_set(&mut self, of: usize) {
+        if self.member_set_calls[of] == self.call {
+            return;
+        }
+        self.member_set_calls[of] = self.call;
+        self.member_sets[of].clear();
+        let (from, to) = self.members_of(of as u16);
+        (from..to).for_each(|member| self.member_sets[of].put(usize::from(self.members[member])));
+    }
+
+    fn leads(&mut self, node: usize, goal: usize) -> bool {
+        let Node { tag, count, number, .. } = self.nodes[self.first + node];
+        let number = usize::from(number);
+        if tag == NONTERMINAL {
+            return self.nonterminal_leads(node, number, count, goal);
+        }
+        let (from, to) = self.members_of(self.parts[number]);
+        (from..to).any(|member| {
+            let ty = self.members[member];
+            self.ends[usize::from(ty)] == self.ends[goal]
+                && usize::from(self.without(ty, count)) == goal
+                && self.arguments_have(node, ty)
+        })
+    }
+
+    fn nonterminal_leads(&mut self, node: usize, number: usize, count: u8, goal: usize) -> bool {
+        let state = usize::from(self.ends[goal]);
+        if self.bound[number] >> state & 1 == 0 {
+            return false;
+        }
+        let (from, to) = self.buckets[number][state];
+        if usize::from(to - from) > self.narrow {
+            return self.hinted(node, goal + 16) || self.served(node, goal, Span::new((from, to)));
+        }
+        let mut span = Span::new((from, to));
+        while let Some(place) = span.next(&self.kept) {
+            let ty = self.types[place];
+            if usize::from(self.without(ty, count)) == goal && self.arguments_have(node, ty) {
+                self.note(place);
                 return true;
             }
         }
         false
     }
 
-    /// Whether each argument of a node has every member that the arrows of a type ask of it.
-    fn arguments_have(&mut self, first: usize, binding: usize, node: usize, ty: u16) -> bool {
-        let mut rest = ty;
-        let mut argument = node + 1;
-        for _ in 0..self.nodes[first + node].count {
-            let (from, to) = self.members_of(rest);
-            for member in from..to {
-                if !self.has(first, binding, argument, self.members[member]) {
-                    return false;
-                }
-            }
-            argument = usize::from(self.nodes[first + argument].end);
-            rest = self.results[usize::from(rest)];
+    /// Whether one of the bindings whose types become the goal with some arrows off serves for a node.
+    fn served(&mut self, node: usize, goal: usize, mut span: Span) -> bool {
+        if !self.serving {
+            self.fill_serves();
         }
-        true
+        while let Some(place) = span.next(&self.serves[goal]) {
+            if self.serves_for(node, goal + 16, place) {
+                self.hint(node, goal + 16, place);
+                return true;
+            }
+        }
+        false
+    }
+
+    /// For each arrow type the kept bindings whose types become it with some arrows off.
+    fn fill_serves(&mut self) {
+        self.serves[..self.now.types].fill([0; WORDS]);
+        for place in 0..self.now.bindings {
+            let (word, bit) = (place / 64, 1 << (place % 64));
+            let mut ty = usize::from(self.types[place]);
+            while self.kept[word] & bit != 0 && self.results[ty] != NONE {
+                self.serves[ty][word] |= bit;
+                ty = usize::from(self.results[ty]);
+            }
+        }
+        self.serving = true;
+    }
+
+    fn members_of(&self, arrow: u16) -> (usize, usize) {
+        let arrow = usize::from(arrow);
+        (usize::from(self.first_members[arrow]), usize::from(self.first_members[arrow + 1]))
     }
 
     // Replay
@@ -843,7 +1392,7 @@ impl Judge {
                 continue;
             }
             let constructor = usize::from(front.number);
-            if front.tag != CONSTRUCTOR || letter > front.count || self.present[state] >> constructor & 1 == 0 {
+            if front.tag != CONSTRUCTOR || letter > front.count || self.present[constructor] >> state & 1 == 0 {
                 return refused(13, place);
             }
             let number = usize::from(letter) - 1;
@@ -851,7 +1400,7 @@ impl Judge {
             root = usize::from(front.arguments[number]);
         }
         let front = self.cells[half][root];
-        if front.tag != CONSTRUCTOR || self.present[state] >> front.number & 1 == 1 {
+        if front.tag != CONSTRUCTOR || self.present[usize::from(front.number)] >> state & 1 == 1 {
             return refused(15, letters.len());
         }
         Verdict::Refuted { letters: letters.len() as u64, state: state as u64, constructor: u64::from(front.number) }
@@ -908,6 +1457,12 @@ impl Judge {
         }
         (0, top)
     }
+}
+
+/// Whether one ascending list has all of another.
+fn contains_all(list: &[u16], asked: &[u16]) -> bool {
+    let mut rest = list.iter();
+    asked.iter().all(|item| rest.any(|other| other == item))
 }
 
 /// The union of the sets of all sorts in a set.

@@ -38,8 +38,8 @@ pub fn at_limits() -> Vec<Hostile> {
         hostile("open chain", middle.rounds(), open_chain(middle, 42, 12, chains)),
         hostile("open used", short.rounds(), open_used(short, 36, 12, chains)),
         hostile("own witness", middle.rounds(), own_witness(middle, 660, 8, 3)),
-        hostile("long proofs", short.rounds(), long_proofs(short, 48, 12, chains)),
-        hostile("partial applications", middle.rounds(), partial_applications(middle, 38, 31)),
+        hostile("long proofs", short.rounds(), long_proofs(short, 40, 12, chains)),
+        hostile("partial applications", long.rounds(), partial_applications(long, 5, 31)),
     ]
 }
 
@@ -197,9 +197,8 @@ impl Ring {
     /// F alone: its number and its types, of which the last is not bound.
     fn add(self, builder: &mut Builder) -> (usize, Vec<u16>) {
         let (step, turn) = (self.step(builder), self.turn(builder));
-        let f = builder.rule(FUNCTION, |f| {
-            vec![constructor(step, 1), nonterminal(f, 1), constructor(turn, 1), parameter(0, 0)]
-        });
+        let f = builder
+            .rule(FUNCTION, |f| vec![constructor(step, 1), nonterminal(f, 1), constructor(turn, 1), parameter(0, 0)]);
         let states: Vec<u16> = (0..u16::from(self.states)).collect();
         let types = self.types(builder, &states);
         builder.bind(f, &types[..types.len() - 1]);
@@ -425,7 +424,8 @@ fn long_proofs(ring: Ring, count: usize, size: usize, chains: Chains) -> CaseFil
 }
 
 /// L x = k of four chains A (G (A (G .. x))). A asks its argument for an arrow of each state; G x y = step (G (turn x) y) has the
-/// ring's bindings, which lead to those arrows, so that the first that serves at each node is the next to fall.
+/// ring's bindings, which lead to those arrows, so that the first that serves at each node is the next to fall. L has `count` sets,
+/// all states but one, for each state.
 fn partial_applications(ring: Ring, count: usize, length: usize) -> CaseFile {
     let mut builder = Builder::new(ring.states);
     add_start(&mut builder);
@@ -453,19 +453,9 @@ fn partial_applications(ring: Ring, count: usize, length: usize) -> CaseFile {
         }
         body
     });
-    let types = sets_with_all(&mut builder, ring, count);
-    builder.bind(l, &types);
-    builder.finish()
-}
-
-/// `count` sets that have all states of the ring's types, each taken to each state.
-fn sets_with_all(builder: &mut Builder, ring: Ring, count: usize) -> Vec<u16> {
-    let (low, states) = (ring.a + ring.b, usize::from(ring.states));
-    let mut types = Vec::new();
-    for bits in 0..count.min(1 << (states - low)) {
-        let has = |state: usize| state < low || bits >> (state - low) & 1 == 1;
-        let set: Vec<u16> = (0..states).filter(|&state| has(state)).map(|state| state as u16).collect();
-        types.extend((0..states as u16).map(|state| builder.arrow(&set, state)));
+    for set in sets_of(states.len(), states.len() - 1, count) {
+        let types: Vec<u16> = states.iter().map(|&state| builder.arrow(&set, state)).collect();
+        builder.bind(l, &types);
     }
-    types
+    builder.finish()
 }
