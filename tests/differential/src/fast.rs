@@ -1337,11 +1337,16 @@ impl Judge {
         if !self.serving {
             self.fill_serves();
         }
+        let mut lacking = self.lacks(node + 1);
         while let Some(place) = span.next(&self.serves[goal]) {
+            if self.first_states[place] & lacking != 0 {
+                continue;
+            }
             if self.serves_for(node, goal + 16, place) {
                 self.hint(node, goal + 16, place);
                 return true;
             }
+            lacking = self.lacks(node + 1);
         }
         false
     }

@@ -5,6 +5,7 @@ pub mod classes;
 pub mod fast;
 pub mod generate;
 pub mod ground;
+mod heaviest;
 pub mod hostile;
 pub mod library;
 mod notation;
