@@ -43,6 +43,23 @@ pub fn at_limits() -> Vec<Hostile> {
     ]
 }
 
+/// The families in a size that the reference judges at once.
+pub fn small() -> Vec<Hostile> {
+    let ring = Ring { a: 2, b: 3, states: 7 };
+    let heavy = Heavy { group: 4, chains: 3, length: 3 };
+    let chains = Chains { count: 4, length: 3 };
+    let hostile = |name, rounds, file| Hostile { name, file, rounds };
+    vec![
+        hostile("one round", 0, one_round(7, 20, heavy)),
+        hostile("rounds", ring.rounds(), rounds(ring, heavy)),
+        hostile("open chain", ring.rounds(), open_chain(ring, 5, 4, chains)),
+        hostile("open used", ring.rounds(), open_used(ring, 5, 4, chains)),
+        hostile("own witness", ring.rounds(), own_witness(ring, 20, 3, 2)),
+        hostile("long proofs", ring.rounds(), long_proofs(ring, 4, 5, chains)),
+        hostile("partial applications", ring.rounds(), partial_applications(ring, 3, 3)),
+    ]
+}
+
 /// A small file of one of the families. Now and then a few bindings are left out.
 pub fn draw(random: &mut Random) -> CaseFile {
     let ring = Ring::draw(random);
