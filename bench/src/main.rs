@@ -6,7 +6,7 @@
 //! that, the fast implementation is compared with the reference of the differential tests.
 //!
 //! `bench` measures all classes but `hostile`, and growth; `bench CLASS..` the classes named, `growth` among them. Of a hostile
-//! file one call each is measured, in seconds.
+//! file one call of each is measured, in seconds.
 
 use differential::classes::{self, Class, Subject};
 use differential::fast::Judge;
@@ -258,7 +258,8 @@ fn print_series(judge: &mut Judge, series: &[Class]) {
     }
 }
 
-/// The hostile files at the limits, one call each. The verdicts and the flags must agree.
+/// The hostile files at the limits, one call each. The verdicts and the flags must agree. Without the library the fast
+/// implementation is measured alone: the reference would take hours.
 fn print_hostile(judge: &mut Judge) -> Result<(), String> {
     println!();
     println!(
@@ -267,19 +268,26 @@ fn print_hostile(judge: &mut Judge) -> Result<(), String> {
     );
     for Hostile { name, file, .. } in hostile::at_limits() {
         let bytes = file.bytes();
-        let (mut flags, mut more_flags) = ([0; 1_024], [0; 1_024]);
-        let (mut said, mut expected) = (None, None);
-        let fast = time(1, || expected = Some(judge.judge(black_box(&bytes), &mut more_flags))).as_secs_f64();
-        let library = time(1, || said = library::judge(black_box(&bytes), &mut flags).ok()).as_secs_f64();
-        let verdict = expected.map_or(String::new(), |verdict| verdict.to_string());
+        let (mut flags, mut verdict) = ([0; 1_024], None);
+        let fast = time(1, || verdict = Some(judge.judge(black_box(&bytes), &mut flags))).as_secs_f64();
+        let library = if library::LINKED { Some(time_library(name, &bytes, verdict, &flags)?) } else { None };
         println!(
-            "{HOSTILE:11} {name:36} {:6} {library:11.4} {fast:11.4} {:6.2}  {verdict}",
+            "{HOSTILE:11} {name:36} {:6} {:>11} {fast:11.4} {:>6}  {}",
             bytes.len(),
-            library / fast
+            library.map_or("-".to_string(), |library| format!("{library:.4}")),
+            library.map_or("-".to_string(), |library| format!("{:.2}", library / fast)),
+            verdict.map_or(String::new(), |verdict| verdict.to_string())
         );
-        if said != expected || flags != more_flags {
-            return Err(format!("{name}: the library and the fast implementation differ"));
-        }
     }
     Ok(())
+}
+
+/// Seconds for a call of the library, which has to give this verdict and leave these flags.
+fn time_library(name: &str, bytes: &[u8], expected: Option<Verdict>, expected_flags: &[u8]) -> Result<f64, String> {
+    let (mut flags, mut said) = ([0; 1_024], None);
+    let seconds = time(1, || said = library::judge(black_box(bytes), &mut flags).ok()).as_secs_f64();
+    if said != expected || flags != expected_flags {
+        return Err(format!("{name}: the library and the fast implementation differ"));
+    }
+    Ok(seconds)
 }
