@@ -8,13 +8,15 @@ use crate::case_file::{arrow, constructor, nonterminal, parameter, CaseFile, Nod
 use crate::random::Random;
 use std::collections::HashMap;
 
-/// The sorts of every file here: o to o; (o to o) to o; (o to o) to o to o; o to o to o.
+/// The sorts of every file here: o to o; (o to o) to o; (o to o) to o to o; o to o to o; (o to o) to (o to o) to o.
 const TREE: u16 = 0;
 const FUNCTION: u16 = 1;
 const TAKES_FUNCTION: u16 = 2;
 const TAKES_FUNCTION_AND_TREE: u16 = 3;
 const TAKES_TWO_TREES: u16 = 4;
-const SORTS: [(u16, u16); 4] = [(TREE, TREE), (FUNCTION, TREE), (FUNCTION, FUNCTION), (TREE, FUNCTION)];
+const TAKES_TWO_FUNCTIONS: u16 = 5;
+const SORTS: [(u16, u16); 5] =
+    [(TREE, TREE), (FUNCTION, TREE), (FUNCTION, FUNCTION), (TREE, FUNCTION), (FUNCTION, TAKES_FUNCTION)];
 
 /// A hostile file and the rounds that it takes.
 pub struct Hostile {
@@ -26,6 +28,7 @@ pub struct Hostile {
 /// The families as large as the limits allow.
 pub fn at_limits() -> Vec<Hostile> {
     let short = Ring { a: 1, b: 13, states: 16 };
+    let nine = Ring { a: 1, b: 9, states: 16 };
     let middle = Ring { a: 3, b: 7, states: 16 };
     let long = Ring { a: 5, b: 11, states: 16 };
     let heavy = Heavy { group: 15, chains: 3, length: 41 };
@@ -40,6 +43,7 @@ pub fn at_limits() -> Vec<Hostile> {
         hostile("own witness", middle.rounds(), own_witness(middle, 660, 8, 3)),
         hostile("long proofs", short.rounds(), long_proofs(short, 40, 12, chains)),
         hostile("partial applications", long.rounds(), partial_applications(long, 5, 31)),
+        hostile("moving witness", nine.rounds(), moving_witness(nine, Sets { common: 8, kinds: 3, more: 7 }, 260, 3)),
     ]
 }
 
@@ -57,6 +61,7 @@ pub fn small() -> Vec<Hostile> {
         hostile("own witness", ring.rounds(), own_witness(ring, 20, 3, 2)),
         hostile("long proofs", ring.rounds(), long_proofs(ring, 4, 5, chains)),
         hostile("partial applications", ring.rounds(), partial_applications(ring, 3, 3)),
+        hostile("moving witness", ring.rounds(), moving_witness(ring, Sets { common: 2, kinds: 3, more: 2 }, 9, 2)),
     ]
 }
 
@@ -67,14 +72,16 @@ pub fn draw(random: &mut Random) -> CaseFile {
     let heavy = Heavy { group: random.between(1, 4), chains: random.between(1, 3), length: random.between(1, 5) };
     let chains = Chains { count: random.between(1, 4), length: random.between(1, 6) };
     let sets = random.between(1, 5);
-    let mut file = match random.below(7) {
+    let few = Sets { common: random.between(0, 2), kinds: random.between(1, 3), more: random.between(0, 3) };
+    let mut file = match random.below(8) {
         0 => one_round(ring.states, random.between(1, 2 * states), heavy),
         1 => rounds(ring, heavy),
         2 => open_chain(ring, sets, random.between(1, states - 1), chains),
         3 => open_used(ring, sets, random.between(1, states - 1), chains),
         4 => own_witness(ring, random.between(1, 12), states / 2, random.between(0, 2)),
         5 => long_proofs(ring, sets, random.between(1, states - 1), chains),
-        _ => partial_applications(ring, sets, chains.length),
+        6 => partial_applications(ring, sets, chains.length),
+        _ => moving_witness(ring, few, random.between(1, 9), random.between(0, 2)),
     };
     if random.percent(30) {
         let share = random.between(1, 20);
@@ -407,17 +414,15 @@ fn own_witness(ring: Ring, count: usize, size: usize, levels: usize) -> CaseFile
     let k = builder.constructor(4, |_| Some([0; 4]));
     let sets = sets_of(usize::from(ring.states), size, count);
     let types: Vec<u16> = sets.iter().map(|set| builder.arrow(set, 0)).collect();
-    let l = add_l(&mut builder, ring, &Naming::Mention, |l| leaves(k, l, levels));
+    let l =
+        add_l(&mut builder, ring, &Naming::Mention, |l| tree_of(k, levels, vec![nonterminal(l, 1), parameter(0, 0)]));
     builder.bind(l, &types);
     builder.finish()
 }
 
-fn leaves(k: usize, l: usize, levels: usize) -> Vec<Node> {
-    if levels == 0 {
-        return vec![nonterminal(l, 1), parameter(0, 0)];
-    }
-    let below = leaves(k, l, levels - 1);
-    [vec![constructor(k, 4)], below.repeat(4)].concat()
+/// `levels` levels of a constructor of four arguments, with a term for its leaves.
+fn tree_of(k: usize, levels: usize, leaf: Vec<Node>) -> Vec<Node> {
+    (0..levels).fold(leaf, |below, _| [vec![constructor(k, 4)], below.repeat(4)].concat())
 }
 
 // Mixtures
@@ -473,6 +478,60 @@ fn partial_applications(ring: Ring, count: usize, length: usize) -> CaseFile {
     for set in sets_of(states.len(), states.len() - 1, count) {
         let types: Vec<u16> = states.iter().map(|&state| builder.arrow(&set, state)).collect();
         builder.bind(l, &types);
+    }
+    builder.finish()
+}
+
+/// Sets of types of functions: `common` that all sets have, one of `kinds`, and any of `more`.
+#[derive(Clone, Copy)]
+struct Sets {
+    common: usize,
+    kinds: usize,
+    more: usize,
+}
+
+impl Sets {
+    /// The types that the sets consist of.
+    fn types(self, builder: &mut Builder) -> Vec<u16> {
+        let states = builder.file.states as usize;
+        let count = self.common + self.kinds + self.more;
+        (0..count).map(|i| builder.arrow(&[(i % states) as u16], (i / states) as u16)).collect()
+    }
+
+    /// A set of a kind, with those of the others that `bits` name.
+    fn set(self, types: &[u16], kind: usize, bits: usize) -> Vec<u16> {
+        let first = self.common + self.kinds;
+        let more = (0..self.more).filter(|i| bits >> i & 1 == 1).map(|i| types[first + i]);
+        types[..self.common].iter().copied().chain([types[self.common + kind]]).chain(more).collect()
+    }
+}
+
+/// L f = k of leaves G f F. G has a type for each kind of set and each binding of F, in the order in which these fall, and they
+/// fail where the kind is another, at its last member, or where the binding has fallen. So in each round what served last serves
+/// no more, for any binding, and what serves next stands behind all that no longer does.
+fn moving_witness(ring: Ring, sets: Sets, count: usize, levels: usize) -> CaseFile {
+    let mut builder = Builder::new(ring.states);
+    add_start(&mut builder);
+    let end = builder.end();
+    let k = builder.constructor(4, |_| Some([0; 4]));
+    let (f, falling) = ring.add(&mut builder);
+    let types = sets.types(&mut builder);
+    let g = builder.rule(TAKES_TWO_FUNCTIONS, |_| vec![constructor(end, 0)]);
+    for &ty in &falling[..falling.len() - 1] {
+        let rest = builder.arrow(&[ty], 0);
+        for kind in 0..sets.kinds {
+            let asking = builder.arrow(&sets.set(&types, kind, 0), rest);
+            builder.bind(g, &[asking]);
+        }
+    }
+    let rest = builder.arrow(&[], 0);
+    let nothing = builder.arrow(&[], rest);
+    builder.bind(g, &[nothing]);
+    let leaf = vec![nonterminal(g, 2), parameter(0, 0), nonterminal(f, 0)];
+    let l = builder.rule(TAKES_FUNCTION, |_| tree_of(k, levels, leaf));
+    for i in 0..count.min(sets.kinds << sets.more) {
+        let ty = builder.arrow(&sets.set(&types, i % sets.kinds, i / sets.kinds), 0);
+        builder.bind(l, &[ty]);
     }
     builder.finish()
 }
