@@ -4,19 +4,23 @@
 //! The library is called as a caller calls it, by `plan_judge`, which makes its tables at each call; the fast implementation
 //! keeps its tables from call to call. Both run in one thread, by turns; each figure is a median of processor time. Before
 //! that, the fast implementation is compared with the reference of the differential tests.
-
-mod fast;
+//!
+//! `bench` measures all classes but `hostile`, and growth; `bench CLASS..` the classes named, `growth` among them. Of a hostile
+//! file one call of each is measured, in seconds.
 
 use differential::classes::{self, Class, Subject};
+use differential::fast::Judge;
+use differential::hostile::{self, Hostile};
+use differential::random::Random;
 use differential::verdict::Verdict;
 use differential::{generate, ground, library, reference};
-use fast::Judge;
 use std::hint::black_box;
 use std::process::ExitCode;
 use std::time::Duration;
 
 /// Files drawn for the comparison with the reference.
 const DRAWN: u64 = 20_000;
+const DRAWN_HOSTILE: u64 = 200;
 /// Turns of each judge at a file, and the least time of a turn.
 const TURNS: usize = 41;
 const TURN: Duration = Duration::from_micros(500);
@@ -34,17 +38,42 @@ fn main() -> ExitCode {
     }
 }
 
+const GROWTH: &str = "growth";
+const HOSTILE: &str = "hostile";
+
 fn run() -> Result<(), String> {
+    let named: Vec<String> = std::env::args().skip(1).collect();
     let mut judge = Judge::new();
-    let classes = classes::classes()?;
-    let series = classes::series();
+    let mut classes = classes::classes()?;
+    let mut series = classes::series();
+    test_names(&named, &classes)?;
+    let is_named = |name: &str| named.iter().any(|other| other == name);
+    if !named.is_empty() {
+        classes.retain(|class| is_named(class.name));
+        series.retain(|_| is_named(GROWTH));
+    }
     check(&mut judge, classes.iter().chain(&series))?;
     if !library::LINKED {
         println!("the library is not linked: its column is that of the reference");
     }
-    print_classes(&mut judge, &classes);
-    print_series(&mut judge, &series);
+    if !classes.is_empty() {
+        print_classes(&mut judge, &classes);
+    }
+    if !series.is_empty() {
+        print_series(&mut judge, &series);
+    }
+    if is_named(HOSTILE) {
+        print_hostile(&mut judge)?;
+    }
     Ok(())
+}
+
+fn test_names(named: &[String], classes: &[Class]) -> Result<(), String> {
+    let known: Vec<&str> = classes.iter().map(|class| class.name).chain([GROWTH, HOSTILE]).collect();
+    match named.iter().find(|name| !known.contains(&name.as_str())) {
+        None => Ok(()),
+        Some(name) => Err(format!("no class {name}; there are: {}", known.join(", "))),
+    }
 }
 
 // The fast implementation against the reference
@@ -62,6 +91,11 @@ fn check<'a>(judge: &mut Judge, classes: impl Iterator<Item = &'a Class>) -> Res
     for number in 0..DRAWN {
         let drawn = generate::draw(2, number);
         agree(judge, &format!("drawn file {number}"), &drawn.bytes, drawn.flags)?;
+        files += 1;
+    }
+    for number in 0..DRAWN_HOSTILE {
+        let file = hostile::draw(&mut Random::for_draw(2, number)).bytes();
+        agree(judge, &format!("drawn hostile file {number}"), &file, 1_024)?;
         files += 1;
     }
     println!("the fast implementation agrees with the reference on {files} files");
@@ -222,4 +256,38 @@ fn print_series(judge: &mut Judge, series: &[Class]) {
             before = Some(times);
         }
     }
+}
+
+/// The hostile files at the limits, one call each. The verdicts and the flags must agree. Without the library the fast
+/// implementation is measured alone: the reference would take hours.
+fn print_hostile(judge: &mut Judge) -> Result<(), String> {
+    println!();
+    println!(
+        "{:11} {:36} {:>6} {:>11} {:>11} {:>6}  verdict",
+        "class", "file", "bytes", "library s", "fast s", "ratio"
+    );
+    for Hostile { name, file, .. } in hostile::at_limits() {
+        let bytes = file.bytes();
+        let (mut flags, mut verdict) = ([0; 1_024], None);
+        let fast = time(1, || verdict = Some(judge.judge(black_box(&bytes), &mut flags))).as_secs_f64();
+        let library = if library::LINKED { Some(time_library(name, &bytes, verdict, &flags)?) } else { None };
+        println!(
+            "{HOSTILE:11} {name:36} {:6} {:>11} {fast:11.4} {:>6}  {}",
+            bytes.len(),
+            library.map_or("-".to_string(), |library| format!("{library:.4}")),
+            library.map_or("-".to_string(), |library| format!("{:.2}", library / fast)),
+            verdict.map_or(String::new(), |verdict| verdict.to_string())
+        );
+    }
+    Ok(())
+}
+
+/// Seconds for a call of the library, which has to give this verdict and leave these flags.
+fn time_library(name: &str, bytes: &[u8], expected: Option<Verdict>, expected_flags: &[u8]) -> Result<f64, String> {
+    let (mut flags, mut said) = ([0; 1_024], None);
+    let seconds = time(1, || said = library::judge(black_box(bytes), &mut flags).ok()).as_secs_f64();
+    if said != expected || flags != expected_flags {
+        return Err(format!("{name}: the library and the fast implementation differ"));
+    }
+    Ok(seconds)
 }

@@ -12,10 +12,26 @@ pub const CONSTRUCTOR: u8 = 0;
 pub const NONTERMINAL: u8 = 1;
 pub const PARAMETER: u8 = 2;
 
+pub fn constructor(number: usize, count: u8) -> Node {
+    Node { tag: CONSTRUCTOR, number: number as u16, count }
+}
+
+pub fn nonterminal(number: usize, count: u8) -> Node {
+    Node { tag: NONTERMINAL, number: number as u16, count }
+}
+
+pub fn parameter(number: u16, count: u8) -> Node {
+    Node { tag: PARAMETER, number, count }
+}
+
 #[derive(Clone)]
 pub enum TypeRecord {
     State(u8),
     Arrow { result: u16, members: Vec<u16> },
+}
+
+pub fn arrow(members: &[u16], result: u16) -> TypeRecord {
+    TypeRecord::Arrow { result, members: members.to_vec() }
 }
 
 /// The entries of each kind in file order. No states stand for no states record.

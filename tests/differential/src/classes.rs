@@ -1,8 +1,8 @@
 //! The files that are measured, by class, and files that double in one respect.
 
-use crate::case_file::{CaseFile, Node, TypeRecord, CONSTRUCTOR, NONTERMINAL, PARAMETER};
-use crate::ground;
+use crate::case_file::{arrow, constructor, nonterminal, parameter, CaseFile, TypeRecord};
 use crate::notation::case_file;
+use crate::{ground, heaviest};
 
 /// A file to measure.
 pub struct Subject {
@@ -56,6 +56,16 @@ pub fn classes() -> Result<Vec<Class>, String> {
             vec![
                 Subject::new("60,000 bytes of rules", &rules_of_60000_bytes()),
                 Subject::new("1,024 types of 16 members", &many_types(1_024)),
+            ],
+        ),
+        class(
+            "heaviest",
+            vec![
+                Subject::new("900 types of a head, partly applied", &heaviest::many_types_a_head()),
+                Subject::new("4 chains of 64 levels, 16 members", &heaviest::deep_nesting()),
+                Subject::new("900 alternatives of a head", &heaviest::many_alternatives()),
+                Subject::new("60,000 bytes", &heaviest::all_bytes()),
+                Subject::new("60,000 bytes, a misfit", &heaviest::all_bytes_and_a_misfit()),
             ],
         ),
     ])
@@ -209,24 +219,8 @@ fn papers_examples() -> Result<Vec<Subject>, String> {
     examples.iter().map(|(name, text)| Ok(Subject::new(*name, &case_file(text)?))).collect()
 }
 
-fn constructor(number: usize, count: u8) -> Node {
-    Node { tag: CONSTRUCTOR, number: number as u16, count }
-}
-
-fn nonterminal(number: usize, count: u8) -> Node {
-    Node { tag: NONTERMINAL, number: number as u16, count }
-}
-
-fn parameter(number: u16, count: u8) -> Node {
-    Node { tag: PARAMETER, number, count }
-}
-
-fn arrow(members: &[u16], result: u16) -> TypeRecord {
-    TypeRecord::Arrow { result, members: members.to_vec() }
-}
-
 /// 64 sorts, 32 constructors, 256 nonterminals, 512 transitions, 1,024 types and 1,024 bindings; all but three hold.
-fn all_tables(levels: usize) -> CaseFile {
+pub fn all_tables(levels: usize) -> CaseFile {
     let mut file = CaseFile {
         sorts: vec![(0, 0)],
         constructors: vec![2; 32],

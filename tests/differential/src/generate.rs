@@ -7,6 +7,7 @@ mod path;
 mod plan;
 
 use crate::case_file::{CaseFile, TypeRecord};
+use crate::hostile;
 use crate::random::Random;
 use crate::reference::{self, Case};
 use path::Manner;
@@ -32,6 +33,7 @@ fn draw_case(random: &mut Random) -> CaseFile {
     match random.below(1_000) {
         0..=1 => return families::ring(random),
         2..=6 => return families::nested(random),
+        7..=9 => return hostile::draw(random),
         _ => {}
     }
     let size = Size::draw(random);

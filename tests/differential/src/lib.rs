@@ -2,8 +2,11 @@
 
 pub mod case_file;
 pub mod classes;
+pub mod fast;
 pub mod generate;
 pub mod ground;
+mod heaviest;
+pub mod hostile;
 pub mod library;
 mod notation;
 pub mod random;

@@ -2,11 +2,13 @@
 //! drawn by a seed: the answer, and every byte of the flags with some bytes past their end. Then it judges the files of the
 //! benchmarks with 1 MB of stack: that a call needs less is measured so, not proved.
 //!
-//! `differential [COUNT [SEED [THREADS]]]` draws COUNT files; `differential --file FILE [FLAGS]` compares one file.
+//! `differential [COUNT [SEED [THREADS]]]` draws COUNT files; `differential --file FILE [FLAGS]` compares one file;
+//! `differential --limits [NAME..]` judges the hostile files at the limits with 1 MB of stack, and `differential --write FOLDER`
+//! writes them.
 
 use differential::random::Random;
 use differential::verdict::Verdict;
-use differential::{generate, ground, library, reference, stack};
+use differential::{generate, ground, hostile, library, reference, stack};
 use std::fs;
 use std::process::ExitCode;
 use std::thread;
@@ -26,6 +28,8 @@ fn main() -> ExitCode {
     let done = match arguments.iter().map(String::as_str).collect::<Vec<_>>()[..] {
         ["--file", path] => compare_one(path, "1024"),
         ["--file", path, flags] => compare_one(path, flags),
+        ["--limits", ..] => try_limits(arguments[1..].to_vec()),
+        ["--write", folder] => write_limits(folder),
         _ => numbers_of(&arguments).and_then(|numbers| compare_many(&numbers)),
     };
     match done {
@@ -44,7 +48,9 @@ fn number_of(text: &str) -> Result<u64, String> {
 
 fn numbers_of(arguments: &[String]) -> Result<Vec<u64>, String> {
     if arguments.len() > 3 {
-        return Err("usage: differential [COUNT [SEED [THREADS]]] | --file FILE [FLAGS]".to_string());
+        let usage =
+            "usage: differential [COUNT [SEED [THREADS]]] | --file FILE [FLAGS] | --limits [NAME..] | --write FOLDER";
+        return Err(usage.to_string());
     }
     arguments.iter().map(|text| number_of(text)).collect()
 }
@@ -99,6 +105,26 @@ fn compare_one(path: &str, flags: &str) -> Result<bool, String> {
 fn in_thread<T: Send + 'static>(work: impl FnOnce() -> T + Send + 'static) -> Result<T, String> {
     let started = thread::Builder::new().stack_size(STACK).spawn(work).map_err(|error| error.to_string())?;
     started.join().map_err(|_| "a thread stopped".to_string())
+}
+
+// The hostile files at the limits
+
+fn try_limits(names: Vec<String>) -> Result<bool, String> {
+    if !library::LINKED {
+        return Err("the library is not linked: the reference in its place would take hours".to_string());
+    }
+    let (passed, failed) = in_thread(move || stack::try_limits(&names))??;
+    println!("{passed} passed, {failed} failed");
+    Ok(failed == 0)
+}
+
+fn write_limits(folder: &str) -> Result<bool, String> {
+    for hostile in hostile::at_limits() {
+        let path = format!("{folder}/{}.case", hostile.name.replace(", ", "-").replace(' ', "-"));
+        fs::write(&path, hostile.file.bytes()).map_err(|error| format!("{path}: {error}"))?;
+        println!("{path}");
+    }
+    Ok(true)
 }
 
 // Many comparisons

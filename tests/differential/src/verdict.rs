@@ -23,6 +23,14 @@ impl Verdict {
         }
     }
 
+    /// The rounds of a binding case.
+    pub fn rounds(self) -> Option<u64> {
+        match self {
+            Proved { rounds, .. } | Unproved { rounds, .. } => Some(rounds),
+            Refuted { .. } | Refused { .. } => None,
+        }
+    }
+
     /// The verdict that the four numbers stand for, if they stand for one.
     pub fn from_numbers(numbers: [u64; 4]) -> Option<Verdict> {
         match numbers {

@@ -2,9 +2,17 @@
 //!
 //! One pass over the records fills fixed arrays and makes the tests 2 to 7, 9 and 11 on the way. The arrays stay with the
 //! judge from call to call and are never cleared: counts and stamps tell what belongs to the file in hand. A check keeps
-//! what it found for a node and a goal; a replay shares the parts of its terms. Rounds are full rounds, as in the scope.
+//! what it found for a node and a goal, and notes the bindings that it rests on; after a round only those bindings are tested
+//! again that rested on a dropped one, and what served last is tried first. A replay shares the parts of its terms.
 
-use differential::verdict::Verdict;
+mod check;
+mod replay;
+mod sets;
+
+use crate::verdict::Verdict;
+use check::{Found, Hint, FEW, HINTS, OWN_HINTS};
+use replay::{Cell, CELLS};
+use sets::{Set, WORDS};
 
 const MOST_NODES: usize = 15_000;
 const MOST_SORTS: usize = 64;
@@ -16,13 +24,10 @@ const UNLISTED: u8 = 65;
 const SORT_CODES: usize = 70;
 const NO_SORT: u8 = 255;
 
-/// Goals are the numbers of arrow types; a state is `STATE` and its number.
-const STATE: u16 = 1_024;
-const GOALS: usize = 1_040;
-
 const CONSTRUCTOR: u8 = 0;
 const NONTERMINAL: u8 = 1;
 
+/// The result of a state, which has none.
 const NONE: u16 = u16::MAX;
 
 /// A node of a body, and the node behind its term, counted within the rule.
@@ -33,20 +38,6 @@ struct Node {
     number: u16,
     end: u16,
 }
-
-/// A term of a replay: its head, its arguments by cell, and its nodes as a tree.
-#[derive(Clone, Copy)]
-struct Cell {
-    tag: u8,
-    count: u8,
-    number: u16,
-    nodes: u32,
-    arguments: [u16; 8],
-}
-
-const CELLS: usize = 32_768;
-const SPARE_CELLS: usize = 512;
-const MOST_TERM_NODES: u32 = 4_096;
 
 /// A body while its nodes are read.
 struct Reading {
@@ -133,26 +124,62 @@ pub struct Judge {
     nonterminals: [u8; 256],
     first_nodes: [u16; 257],
     nodes: [Node; MOST_NODES],
-    present: [u32; 16],
+    /// By constructor: the states that have a transition.
+    present: [u16; 32],
     targets: [[[u8; 4]; 32]; 16],
     // the evidence
     type_places: [(u16, u16); MOST_TYPES],
-    goals: [u16; MOST_TYPES],
     results: [u16; MOST_TYPES],
+    /// The final state of a type.
+    ends: [u8; MOST_TYPES],
     members: [u16; 16 * MOST_TYPES],
     first_members: [u16; MOST_TYPES + 1],
+    /// The states among the members of a type.
+    member_states: [u16; MOST_TYPES],
     fits: [u128; MOST_TYPES],
     slots: [(u64, u16); SLOTS],
     binding_nonterminals: [u8; MOST_BINDINGS],
-    groups: [u16; 257],
-    /// By arrows off and binding: the goal that is left.
-    left: [[u16; MOST_BINDINGS]; 9],
-    by_state: [[u16; 16]; 256],
-    next: [u16; MOST_BINDINGS],
-    kept: [u8; MOST_BINDINGS],
-    tested: [u8; MOST_BINDINGS],
-    memo: [u32; 256 * GOALS],
-    stamp: u32,
+    binding_types: [u16; MOST_BINDINGS],
+    // the bindings by place: by nonterminal, final state and type
+    bindings: [u16; MOST_BINDINGS],
+    types: [u16; MOST_BINDINGS],
+    first_states: [u16; MOST_BINDINGS],
+    /// The places of a nonterminal's bindings to a final state, where it has some.
+    buckets: [[(u16, u16); 16]; 256],
+    /// The final states of a nonterminal's kept bindings.
+    bound: [u16; 256],
+    kept: [u64; WORDS],
+    /// What the last test of a binding rested on, and the bindings that rested on one.
+    rows: [Set; MOST_BINDINGS],
+    columns: [Set; MOST_BINDINGS],
+    /// The bindings that failed in the round in hand.
+    failed: [u16; MOST_BINDINGS],
+    round: u64,
+    later: bool,
+    narrow: usize,
+    // the test in hand
+    stamp: u64,
+    tested: usize,
+    first: usize,
+    /// By parameter: the arrow that takes it, and the states that it has.
+    parts: [u16; 8],
+    part_states: [u16; 8],
+    used: Set,
+    found: [Found; 256],
+    arrow_stamps: [u64; 256],
+    arrows_known: [Set; 256],
+    arrows_had: [Set; 256],
+    // for all tests
+    serving: bool,
+    serves: [[u64; WORDS]; MOST_TYPES],
+    member_sets: [Set; MOST_TYPES],
+    member_set_calls: [u64; MOST_TYPES],
+    /// By type: the round and the nonterminal that was asked for its members, and in the lowest bit whether it has them; the
+    /// test that noted what serves.
+    bare: [u64; MOST_TYPES],
+    noted: [u64; MOST_TYPES],
+    hints: [Hint; HINTS],
+    own_hints: [Hint; OWN_HINTS],
     call: u64,
     // replay
     cells: [[Cell; CELLS]; 2],
@@ -179,24 +206,48 @@ impl Judge {
             nonterminals: [0; 256],
             first_nodes: [0; 257],
             nodes: [Node { tag: 0, count: 0, number: 0, end: 0 }; MOST_NODES],
-            present: [0; 16],
+            present: [0; 32],
             targets: [[[0; 4]; 32]; 16],
             type_places: [(0, 0); MOST_TYPES],
-            goals: [0; MOST_TYPES],
             results: [0; MOST_TYPES],
+            ends: [0; MOST_TYPES],
             members: [0; 16 * MOST_TYPES],
             first_members: [0; MOST_TYPES + 1],
+            member_states: [0; MOST_TYPES],
             fits: [0; MOST_TYPES],
             slots: [(0, 0); SLOTS],
             binding_nonterminals: [0; MOST_BINDINGS],
-            groups: [0; 257],
-            left: [[0; MOST_BINDINGS]; 9],
-            by_state: [[0; 16]; 256],
-            next: [0; MOST_BINDINGS],
-            kept: [0; MOST_BINDINGS],
-            tested: [0; MOST_BINDINGS],
-            memo: [0; 256 * GOALS],
+            binding_types: [0; MOST_BINDINGS],
+            bindings: [0; MOST_BINDINGS],
+            types: [0; MOST_BINDINGS],
+            first_states: [0; MOST_BINDINGS],
+            buckets: [[(0, 0); 16]; 256],
+            bound: [0; 256],
+            kept: [0; WORDS],
+            rows: [Set::NONE; MOST_BINDINGS],
+            columns: [Set::NONE; MOST_BINDINGS],
+            failed: [0; MOST_BINDINGS],
+            round: 0,
+            later: false,
+            narrow: FEW,
             stamp: 0,
+            tested: 0,
+            first: 0,
+            parts: [0; 8],
+            part_states: [0; 8],
+            used: Set::NONE,
+            found: [Found { stamp: 0, known: 0, had: 0 }; 256],
+            arrow_stamps: [0; 256],
+            arrows_known: [Set::NONE; 256],
+            arrows_had: [Set::NONE; 256],
+            serving: false,
+            serves: [[0; WORDS]; MOST_TYPES],
+            member_sets: [Set::NONE; MOST_TYPES],
+            member_set_calls: [0; MOST_TYPES],
+            bare: [0; MOST_TYPES],
+            noted: [0; MOST_TYPES],
+            hints: [Hint { call: 0, place: 0 }; HINTS],
+            own_hints: [Hint { call: 0, place: 0 }; OWN_HINTS],
             call: 0,
             cells: [[cell; CELLS]; 2],
         });
@@ -228,7 +279,7 @@ impl Judge {
         self.tree_sorts = [0, UNLISTED + 1, UNLISTED + 2, UNLISTED + 3, UNLISTED + 4];
         self.with_from[0] = 0;
         self.with_to[0] = 0;
-        self.present = [0; 16];
+        self.present = [0; 32];
         self.call += 1;
         self.walk(file)?;
         let now = &self.now;
@@ -411,7 +462,7 @@ impl Judge {
             return Err(7);
         }
         self.now.last_transition = pair;
-        self.present[usize::from(state)] |= 1 << constructor;
+        self.present[usize::from(constructor)] |= 1 << state;
         self.targets[usize::from(state)][usize::from(constructor)] = targets;
         self.now.transitions += 1;
         Ok(())
@@ -517,7 +568,8 @@ impl Judge {
                 return Err(7);
             }
             self.now.listed_states |= 1 << state;
-            self.goals[count] = STATE + u16::from(state);
+            self.results[count] = NONE;
+            self.ends[count] = state;
             self.fits[count] = 1;
         } else {
             self.arrow(file, payload)?;
@@ -537,6 +589,7 @@ impl Judge {
         let first = self.now.members;
         self.first_members[count] = first as u16;
         let mut all_fit = u128::MAX;
+        let mut states = 0;
         let mut next = first;
         let mut least = 0;
         let mut ascending = true;
@@ -549,7 +602,10 @@ impl Judge {
             ascending &= member >= least;
             least = member + 1;
             all_fit &= self.fits[member];
-            self.members[next] = self.goals[member];
+            if self.results[member] == NONE {
+                states |= 1 << self.ends[member];
+            }
+            self.members[next] = member as u16;
             hash = (hash.rotate_left(7) ^ member as u64).wrapping_mul(0x9E37_79B9_7F4A_7C15);
             next += 1;
         }
@@ -557,8 +613,9 @@ impl Judge {
             return Err(7);
         }
         self.now.members = next;
-        self.goals[count] = count as u16;
-        self.results[count] = self.goals[result];
+        self.results[count] = result as u16;
+        self.ends[count] = self.ends[result];
+        self.member_states[count] = states;
         let results = union_of(self.fits[result], &self.with_to);
         self.fits[count] = if next == first { results } else { results & union_of(all_fit, &self.with_from) };
         Ok(())
@@ -599,314 +656,9 @@ impl Judge {
             self.now.misfit = place;
         }
         self.binding_nonterminals[count] = nonterminal as u8;
-        self.left[0][count] = self.goals[ty];
+        self.binding_types[count] = ty as u16;
         self.now.bindings = count + 1;
         Ok(())
-    }
-
-    // Shrinking
-
-    fn shrink(&mut self, flags: &mut [u8]) -> Verdict {
-        let total = self.now.bindings;
-        self.group();
-        self.kept[..total].fill(1);
-        let mut kept = total;
-        let mut rounds = 0;
-        loop {
-            let mut left = 0;
-            for binding in 0..total {
-                let holds = self.kept[binding] == 1 && self.holds(binding);
-                self.tested[binding] = u8::from(holds);
-                left += usize::from(holds);
-            }
-            if left == kept {
-                break;
-            }
-            kept = left;
-            rounds += 1;
-            std::mem::swap(&mut self.kept, &mut self.tested);
-        }
-        flags[..total].copy_from_slice(&self.kept[..total]);
-        let start = usize::from(self.groups[1]);
-        let accepted = (0..start).any(|binding| self.left[0][binding] == STATE && self.kept[binding] == 1);
-        let (kept, total) = (kept as u64, total as u64);
-        if accepted {
-            Verdict::Proved { kept, total, rounds }
-        } else {
-            Verdict::Unproved { kept, total, rounds }
-        }
-    }
-
-    /// Where the bindings of each nonterminal begin; what is left of their types behind each arrow; those that end in each
-    /// state.
-    fn group(&mut self) {
-        let total = self.now.bindings;
-        let mut binding = 0;
-        for nonterminal in 0..self.now.nonterminals {
-            self.groups[nonterminal] = binding as u16;
-            let arity = usize::from(self.arity[usize::from(self.nonterminals[nonterminal])]);
-            self.by_state[nonterminal] = [NONE; 16];
-            let first = binding;
-            while binding < total && usize::from(self.binding_nonterminals[binding]) == nonterminal {
-                let mut goal = self.left[0][binding];
-                for off in 1..=arity {
-                    goal = self.results[usize::from(goal)];
-                    self.left[off][binding] = goal;
-                }
-                binding += 1;
-            }
-            for binding in (first..binding).rev() {
-                let state = usize::from(self.left[arity][binding] - STATE);
-                self.next[binding] = self.by_state[nonterminal][state];
-                self.by_state[nonterminal][state] = binding as u16;
-            }
-        }
-        self.groups[self.now.nonterminals] = total as u16;
-    }
-
-    fn holds(&mut self, binding: usize) -> bool {
-        if self.stamp >= u32::MAX / 2 - 1 {
-            self.memo.fill(0);
-            self.stamp = 0;
-        }
-        self.stamp += 1;
-        let nonterminal = usize::from(self.binding_nonterminals[binding]);
-        let arity = usize::from(self.arity[usize::from(self.nonterminals[nonterminal])]);
-        let first = usize::from(self.first_nodes[nonterminal]);
-        self.has(first, binding, 0, self.left[arity][binding])
-    }
-
-    /// Whether the term at a node of the body that begins at `first` has a goal, under the members that `binding` gives.
-    fn has(&mut self, first: usize, binding: usize, node: usize, goal: u16) -> bool {
-        let Node { tag, count, number, .. } = self.nodes[first + node];
-        let number = usize::from(number);
-        if count == 0 {
-            return self.lone_has(binding, tag, number, goal);
-        }
-        let place = usize::from(goal) * 256 + node;
-        let found = self.memo[place];
-        if found >> 1 == self.stamp {
-            return found & 1 == 1;
-        }
-        let has = match tag {
-            CONSTRUCTOR => self.constructor_has(first, binding, node, goal),
-            NONTERMINAL => self.nonterminal_has(first, binding, node, goal),
-            _ => {
-                let (from, to) = self.members_of(self.left[number][binding]);
-                (from..to).any(|member| {
-                    let mut rest = self.members[member];
-                    for _ in 0..count {
-                        rest = self.results[usize::from(rest)];
-                    }
-                    rest == goal && self.arguments_have(first, binding, node, self.members[member])
-                })
-            }
-        };
-        self.memo[place] = self.stamp << 1 | u32::from(has);
-        has
-    }
-
-    fn lone_has(&self, binding: usize, tag: u8, number: usize, goal: u16) -> bool {
-        match tag {
-            CONSTRUCTOR => self.row_of(number, 0, goal).is_some(),
-            NONTERMINAL => {
-                let group = usize::from(self.groups[number])..usize::from(self.groups[number + 1]);
-                if goal >= STATE {
-                    let found = self.by_state[number][usize::from(goal - STATE)];
-                    return found != NONE && self.kept[usize::from(found)] == 1;
-                }
-                // Within a group types ascend, and an arrow's goal is its number.
-                let found = self.left[0][group.clone()].binary_search(&goal);
-                found.is_ok_and(|place| self.kept[group.start + place] == 1)
-            }
-            _ => {
-                let (from, to) = self.members_of(self.left[number][binding]);
-                self.members[from..to].contains(&goal)
-            }
-        }
-    }
-
-    fn members_of(&self, arrow: u16) -> (usize, usize) {
-        let arrow = usize::from(arrow);
-        (usize::from(self.first_members[arrow]), usize::from(self.first_members[arrow + 1]))
-    }
-
-    /// The targets of a constructor, if its type with some arrows off is the goal.
-    fn row_of(&self, constructor: usize, given: usize, goal: u16) -> Option<[u8; 4]> {
-        let arity = usize::from(self.constructors[constructor]);
-        let mut rest = goal;
-        let mut asked = [0u8; 4];
-        for target in &mut asked[given..arity] {
-            if rest >= STATE {
-                return None;
-            }
-            let (from, to) = self.members_of(rest);
-            if to != from + 1 || self.members[from] < STATE {
-                return None;
-            }
-            *target = (self.members[from] - STATE) as u8;
-            rest = self.results[usize::from(rest)];
-        }
-        if rest < STATE {
-            return None;
-        }
-        let state = usize::from(rest - STATE);
-        if self.present[state] >> constructor & 1 == 0 {
-            return None;
-        }
-        let targets = self.targets[state][constructor];
-        (targets[given..arity] == asked[given..arity]).then_some(targets)
-    }
-
-    fn constructor_has(&mut self, first: usize, binding: usize, node: usize, goal: u16) -> bool {
-        let Node { number, count, .. } = self.nodes[first + node];
-        let Some(targets) = self.row_of(usize::from(number), usize::from(count), goal) else {
-            return false;
-        };
-        let mut argument = node + 1;
-        for &target in &targets[..usize::from(count)] {
-            if !self.has(first, binding, argument, STATE + u16::from(target)) {
-                return false;
-            }
-            argument = usize::from(self.nodes[first + argument].end);
-        }
-        true
-    }
-
-    fn nonterminal_has(&mut self, first: usize, binding: usize, node: usize, goal: u16) -> bool {
-        let Node { number, count, .. } = self.nodes[first + node];
-        let (number, count) = (usize::from(number), usize::from(count));
-        if goal >= STATE {
-            let mut candidate = self.by_state[number][usize::from(goal - STATE)];
-            while candidate != NONE {
-                let there = usize::from(candidate);
-                if self.kept[there] == 1 && self.arguments_have(first, binding, node, self.left[0][there]) {
-                    return true;
-                }
-                candidate = self.next[there];
-            }
-            return false;
-        }
-        let (from, to) = (usize::from(self.groups[number]), usize::from(self.groups[number + 1]));
-        for candidate in from..to {
-            if self.left[count][candidate] == goal
-                && self.kept[candidate] == 1
-                && self.arguments_have(first, binding, node, self.left[0][candidate])
-            {
-                return true;
-            }
-        }
-        false
-    }
-
-    /// Whether each argument of a node has every member that the arrows of a type ask of it.
-    fn arguments_have(&mut self, first: usize, binding: usize, node: usize, ty: u16) -> bool {
-        let mut rest = ty;
-        let mut argument = node + 1;
-        for _ in 0..self.nodes[first + node].count {
-            let (from, to) = self.members_of(rest);
-            for member in from..to {
-                if !self.has(first, binding, argument, self.members[member]) {
-                    return false;
-                }
-            }
-            argument = usize::from(self.nodes[first + argument].end);
-            rest = self.results[usize::from(rest)];
-        }
-        true
-    }
-
-    // Replay
-
-    fn replay(&mut self, letters: &[u8]) -> Verdict {
-        let refused = |number, place| Verdict::Refused { number, place: place as u64 };
-        let mut half = 0;
-        let mut top = 1;
-        let mut root = 0;
-        let mut state = 0;
-        let mut values = [0; 256];
-        self.cells[0][0] = Cell { tag: NONTERMINAL, count: 0, number: 0, nodes: 1, arguments: [0; 8] };
-        for (place, &letter) in letters.iter().enumerate() {
-            let front = self.cells[half][root];
-            if letter == 0 {
-                if front.tag != NONTERMINAL {
-                    return refused(13, place);
-                }
-                if top + SPARE_CELLS > CELLS {
-                    (root, top) = self.move_term(half, root);
-                    half = 1 - half;
-                }
-                (root, top) = self.unfold(half, root, top, &mut values);
-                if self.cells[half][root].nodes > MOST_TERM_NODES {
-                    return refused(14, place);
-                }
-                continue;
-            }
-            let constructor = usize::from(front.number);
-            if front.tag != CONSTRUCTOR || letter > front.count || self.present[state] >> constructor & 1 == 0 {
-                return refused(13, place);
-            }
-            let number = usize::from(letter) - 1;
-            state = usize::from(self.targets[state][constructor][number]);
-            root = usize::from(front.arguments[number]);
-        }
-        let front = self.cells[half][root];
-        if front.tag != CONSTRUCTOR || self.present[state] >> front.number & 1 == 1 {
-            return refused(15, letters.len());
-        }
-        Verdict::Refuted { letters: letters.len() as u64, state: state as u64, constructor: u64::from(front.number) }
-    }
-
-    /// The body of the nonterminal in front, its arguments put for the parameters: its cell, and the first free one.
-    /// `values` is room for the cells of its nodes.
-    fn unfold(&mut self, half: usize, root: usize, mut top: usize, values: &mut [u16; 256]) -> (usize, usize) {
-        let cells = &mut self.cells[half];
-        let front = cells[root];
-        let rule = usize::from(front.number);
-        let first = usize::from(self.first_nodes[rule]);
-        let nodes = &self.nodes[first..usize::from(self.first_nodes[rule + 1])];
-        for (i, node) in nodes.iter().enumerate().rev() {
-            let mut cell = Cell { tag: node.tag, count: 0, number: node.number, nodes: 1, arguments: [0; 8] };
-            if node.tag > NONTERMINAL {
-                let value = front.arguments[usize::from(node.number & 7)];
-                if node.count == 0 {
-                    values[i] = value;
-                    continue;
-                }
-                cell = cells[usize::from(value)];
-            }
-            let mut argument = i + 1;
-            for _ in 0..node.count {
-                let value = values[argument & 255];
-                cell.arguments[usize::from(cell.count & 7)] = value;
-                cell.count += 1;
-                cell.nodes += cells[usize::from(value)].nodes;
-                argument = usize::from(nodes[argument].end);
-            }
-            cells[top] = cell;
-            values[i] = top as u16;
-            top += 1;
-        }
-        (usize::from(values[0]), top)
-    }
-
-    /// Moves a term to the other half: its cell there, and the first free one.
-    fn move_term(&mut self, half: usize, root: usize) -> (usize, usize) {
-        let [low, high] = &mut self.cells;
-        let (old, new) = if half == 0 { (low, high) } else { (high, low) };
-        // Each moved cell's arguments are moved behind it, in turn.
-        new[0] = old[root];
-        let mut top = 1;
-        let mut next = 0;
-        while next < top {
-            for argument in 0..usize::from(new[next].count) {
-                new[top] = old[usize::from(new[next].arguments[argument])];
-                new[next].arguments[argument] = top as u16;
-                top += 1;
-            }
-            next += 1;
-        }
-        (0, top)
     }
 }
 
