@@ -17,17 +17,13 @@ use Rattle.scheme.specs.Types.{Ty, state, arrow, members, same, domains,
 use Rattle.scheme.specs.Typing.{Automaton, Binding, has, leads, bound, headTypes, holds}
 use Rattle.scheme.specs.Flags.{isKept, chosen}
 use Rattle.scheme.specs.Acceptance.{holdsExactly}
+use Rattle.scheme.proofs.Lists.{all-same}
 
--- tests that agree on every element
+-- a test and another that agree on every element
 any-agrees : {A : Type 0} (p q : A → Bool) (l : List A) → ((x : A) → p x ≡ q x) → any p l ≡ any q l
 unfolding any
 any-agrees p q [] w = refl
 any-agrees p q (x ∷ xs) w = ap₂ _||_ (w x) (any-agrees p q xs w)
-
-all-agrees : {A : Type 0} (p q : A → Bool) (l : List A) → ((x : A) → p x ≡ q x) → all p l ≡ all q l
-unfolding all
-all-agrees p q [] w = refl
-all-agrees p q (x ∷ xs) w = ap₂ _&&_ (w x) (all-agrees p q xs w)
 
 -- two tables of types agree on the heads of nodes
 abbrev pub Agree : (Head → List Ty) → (Head → List Ty) → List Node → Type 0
@@ -63,7 +59,7 @@ module _ (serves : Ty → Ty → Bool) (h₁ h₂ : Head → List Ty) where
     leads-agrees (t ∷ᵗ ts) w (state q) σ = refl
     leads-agrees (t ∷ᵗ ts) w (arrow a r) σ =
         ap₂ _&&_
-        (all-agrees (λ m. has serves h₁ t m) (λ m. has serves h₂ t m) (members a) (λ m. has-agrees t (agree-left h₁ h₂ (flat t) (flats ts) w) m))
+        (all-same (λ m. has serves h₁ t m) (λ m. has serves h₂ t m) (members a) (λ m k. has-agrees t (agree-left h₁ h₂ (flat t) (flats ts) w) m))
         (leads-agrees ts (agree-right h₁ h₂ (flat t) (flats ts) w) r σ)
 
 -- one binding before sets that agree on f: it counts for f only where it is one of f's

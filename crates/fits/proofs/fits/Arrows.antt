@@ -1,8 +1,8 @@
 -- The sorts of an arrow, met member by member.
 use Prim.Native.Nat.{ℕ, _+_, _<_, _≤_}
 use native.Mathlib.Omega.{arith}
-use mathlib.Core.Path.{_≡_, refl, sym, ap, _∙_}
-use mathlib.Core.Bool.{Bool, true, false, _&&_}
+use mathlib.Core.Path.{_≡_, sym, ap, _∙_}
+use mathlib.Core.Bool.{Bool, _&&_, and-true, and-assoc}
 use mathlib.Core.List.{List}
 use lib.Bits.{bitAnd}
 use lib.ListN.{drop}
@@ -14,14 +14,6 @@ use Rattle.index.specs.layout.Layout.{fitResults, fitArguments}
 use Rattle.fits.specs.masks.Masks.{has, maskOf}
 use Rattle.fits.specs.fits.Filled.{PayloadThere, FitsArrow}
 use Rattle.fits.proofs.masks.Bits.{has-and, has-zero}
-
-and-assoc : (a b c : Bool) → ((a && b) && c) ≡ (a && (b && c))
-and-assoc true b c = refl
-and-assoc false b c = refl
-
-and-end : (a : Bool) → (a && true) ≡ a
-and-end true = refl
-and-end false = refl
 
 module _ (file : List ℕ) (place len : ℕ) (fit : List ℕ) where
   -- the members from a byte on, of a payload, fit the argument of sort i + 1
@@ -54,4 +46,4 @@ module _ (file : List ℕ) (place len : ℕ) (fit : List ℕ) where
     pub met-all : len < at + 2 → FitsArrow file place len fit r
     unfolding all
     met-all h p there i =
-        sym (ap (λ ms. has r i && all (λ m. has (maskOf fit m fitArguments) i) ms) (words-done p at (omega (arith, there .long))) ∙ and-end (has r i)) ∙ met .decides p there i
+        sym (ap (λ ms. has r i && all (λ m. has (maskOf fit m fitArguments) i) ms) (words-done p at (omega (arith, there .long))) ∙ and-true (has r i)) ∙ met .decides p there i

@@ -2,13 +2,14 @@
 use Prim.Native.Nat.{ℕ, zero, suc, _+_, _*_, _<_, _≤_}
 use native.Mathlib.Omega.{arith}
 use native.Mathlib.Decide.{decLt}
-use mathlib.Core.Path.{_≡_, refl, sym, ap, ap₂, subst, _∙_}
+use mathlib.Core.Path.{_≡_, sym, ap, ap₂, subst, _∙_}
 use mathlib.Core.Bool.{Bool, _&&_}
-use mathlib.Core.List.{List, [], _∷_, List·Memᴰ, List·Memᴰ·head, List·Memᴰ·tail}
+use mathlib.Core.List.{List, []}
 use lib.Dec.{eqb, eqb·suc-zero}
 use lib.ListN.{length, getD, set, length-set}
 use lib.Seq.{getD-set-same, getD-set-other}
 use Rattle.scheme.specs.Lists.{all}
+use Rattle.scheme.proofs.Lists.{all-same}
 use Rattle.casefile.specs.Records.{Record}
 use Rattle.casefile.specs.Kinds.{type, payloads}
 use Rattle.records.specs.fields.Promises.{HasLength}
@@ -17,12 +18,6 @@ use Rattle.fits.specs.masks.Masks.{has, hasSort, maskOf, Unites}
 use Rattle.fits.specs.fits.Filled.{fitsAt, fromOf, toOf, SaysFits, Fitted, TypesAndSorts, PayloadThere, FitsArrow, ReadsRow}
 use Rattle.fits.proofs.masks.Bits.{has-zero}
 use Rattle.fits.proofs.fits.Rows.{sort-there, payload-there, length-is, state-fits, arrow-there, arrow-tree, arrow-numbers, arrow-fits}
-
--- two tests that say the same of each element
-all-same : (f g : ℕ → Bool) (ms : List ℕ) → ((m : ℕ) → List·Memᴰ m ms → f m ≡ g m) → all f ms ≡ all g ms
-unfolding all
-all-same f g [] e = refl
-all-same f g (m ∷ ms) e = ap₂ _&&_ (e m (List·Memᴰ·head refl)) (all-same f g ms (λ n h. e n (List·Memᴰ·tail h)))
 
 module _ (file index : List ℕ) (froms tos : List ℕ) (t place len : ℕ) (fit : List ℕ) (ep : place ≡ getD index (typesAt + t) 0) (el : HasLength file place len) where
   -- a state fits sort 0 alone

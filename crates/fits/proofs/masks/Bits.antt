@@ -4,17 +4,13 @@ use native.Mathlib.Omega.{arith}
 use native.Mathlib.Decide.{ℕ-discrete}
 use native.Mathlib.Numerals.{add-one}
 use mathlib.Core.Path.{_≡_, refl, sym, ap, _∙_}
-use mathlib.Core.Bool.{Bool, true, false, not, _&&_, _||_}
+use mathlib.Core.Bool.{Bool, true, false, not, _&&_, _||_, and-true, and-self}
 use lib.Arith.{digits-div, digits-mod}
 use lib.Bits.{bitAnd, bitOr, and-step, or-step, shifted-half, shifted-even}
 use lib.Count.{trailingZeros}
 use lib.Dec.{eqb, eqb·zero-suc, eqb·suc-zero, eqb·suc-suc}
 use lib.Pow.{shl-exact, shr-shr, shr-lt}
 use Rattle.fits.specs.masks.Masks.{has}
-
-pub or-no : (a b : Bool) → b ≡ false → (a || b) ≡ a
-or-no true b e = refl
-or-no false b e = e
 
 -- an operation that works on each digit apart
 module _ (op f : ℕ → ℕ → ℕ) (g : Bool → Bool → Bool) (step : (a b : ℕ) → op a b ≡ op (a / 2) (b / 2) * 2 + f (a % 2) (b % 2))
@@ -76,10 +72,6 @@ pub record Lowest (k n : ℕ) : Type 0 where
   pub there : has n (trailingZeros k n) ≡ true
   pub gone : (i : ℕ) → (has n i && has (n - 1) i) ≡ (has n i && not (eqb i (trailingZeros k n)))
 
-and-once : (a : Bool) → (a && a) ≡ (a && true)
-and-once true = refl
-and-once false = refl
-
 -- of a number by its lowest digit and the rest
 module _ (k n : ℕ) where
   lowest-odd : n % 2 ≡ 1 → Lowest (suc k) n
@@ -90,7 +82,7 @@ module _ (k n : ℕ) where
       go zero = let none : (n - 1) % 2 ≡ 0 = omega arith in ap (λ x. eqb (n % 2) 1 && eqb x 1) none
       go (suc i) =
           let same : (n - 1) / 2 ≡ n / 2 = omega arith in
-          ap (λ x. has (n / 2) i && has x i) same ∙ and-once (has (n / 2) i) ∙ ap (λ b. has (n / 2) i && not b) (sym (eqb·suc-zero i))
+          ap (λ x. has (n / 2) i && has x i) same ∙ and-self (has (n / 2) i) ∙ sym (and-true (has (n / 2) i)) ∙ ap (λ b. has (n / 2) i && not b) (sym (eqb·suc-zero i))
 
   lowest-even : n % 2 ≡ 0 → 0 < n → Lowest k (n / 2) → Lowest (suc k) n
   unfolding has trailingZeros

@@ -3,7 +3,7 @@ use Prim.Native.Nat.{ℕ, _+_, _<_, _≤_}
 use native.Mathlib.Omega.{arith}
 use native.Mathlib.Decide.{decLt, ℕ-discrete}
 use mathlib.Core.Path.{_≡_, refl, sym, ap, ap₂, _∙_}
-use mathlib.Core.Bool.{Bool, true, false, _&&_, _||_}
+use mathlib.Core.Bool.{Bool, true, false, _&&_, _||_, or-false}
 use mathlib.Core.List.{List}
 use borrow.Author.Tests.{lt-ltb, le-ltb, eq-eqb, ne-eqb}
 use lib.Bits.{bitOr}
@@ -14,7 +14,7 @@ use Rattle.scheme.proofs.Lists.{and-no}
 use Rattle.casefile.specs.Fields.{word}
 use Rattle.index.specs.layout.Layout.{maxSorts, allSorts}
 use Rattle.fits.specs.masks.Masks.{has, SortsWith}
-use Rattle.fits.proofs.masks.Bits.{oneBit, has-or, has-zero, has-one, or-no}
+use Rattle.fits.proofs.masks.Bits.{oneBit, has-or, has-zero, has-one}
 
 and-yes : (a b : Bool) → b ≡ true → (a && b) ≡ a
 and-yes true b e = e
@@ -25,7 +25,7 @@ next : (w : ℕ → ℕ) (i s n : ℕ) → ((ltb i s && eqb (w i) n) || (eqb i s
 next w i s n = by (decLt i s) (decLt s i)
   where
     by : Dec (i < s) → Dec (s < i) → ((ltb i s && eqb (w i) n) || (eqb i s && eqb (w s) n)) ≡ (ltb i (s + 1) && eqb (w i) n)
-    by (yes l) _ = rw (lt-ltb i s l, ne-eqb i s (λ e. omega arith), lt-ltb i (s + 1) (omega arith)) (or-no (eqb (w i) n) false refl)
+    by (yes l) _ = rw (lt-ltb i s l, ne-eqb i s (λ e. omega arith), lt-ltb i (s + 1) (omega arith)) (or-false (eqb (w i) n))
     by (no l) (yes g) = rw (le-ltb i s (omega arith), ne-eqb i s (λ e. omega arith), le-ltb i (s + 1) (omega arith)) refl
     by (no l) (no g) =
         let same : s ≡ i = omega arith in
@@ -55,7 +55,7 @@ module _ (file index : List ℕ) (at : ℕ) where
     kept : (n i : ℕ) → n ≤ maxSorts → (n ≡ number → ⊥) → has (getD masks n 0) i ≡ (ltb i (s + 1) && eqb (numberAt i) n)
     kept n i h ne =
         marked .marks n i h
-        ∙ sym (or-no (ltb i s && eqb (numberAt i) n) (eqb i s && eqb (numberAt s) n) (ap (λ b. eqb i s && b) (ne-eqb (numberAt s) n (λ f. ne (sym f ∙ sym here))) ∙ and-no (eqb i s)))
+        ∙ sym (ap (λ b. (ltb i s && eqb (numberAt i) n) || b) (ap (λ b. eqb i s && b) (ne-eqb (numberAt s) n (λ f. ne (sym f ∙ sym here))) ∙ and-no (eqb i s)) ∙ or-false (ltb i s && eqb (numberAt i) n))
         ∙ next numberAt i s n
 
     pub marked-past : (masks′ : List ℕ) → masks′ ≡ masks → maxSorts < number → MarkedTo masks′ (s + 1)

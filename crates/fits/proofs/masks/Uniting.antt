@@ -3,7 +3,7 @@ use Prim.Native.Nat.{ℕ, zero, suc, _+_, _-_, _^_, _<_, _≤_}
 use native.Mathlib.Omega.{arith}
 use native.Mathlib.Numerals.{add-one}
 use mathlib.Core.Path.{_≡_, refl, sym, ap, _∙_}
-use mathlib.Core.Bool.{Bool, true, false, not, _&&_, _||_}
+use mathlib.Core.Bool.{Bool, true, false, not, _&&_, _||_, or-false}
 use mathlib.Core.List.{List}
 use borrow.Author.Tests.{eqb-true}
 use lib.Bits.{bitAnd, bitOr}
@@ -12,7 +12,7 @@ use lib.Dec.{eqb, eqb·zero-suc, eqb·suc-suc}
 use lib.ListN.{getD}
 use Rattle.index.specs.layout.Layout.{maxSorts}
 use Rattle.fits.specs.masks.Masks.{has, hasSort, Unites}
-use Rattle.fits.proofs.masks.Bits.{has-and, has-or, has-zero, or-no, Lowest, lowest}
+use Rattle.fits.proofs.masks.Bits.{has-and, has-or, has-zero, Lowest, lowest}
 
 moved : (a b c : Bool) → (b ≡ true → c ≡ true) → ((a || b) || (c && not b)) ≡ (a || c)
 moved true b c h = refl
@@ -41,7 +41,7 @@ module _ (masks : List ℕ) (m : ℕ) where
 
       -- the sort of the bit that is gone is in the union now, and all others stay
       go : (a : Bool) (n : ℕ) → ((a || eqb n (j + 1)) || hasSort (bitAnd left (left - 1)) n) ≡ (a || hasSort left n)
-      go a zero = rw (add-one j, eqb·zero-suc j) (ap (λ b. b || false) (or-no a false refl))
+      go a zero = rw (add-one j, eqb·zero-suc j) (ap (λ b. b || false) (or-false a))
       go a (suc k) =
           rw (add-one j, eqb·suc-suc k j)
           (ap (λ b. (a || eqb k j) || b) (has-and k left (left - 1) ∙ low .gone k ∙ ap (λ z. has left k && not (eqb k z)) (sym e))
@@ -49,7 +49,7 @@ module _ (masks : List ℕ) (m : ℕ) where
 
   pub united-all : (out left : ℕ) → UnitedTo out left → left ≡ 0 → Unites masks m out
   unfolding hasSort
-  united-all out left u e i n alone = sym (or-no (has out i) (hasSort left n) (ap (λ l. hasSort l n) e ∙ none n)) ∙ u .unites i n alone
+  united-all out left u e i n alone = sym (ap (λ b. has out i || b) (ap (λ l. hasSort l n) e ∙ none n) ∙ or-false (has out i)) ∙ u .unites i n alone
     where
       none : (n : ℕ) → hasSort 0 n ≡ false
       none zero = refl
