@@ -1,10 +1,8 @@
--- The start binding among those kept: the bindings of nonterminal 0 stand first, and a goal says which types are the state 0.
-use Rattle.head_types.specs.candidates.Candidates.{noBinding}
+-- The start binding among those kept: the table says which is of nonterminal 0, and which type is the state 0.
 use Prim.Native.Nat.{ℕ, zero, suc, _+_, _<_, _≤_}
 use native.Mathlib.Omega.{arith}
-use native.Mathlib.Nat.{add-zero, le-of-suc-le-suc}
-use native.Mathlib.Decide.{decLt}
-use mathlib.Core.Path.{_≡_, refl, sym, ap, ap₂, subst, _∙_}
+use native.Mathlib.Nat.{le-of-suc-le-suc}
+use mathlib.Core.Path.{_≡_, refl, sym, ap, ap₂, _∙_}
 use mathlib.Core.Bool.{Bool, true, false, _&&_, _||_}
 use mathlib.Core.List.{List, [], _∷_}
 use borrow.Author.Count.{below-more}
@@ -12,25 +10,20 @@ use borrow.Author.Tests.{ne-eqb}
 use lib.Dec.{eqb}
 use lib.ListN.{length, getD}
 use Rattle.scheme.specs.Lists.{any, keepIf}
-use Rattle.scheme.specs.Types.{state, same}
-use Rattle.scheme.specs.Typing.{Binding}
+use Rattle.scheme.specs.Types.{Ty, state, same}
 use Rattle.scheme.specs.Flags.{isKept, chosen}
 use Rattle.scheme.specs.Acceptance.{isStart}
-use Rattle.scheme.proofs.Lists.{and-no, getD-map-in}
-use Rattle.casefile.specs.Fields.{word}
-use Rattle.casefile.specs.Records.{Record}
-use Rattle.casefile.specs.Kinds.{Kind, payloads, count}
-use Rattle.casefile.specs.Tables.{typesOf, bindingsOf}
-use Rattle.casefile.proofs.TypeTable.{count-payloads}
-use Rattle.casefile.proofs.Plans.{bindings-many}
-use Rattle.index.specs.layout.Layout.{maxBindings}
-use Rattle.index.specs.entries.Index.{Indexed}
-use Rattle.index.specs.entries.Tests.{IsPlace}
-use Rattle.goals.specs.groups.Groups.{nonterminalOf, Grouped}
-use Rattle.goals.specs.goals.Goals.{of-state, Typed, typeOfBinding, IsOwn}
-use Rattle.goals.proofs.goals.Goals.{goals-same}
-use Rattle.binding_cases.specs.Judging.{startsAt, StartsAt, FindsStart}
+use Rattle.scheme.proofs.Lists.{and-no}
 use Rattle.scheme.proofs.Flags.{kept-byte}
+use Rattle.casefile.specs.Fields.{IsField}
+use Rattle.casefile.specs.Records.{Record}
+use Rattle.casefile.specs.Kinds.{Kind, count}
+use Rattle.casefile.specs.Tables.{bindingsOf}
+use Rattle.casefile.proofs.Plans.{bindings-many}
+use Rattle.tables.specs.Facts.{Goal, of-state, of-arrow, noBinding, bindingAt, TypesAre, BindingsAre}
+use Rattle.tables.specs.reading.Cells.{symbolOf, ownOf}
+use Rattle.rounds.proofs.shrinking.Counting.{byte-is}
+use Rattle.binding_cases.specs.Judging.{startsAt, StartsAt, FindsStart}
 
 -- an element that is chosen and passes, or none
 module _ {B : Type 0} (p : B → Bool) where
@@ -54,101 +47,71 @@ module _ {B : Type 0} (p : B → Bool) where
   any-none (zero ∷ fs) (b ∷ bs) d h = any-none fs bs d (λ i k. h (suc i) (omega arith))
   any-none (suc f ∷ fs) (b ∷ bs) d h = ap₂ _||_ (h 0 (omega arith)) (any-none fs bs d (λ i k. h (suc i) (omega arith)))
 
--- what a binding is
-binding-at : (rs : List Record) (b : ℕ) → b < length (payloads Kind.binding rs) → getD (bindingsOf rs) b noBinding ≡ record { nonterminal = nonterminalOf rs b; type = getD (typesOf rs) (word (getD (payloads Kind.binding rs) b []) 2) (state 0) }
-unfolding bindingsOf
-binding-at rs b h = getD-map-in (λ (p : List ℕ). record { nonterminal = word p 0; type = getD (typesOf rs) (word p 2) (state 0) }) (payloads Kind.binding rs) b noBinding [] h
+-- the goal 0 is the state 0
+same-zero : {rs : List Record} (g : ℕ) (τ : Ty) → Goal rs g τ → same τ (state 0) ≡ eqb g 0
+unfolding same
+same-zero g τ (of-state q small e f) = ap (λ σ. same σ (state 0)) f ∙ ap (λ x. eqb x 0) (sym e)
+same-zero g τ (of-arrow m a r k x u y) = ap (λ σ. same σ (state 0)) y ∙ sym (ne-eqb g 0 (λ z. omega arith))
 
-module _ (index : List ℕ) (types b flag : ℕ) where
-  pub starts-dropped : flag ≡ 0 → StartsAt index types b flag false
+module _ (t flags : List ℕ) (b flag : ℕ) (is : IsField 1 flags b flag) where
+  pub starts-dropped : flag ≡ 0 → StartsAt t flags b false
   unfolding isKept
-  starts-dropped z = record { answer = λ n rs w ix few h. sym (ap (λ x. startsAt rs b x) z) }
+  starts-dropped z = record { answer = λ rs types bindings h. sym (ap (λ x. isKept x && isStart (bindingAt rs b)) (sym (byte-is flags b flag is) ∙ z)) }
 
-  pub starts-far : 1024 ≤ b → StartsAt index types b flag false
-  starts-far k = record { answer = λ n rs w ix few h. absurd (omega arith) }
+  module _ (nz : flag ≡ 0 → ⊥) (f : ℕ) (symbol : f ≡ symbolOf t b) where
+    kept : isKept (getD flags b 0) ≡ true
+    kept = ap isKept (sym (byte-is flags b flag is)) ∙ kept-byte flag nz
 
-  pub starts-here : (flag ≡ 0 → ⊥) → b < maxBindings → (g : ℕ) → IsOwn index b g → StartsAt index types b flag (eqb g types)
-  starts-here nz near g own = record { answer = λ n rs w ix few h. answer n rs w ix h }
-    where
-      answer : {file : List ℕ} (n : ℕ) (rs : List Record) → Typed file index types rs → Indexed file index Kind.binding n rs → b < n → eqb g types ≡ startsAt rs b flag
-      answer n rs w ix h =
-          let many = count-payloads Kind.binding rs in
-          let counted = ix .counted in
-          let τ = getD (typesOf rs) (typeOfBinding rs b) (state 0) in
-          let same-type : same τ (state 0) ≡ eqb g types = goals-same w g types τ (state 0) (own .own rs types w (omega arith) near) (of-state 0 (omega arith) (sym (add-zero types)) refl) in
-          let is-type : getD (bindingsOf rs) b noBinding .type ≡ τ = ap (λ (x : Binding). x .type) (binding-at rs b (omega arith)) in
-          sym same-type ∙ ap (λ σ. same σ (state 0)) (sym is-type) ∙ ap (λ x. x && same (getD (bindingsOf rs) b noBinding .type) (state 0)) (sym (kept-byte flag nz))
+    pub starts-other : 0 < f → StartsAt t flags b false
+    unfolding isStart
+    starts-other h =
+        record {
+          answer = λ rs types bindings l.
+              let s = bindings .symbol b l in
+              sym (ap (λ x. isKept (getD flags b 0) && (x && same (bindingAt rs b .type) (state 0))) (ne-eqb (bindingAt rs b .nonterminal) 0 (λ z. omega arith)) ∙ and-no (isKept (getD flags b 0)));
+        }
 
--- The bindings of nonterminal 0, one after the other.
+    pub starts-here : f ≤ 0 → (g : ℕ) → g ≡ ownOf t b → StartsAt t flags b (eqb g 0)
+    unfolding isStart
+    starts-here h g own =
+        record {
+          answer = λ rs types bindings l.
+              let s = bindings .symbol b l in
+              let first : bindingAt rs b .nonterminal ≡ 0 = omega arith in
+              let state-0 : same (bindingAt rs b .type) (state 0) ≡ eqb g 0 = same-zero (ownOf t b) (bindingAt rs b .type) (bindings .own b l) ∙ ap (λ x. eqb x 0) (sym own) in
+              sym (ap (λ x. x && isStart (bindingAt rs b)) kept ∙ ap (λ x. eqb x 0 && same (bindingAt rs b .type) (state 0)) first ∙ state-0);
+        }
+
+-- The bindings one after the other.
 -- none of the first b starts
-pub record NoneTo (index counts flags : List ℕ) (last b : ℕ) : Type 0 where
-  pub none-starts : {file : List ℕ} (n : ℕ) (rs : List Record) → Typed file index (getD counts 7 0) rs → Indexed file index Kind.binding n rs → n ≤ maxBindings → last ≤ n → (i : ℕ) → i < b → startsAt rs i (getD flags i 0) ≡ false
+pub record NoneTo (t flags : List ℕ) (n b : ℕ) : Type 0 where
+  pub none-starts : (rs : List Record) → TypesAre rs t → BindingsAre rs t → n ≡ count Kind.binding rs → (i : ℕ) → i < b → startsAt rs flags i ≡ false
 
-pub none-yet : (index counts flags : List ℕ) (last : ℕ) → NoneTo index counts flags last 0
-none-yet index counts flags last = record { none-starts = λ n rs w ix few l i h. absurd (omega arith) }
+module _ (t flags : List ℕ) (n : ℕ) where
+  pub none-yet : NoneTo t flags n 0
+  none-yet = record { none-starts = λ rs types bindings e i h. absurd (omega arith) }
 
-module _ (index counts groups flags : List ℕ) where
-  -- a binding below the entry of nonterminal 1 is of nonterminal 0, and no other
-  module _ {file : List ℕ} (n last : ℕ) (rs : List Record) (ix : Indexed file index Kind.binding n rs) (grouped : Grouped rs n groups) (some : 1 ≤ count Kind.nonterminal rs) (is : IsPlace groups 1 last) where
-    within : last ≤ n
-    within = let a = grouped .within 1 some in let b = is .value in omega arith
-
-    listed : n ≡ length (payloads Kind.binding rs)
-    listed = sym (ix .counted) ∙ count-payloads Kind.binding rs
-
-    starts-low : (i : ℕ) → i < last → isStart (getD (bindingsOf rs) i noBinding) ≡ same (getD (bindingsOf rs) i noBinding .type) (state 0)
-    unfolding isStart
-    starts-low i h =
-        let v = is .value in
-        let low = grouped .below 1 i some (omega arith) in
-        let w = within in
-        let l = listed in
-        let zero-there : getD (bindingsOf rs) i noBinding .nonterminal ≡ 0 = ap (λ (x : Binding). x .nonterminal) (binding-at rs i (omega arith)) ∙ (let z : nonterminalOf rs i ≡ 0 = omega arith in z) in
-        ap (λ k. eqb k 0 && same (getD (bindingsOf rs) i noBinding .type) (state 0)) zero-there
-
-    starts-high : (i : ℕ) → last ≤ i → i < n → isStart (getD (bindingsOf rs) i noBinding) ≡ false
-    unfolding isStart
-    starts-high i h k =
-        let v = is .value in
-        let high = grouped .from-on 1 i some (omega arith) k in
-        let l = listed in
-        let there : getD (bindingsOf rs) i noBinding .nonterminal ≡ nonterminalOf rs i = ap (λ (x : Binding). x .nonterminal) (binding-at rs i (omega arith)) in
-        ap (λ x. x && same (getD (bindingsOf rs) i noBinding .type) (state 0)) (ne-eqb (getD (bindingsOf rs) i noBinding .nonterminal) 0 (λ z. omega arith))
-
-  module _ (types last : ℕ) (t : IsPlace counts 7 types) (is : IsPlace groups 1 last) (b : ℕ) (none : NoneTo index counts flags last b) where
-    module _ (h : b < last) (r : Bool) (at : StartsAt index types b (getD flags b 0) r) where
-      here : {file : List ℕ} (n : ℕ) (rs : List Record) → Typed file index (getD counts 7 0) rs → Indexed file index Kind.binding n rs → n ≤ maxBindings → last ≤ n → r ≡ startsAt rs b (getD flags b 0)
-      here {file} n rs w ix few l = at .answer n rs (subst (λ k. Typed file index k rs) (sym (t .value)) w) ix few (omega arith)
-
-      pub none-more : r ≡ false → NoneTo index counts flags last (b + 1)
-      none-more e = record { none-starts = λ n rs w ix few l. below-more (λ i. startsAt rs i (getD flags i 0) ≡ false) b (none .none-starts n rs w ix few l) (sym (here n rs w ix few l) ∙ e) }
-
-      pub start-found : r ≡ true → FindsStart index counts groups flags true
-      start-found e =
+  module _ (b : ℕ) (none : NoneTo t flags n b) where
+    module _ (h : b < n) (r : Bool) (at : StartsAt t flags b r) where
+      pub none-more : r ≡ false → NoneTo t flags n (b + 1)
+      none-more e =
           record {
-            answer = λ n rs w ix few grouped some enough.
-                let l = within n last rs ix grouped some is in
-                let many = bindings-many rs in
-                let counted = ix .counted in
-                sym (any-some isStart flags (bindingsOf rs) b noBinding (omega arith)
-                (ap (isKept (getD flags b 0) &&_) (starts-low n last rs ix grouped some is b h) ∙ sym (here n rs w ix few l) ∙ e));
+            none-starts = λ rs types bindings m.
+                below-more (λ i. startsAt rs flags i ≡ false) b (none .none-starts rs types bindings m) (sym (at .answer rs types bindings (omega arith)) ∙ e);
           }
 
-    pub start-none : last ≤ b → FindsStart index counts groups flags false
+      pub start-found : r ≡ true → FindsStart t flags n true
+      start-found e =
+          record {
+            answer = λ rs types bindings m.
+                let many = bindings-many rs in
+                sym (any-some isStart flags (bindingsOf rs) b noBinding (omega arith) (sym (at .answer rs types bindings (omega arith)) ∙ e));
+          }
+
+    pub start-none : n ≤ b → FindsStart t flags n false
     start-none h =
         record {
-          answer = λ n rs w ix few grouped some enough.
-              let l = within n last rs ix grouped some is in
+          answer = λ rs types bindings m.
               let many = bindings-many rs in
-              let counted = ix .counted in
-              sym (any-none isStart flags (bindingsOf rs) noBinding (λ i k. each n rs w ix few grouped some l i (omega arith) (decLt i last)));
+              sym (any-none isStart flags (bindingsOf rs) noBinding (λ i k. none .none-starts rs types bindings m i (omega arith)));
         }
-      where
-        each : {file : List ℕ} (n : ℕ) (rs : List Record) → Typed file index (getD counts 7 0) rs → Indexed file index Kind.binding n rs → n ≤ maxBindings → Grouped rs n groups → 1 ≤ count Kind.nonterminal rs → last ≤ n → (i : ℕ) → i < n → Dec (i < last)
-            → (isKept (getD flags i 0) && isStart (getD (bindingsOf rs) i noBinding)) ≡ false
-        each n rs w ix few grouped some l i k (yes j) = ap (isKept (getD flags i 0) &&_) (starts-low n last rs ix grouped some is i j) ∙ none .none-starts n rs w ix few l i (omega arith)
-        each n rs w ix few grouped some l i k (no j) = ap (isKept (getD flags i 0) &&_) (starts-high n last rs ix grouped some is i (omega arith) k) ∙ and-no (isKept (getD flags i 0))
-
-  -- there is no flag for each
-  pub start-few : (last : ℕ) → IsPlace groups 1 last → length flags < last → FindsStart index counts groups flags false
-  start-few last is h = record { answer = λ n rs w ix few grouped some enough. absurd (let l = within n last rs ix grouped some is in omega arith) }

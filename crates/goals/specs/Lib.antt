@@ -1,2 +1,1 @@
-pub mod goals
 pub mod groups

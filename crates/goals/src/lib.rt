@@ -1,3 +1,1 @@
-pub mod goals;
 pub mod groups;
-pub mod parts;

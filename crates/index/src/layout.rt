@@ -40,14 +40,12 @@ pub const MAX_TERM: usize = 4096;
 // The last number that an entry of a kind may have.
 pub const LAST_NONTERMINAL: usize = MAX_NONTERMINALS - 1;
 
-pub const LAST_TYPE: usize = MAX_TYPES - 1;
-
-pub const LAST_BINDING: usize = MAX_BINDINGS - 1;
-
-pub const LAST_MEMBER: usize = MAX_MEMBERS - 1;
-
-// The bytes of a node of a body.
+// The bytes of a node of a body; the least bytes of a record of a type, and of one of a binding.
 pub const NODE: usize = 4;
+
+pub const TYPE_BYTES: usize = 5;
+
+pub const BINDING_BYTES: usize = 8;
 
 // The numbers of the kinds, by which the counts of a file's records stand.
 pub const SORT: usize = 1;
@@ -70,8 +68,8 @@ pub const PATH: usize = 9;
 
 pub const KINDS: usize = 10;
 
-// The index: where the entries of each kind begin; the last type of each hash, and the type before each one of its hash; each
-// type as a goal, the result of each arrow, the type of each binding; where the transition of each state and constructor lies.
+// The index: where the entries of each kind begin; the last type of each hash, and the type before each one of its hash; where the
+// transition of each state and constructor lies.
 pub const SORTS_AT: usize = 0;
 
 pub const CONSTRUCTORS_AT: usize = SORTS_AT + MAX_SORTS;
@@ -94,13 +92,7 @@ pub const HASHES_AT: usize = PATH_AT + 1;
 
 pub const LINKS_AT: usize = HASHES_AT + HASHES;
 
-pub const GOALS_AT: usize = LINKS_AT + MAX_TYPES;
-
-pub const RESULTS_AT: usize = GOALS_AT + MAX_TYPES;
-
-pub const OWN_TYPES_AT: usize = RESULTS_AT + MAX_TYPES;
-
-pub const PLACES_AT: usize = OWN_TYPES_AT + MAX_BINDINGS;
+pub const PLACES_AT: usize = LINKS_AT + MAX_TYPES;
 
 pub const INDEX: usize = PLACES_AT + MAX_TRANSITIONS;
 
@@ -121,8 +113,6 @@ pub type Counts = [u16; KINDS];
 
 pub const ENDS: usize = MAX_FILE / NODE;
 
-pub type Ends = [u16; ENDS];
-
 pub const MOST_NODES_AT: usize = MAX_NONTERMINALS;
 
 pub const ROWS: usize = MAX_NONTERMINALS + 1;
@@ -141,12 +131,7 @@ pub const FIT_MASKS: usize = 3;
 
 pub const FITS: usize = MAX_TYPES * FIT_MASKS;
 
-pub type Fits = [u64; FITS];
-
 pub type SortMasks = [u64; ALL_SORTS];
-
-// The flags of the bindings as a round began.
-pub type Flags = [u8; MAX_BINDINGS];
 
 // The codes of sorts: the number of a listed one; for the sort of a constructor that is not listed, UNLISTED and how many
 // arguments it has; NO_SORT for none.
@@ -156,19 +141,8 @@ pub const UNLISTED_1: usize = UNLISTED + 1;
 
 pub const NO_SORT: usize = 2000;
 
-// The memo of a test: an entry for each node of a body and each goal, the goals being types and states; the memo of a file of
-// up to SMALL_FILE bytes; the largest number of a test.
+// The goals of a check: types and states.
 pub const MAX_GOALS: usize = MAX_TYPES + MAX_STATES;
-
-pub const MEMO: usize = MAX_NODES * MAX_GOALS;
-
-pub type Memo = [u8; MEMO];
-
-pub const SMALL_FILE: usize = 1024;
-
-pub const SMALL_MEMO: usize = 16384;
-
-pub const LAST_STAMP: usize = 127;
 
 // What stands for no number: no result, no member, no target, no type.
 pub const NONE: usize = 65535;
@@ -184,28 +158,35 @@ pub type Transitions = [[Row; MAX_CONSTRUCTORS]; MAX_STATES];
 // What stands for no state where a target is asked for.
 pub const NO_STATE: usize = 256;
 
-// The numbers of a test: how many types and constructors there are, the type of the binding as a goal, the number of the test,
-// where its body begins and how many bytes it has, and the number of its first node.
-pub const TEST_TYPES: usize = 0;
+// The numbers of a test: the type of the binding as a goal; where the nodes of its body begin; the binding, and its body, as owners of
+// notes; the number of the test, and that of the tests of its body in this round; how many cells of answers a node has, how many words
+// a set of candidates and a column of users; how many bindings there are.
+pub const TEST_OWN: usize = 0;
 
-pub const TEST_CONSTRUCTORS: usize = 1;
+pub const TEST_BASE: usize = 1;
 
-pub const TEST_GOAL: usize = 2;
+pub const TEST_BINDING: usize = 2;
 
-pub const TEST_STAMP: usize = 3;
+pub const TEST_BODY: usize = 3;
 
-pub const TEST_START: usize = 4;
+pub const TEST_STAMP: usize = 4;
 
-pub const TEST_BYTES: usize = 5;
+pub const TEST_SHARED: usize = 5;
 
-pub const TEST_FIRST: usize = 6;
+pub const TEST_WIDE: usize = 6;
 
-pub type Test = [usize; 7];
+pub const TEST_WORDS: usize = 7;
 
-// The flags that nonterminals share by their numbers, and behind them one for every body.
-pub const SHARED: usize = 64;
+pub const TEST_ACROSS: usize = 8;
 
-pub type Lost = [u8; SHARED + 1];
+pub const TEST_BINDINGS: usize = 9;
+
+pub const TEST_USERS: usize = 10;
+
+pub const TEST_ANSWERS: usize = 11;
+
+// What a check reads begins with the numbers of the test; the sets of candidates stand behind so many cells.
+pub const TEST_CELLS: usize = 16;
 
 // A closure as a number: the nodes of its term, the place of its node, the count of its frame, the block of its frame.
 pub const NODE_UNITS: usize = 8192;
@@ -237,3 +218,182 @@ pub const SHORT_CELLS: usize = (SHORT_PATH + 1) * BLOCK;
 pub const LONG_CELLS: usize = (LONG_PATH + 1) * BLOCK;
 
 pub const ALL_CELLS: usize = (MAX_LETTERS + 1) * BLOCK;
+
+// The bits of a word.
+pub const WORD: usize = 32;
+
+// What a test remembers of a node for 32 goals: three words. The most such cells a node has, and the answers of a test.
+pub const CELL: usize = 3;
+
+pub const MAX_CELLS: usize = (MAX_GOALS + WORD - 1) / WORD;
+
+pub const ANSWERS: usize = MAX_NODES * MAX_CELLS * CELL;
+
+// The flat table of a check. Of the automaton: by constructor and state the targets, four bits each; by constructor the states that
+// have a transition, as bits; by constructor how many arguments it has. Then by nonterminal its first binding, and one entry more.
+pub const TARGETS_AT: usize = 0;
+
+pub const PRESENT_AT: usize = TARGETS_AT + MAX_CONSTRUCTORS * MAX_STATES;
+
+pub const ARITIES_AT: usize = PRESENT_AT + MAX_CONSTRUCTORS;
+
+pub const GROUPS_AT: usize = ARITIES_AT + MAX_CONSTRUCTORS;
+
+// Then rows, by number. A goal is a state by its number, or an arrow by the number of its type behind the states. Row g has of goal g
+// the result, the final state, the states among its members as bits, how many members are arrows, how many there are; the goal that
+// is the type with that row; row b has the nonterminal of binding b and its type as a goal; at the end the members of goal g.
+pub const ROWS_AT: usize = GROUPS_AT + ROWS;
+
+pub const RESULT: usize = 0;
+
+pub const END: usize = 1;
+
+pub const MEMBER_STATES: usize = 2;
+
+pub const ARROWS: usize = 3;
+
+pub const MANY: usize = 4;
+
+pub const GOAL: usize = 5;
+
+pub const SYMBOL: usize = 6;
+
+pub const OWN: usize = 7;
+
+pub const MEMBERS: usize = 8;
+
+pub const ROW_CELLS: usize = MEMBERS + MAX_MEMBERS;
+
+// Rows are asked for by a number modulo ROW_LIMIT, which no number of a row reaches; nodes by a place modulo PLACE_LIMIT likewise.
+pub const ROW_LIMIT: usize = 2048;
+
+pub const PLACE_LIMIT: usize = 131072;
+
+// Then the nodes, three cells each: the tag, 4 where no parameter stands in its term, 8 for each argument; the number; the node behind.
+pub const NUMBER: usize = 1;
+
+pub const NEXT: usize = 2;
+
+pub const NODE_CELLS: usize = 3;
+
+// What stands for no targets of a constructor.
+pub const NO_TARGETS: usize = 65536;
+
+// The most words of a set of bindings, and of a set of bindings and bodies; the bindings that a column may have.
+pub const WORDS_LIMIT: usize = 64;
+
+// The words of a set of bindings.
+pub const BINDING_WORDS: usize = MAX_BINDINGS / WORD;
+
+// The largest number of a test.
+pub const LAST_TEST: u32 = 4294967295;
+
+// The tables of a binding case at the limits: the flat table, the sets of candidates, the users, the hints.
+pub const TABLE: usize = ROWS_AT + MAX_GOALS * ROW_CELLS + ENDS * NODE_CELLS;
+
+pub const SETS: usize = MAX_GOALS * BINDING_WORDS;
+
+pub const USERS: usize = MAX_BINDINGS * BINDING_WORDS;
+
+pub const HINTS: usize = 16384;
+
+// The hints of nodes and goals come first, then those of nonterminals and goals, whose numbers are spread by a stride.
+pub const HEAD_HINTS_AT: usize = HINTS / 2;
+
+pub const HINT_STRIDE: usize = 61;
+
+// Shorter files have no hints.
+pub const NO_HINTS: usize = 0;
+
+// The tables of a tiny file, by its length: how many nodes, types and bindings it may have, and from these its tables as those at the
+// limits. A test remembers answers for all nodes that a body may have, and for all goals.
+pub const TINY_FILE: usize = 384;
+
+pub const TINY_ENDS: usize = TINY_FILE / NODE;
+
+pub const TINY_TYPES: usize = TINY_FILE / TYPE_BYTES;
+
+pub const TINY_BINDINGS: usize = TINY_FILE / BINDING_BYTES;
+
+pub const TINY_FITS: usize = TINY_TYPES * FIT_MASKS;
+
+pub const TINY_GOALS: usize = TINY_TYPES + MAX_STATES;
+
+pub const TINY_WORDS: usize = (TINY_BINDINGS + WORD - 1) / WORD;
+
+pub const TINY_TABLE: usize = ROWS_AT + TINY_GOALS * ROW_CELLS + TINY_ENDS * NODE_CELLS;
+
+pub const TINY_SETS: usize = TINY_GOALS * TINY_WORDS;
+
+pub const TINY_USERS: usize = TINY_BINDINGS * TINY_WORDS;
+
+pub const TINY_ANSWERS: usize = TINY_ENDS * ((TINY_GOALS + WORD - 1) / WORD) * CELL;
+
+// The tables of a small file, likewise.
+pub const SMALL_FILE: usize = 1024;
+
+pub const SMALL_ENDS: usize = SMALL_FILE / NODE;
+
+pub const SMALL_TYPES: usize = SMALL_FILE / TYPE_BYTES;
+
+pub const SMALL_BINDINGS: usize = SMALL_FILE / BINDING_BYTES;
+
+pub const SMALL_FITS: usize = SMALL_TYPES * FIT_MASKS;
+
+pub const SMALL_GOALS: usize = SMALL_TYPES + MAX_STATES;
+
+pub const SMALL_WORDS: usize = (SMALL_BINDINGS + WORD - 1) / WORD;
+
+pub const SMALL_TABLE: usize = ROWS_AT + SMALL_GOALS * ROW_CELLS + SMALL_ENDS * NODE_CELLS;
+
+pub const SMALL_SETS: usize = SMALL_GOALS * SMALL_WORDS;
+
+pub const SMALL_USERS: usize = SMALL_BINDINGS * SMALL_WORDS;
+
+pub const SMALL_ANSWERS: usize = SMALL_ENDS * ((SMALL_GOALS + WORD - 1) / WORD) * CELL;
+
+// The tables of a file of middle length, likewise.
+pub const MIDDLE_FILE: usize = 2048;
+
+pub const MIDDLE_ENDS: usize = MIDDLE_FILE / NODE;
+
+pub const MIDDLE_TYPES: usize = MIDDLE_FILE / TYPE_BYTES;
+
+pub const MIDDLE_BINDINGS: usize = MIDDLE_FILE / BINDING_BYTES;
+
+pub const MIDDLE_FITS: usize = MIDDLE_TYPES * FIT_MASKS;
+
+pub const MIDDLE_GOALS: usize = MIDDLE_TYPES + MAX_STATES;
+
+pub const MIDDLE_WORDS: usize = (MIDDLE_BINDINGS + WORD - 1) / WORD;
+
+pub const MIDDLE_TABLE: usize = ROWS_AT + MIDDLE_GOALS * ROW_CELLS + MIDDLE_ENDS * NODE_CELLS;
+
+pub const MIDDLE_SETS: usize = MIDDLE_GOALS * MIDDLE_WORDS;
+
+pub const MIDDLE_USERS: usize = MIDDLE_BINDINGS * MIDDLE_WORDS;
+
+pub const MIDDLE_ANSWERS: usize = MAX_NODES * ((MIDDLE_GOALS + WORD - 1) / WORD) * CELL;
+
+// The tables of a longer file, likewise.
+pub const LONG_FILE: usize = 4096;
+
+pub const LONG_ENDS: usize = LONG_FILE / NODE;
+
+pub const LONG_TYPES: usize = LONG_FILE / TYPE_BYTES;
+
+pub const LONG_BINDINGS: usize = LONG_FILE / BINDING_BYTES;
+
+pub const LONG_FITS: usize = LONG_TYPES * FIT_MASKS;
+
+pub const LONG_GOALS: usize = LONG_TYPES + MAX_STATES;
+
+pub const LONG_WORDS: usize = (LONG_BINDINGS + WORD - 1) / WORD;
+
+pub const LONG_TABLE: usize = ROWS_AT + LONG_GOALS * ROW_CELLS + LONG_ENDS * NODE_CELLS;
+
+pub const LONG_SETS: usize = LONG_GOALS * LONG_WORDS;
+
+pub const LONG_USERS: usize = LONG_BINDINGS * LONG_WORDS;
+
+pub const LONG_ANSWERS: usize = MAX_NODES * ((LONG_GOALS + WORD - 1) / WORD) * CELL;

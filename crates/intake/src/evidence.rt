@@ -7,7 +7,6 @@ use index::entries::place_at;
 use index::entries::place_of;
 use index::layout::BINDING;
 use index::layout::BINDINGS_AT;
-use index::layout::Fits;
 use index::layout::PATH;
 use index::layout::Rows;
 use index::layout::SORT;
@@ -28,17 +27,17 @@ fn misfit(
     types: usize,
     sorts: usize,
     bindings: usize,
-    fit: &mut Fits,
+    fit: &mut [u64],
 ) -> usize
-    ensures { λ r. ⌜ FindsFirst (now (file .entry)) (now (index .entry)) types sorts bindings r ⌝ }
+    ensures { λ r. ⌜ FindsFirst (now (file .entry)) (now (index .entry)) types sorts bindings (now (fit .entry)) r ⌝ }
 {
     fill_fits(file, index, types, sorts, fit);
     first_misfit(file, index, fit, bindings)
 }
 
 // The tests of the evidence, 10 to 12, for a given number of lent flags.
-fn test_evidence(file: &[u8], index: &[u16], counts: &[u16], flags: usize, fit: &mut Fits) -> Case
-    ensures { λ r. ⌜ TestsEvidence (now (file .entry)) (now (index .entry)) (now (counts .entry)) flags r ⌝ }
+fn test_evidence(file: &[u8], index: &[u16], counts: &[u16], flags: usize, fit: &mut [u64]) -> Case
+    ensures { λ r. ⌜ TestsEvidence (now (file .entry)) (now (index .entry)) (now (counts .entry)) flags (now (fit .entry)) r ⌝ }
 {
     let sorts = place_at(counts, SORT);
     let types = place_at(counts, TYPE);
@@ -75,11 +74,11 @@ pub(crate) fn test_whole(
     counts: &[u16],
     flags: usize,
     ends: &mut [u16],
-    fit: &mut Fits,
+    fit: &mut [u64],
     codes: &mut Rows,
     depths: &mut Rows,
 ) -> Case
-    ensures { λ r. ⌜ TestsWhole (now (file .entry)) (now (index .entry)) (now (counts .entry)) flags (now (ends .entry)) (now (ends .exit)) r ⌝ }
+    ensures { λ r. ⌜ TestsWhole (now (file .entry)) (now (index .entry)) (now (counts .entry)) flags (now (ends .entry)) (now (fit .entry)) (now (ends .exit)) r ⌝ }
 {
     let plan = test_plan(file, index, counts, ends, codes, depths);
     match plan {

@@ -2,30 +2,30 @@
 use crate::evidence::Case;
 use crate::evidence::test_whole;
 use index::layout::Counts;
-use index::layout::Ends;
-use index::layout::Fits;
 use index::layout::Index;
 use index::layout::MAX_FILE;
 use index::layout::Rows;
 use index::layout::SortTable;
 use walk::walk::Walked;
+ghost use lib.ListN.{length};
 ghost use Rattle.intake.specs.intake.Intake.{Examined};
 
 // What a file is, where as many flags are lent as `flags` says, with its tables: the index of its entries, the argument counts
-// of its sorts, the counts of its kinds, and the ends of the subterms of its bodies. What the tables held before does not
-// matter. `codes` and `depths` are tables to work in: what they hold does not matter, before or after.
+// of its sorts, the counts of its kinds, and the ends of the subterms of its bodies. `ends` and `fit` need room for the nodes and
+// the types that a file of that length may have; what the tables held before does not matter. `codes` and `depths` are tables to
+// work in: what they hold does not matter, before or after.
 pub fn examine(
     file: &[u8],
     flags: usize,
     index: &mut Index,
     lens: &mut SortTable,
     counts: &mut Counts,
-    ends: &mut Ends,
-    fit: &mut Fits,
+    ends: &mut [u16],
+    fit: &mut [u64],
     codes: &mut Rows,
     depths: &mut Rows,
 ) -> Case
-    ensures { λ r. ⌜ Examined (now (file .entry)) flags (now (index .exit)) (now (lens .exit)) (now (counts .exit)) (now (ends .exit)) r ⌝ }
+    ensures { λ r. ⌜ Examined (now (file .entry)) flags (length (now (ends .entry))) (length (now (fit .entry))) (now (index .exit)) (now (lens .exit)) (now (counts .exit)) (now (ends .exit)) r ⌝ }
 {
     if MAX_FILE < file.len() {
         return Case::Refused {

@@ -1,19 +1,22 @@
 -- What the judge found meets demand 1, by what the intake took the file for.
-use Prim.Native.Nat.{ℕ}
+use Prim.Native.Nat.{ℕ, _≤_}
 use mathlib.Core.Path.{_≡_, refl, sym, ap, subst, _∙_}
 use mathlib.Core.Bool.{Bool, true, false}
 use mathlib.Core.List.{List, [], _++_}
+use borrow.Author.Tests.{ltb-false}
 use lib.ListN.{length, getD, drop}
 use Rattle.scheme.specs.Lists.{if_then_else_}
 use Rattle.casefile.specs.Records.{recordsOf, listed}
 use Rattle.casefile.specs.Kinds.{Kind, payloads}
 use Rattle.casefile.specs.Tables.{planOf, automatonOf, bindingsOf}
+use Rattle.casefile.specs.Refusals.{tooLong}
 use Rattle.casefile.specs.Cases
 use Rattle.casefile.specs.Cases.{refusedCase, bindingCase, pathCase, caseOf}
 use Rattle.casefile.proofs.Passed.{binding-case, path-case}
+use Rattle.index.specs.layout.Layout.{maxFile}
 use Rattle.intake.specs.declared.evidence.Case.{Case}
 use Rattle.intake.specs.declared.evidence.Case.the-variants.{Refused as RefusedCase, Bindings as BindingCase, Path}
-use Rattle.intake.specs.intake.Intake.{caseAs, Examined, Leaves}
+use Rattle.intake.specs.intake.Intake.{caseAs, CaseFound, Leaves}
 use Rattle.casefile.specs.PathCases.{PathAnswer, refutedPath, refusedPath, replayed}
 use Rattle.replay.specs.replay.Replays.{pathAs, ReplaysPath}
 use Rattle.replay.specs.declared.replay.Replayed.{Replayed}
@@ -66,6 +69,11 @@ answer-bindings s lent marks b k t r w =
     by true = refl
     by false = refl
 
+-- a file that 1 does not refuse
+short : (file : List ℕ) → tooLong file ≡ false → length file ≤ maxFile
+unfolding tooLong
+short file e = ltb-false maxFile (length file) e
+
 module _ (file lent : List ℕ) where
   -- the outcome of the file's case is the answer
   meets1 : (c : Cases.Case) → caseOf file (length lent) ≡ c → (a : Answer) (marks : List ℕ) → a ≡ outcomeOf c .answer → marks ≡ outcomeOf c .written ++ drop (length (outcomeOf c .written)) lent → Demand1 file lent a marks
@@ -75,7 +83,7 @@ module _ (file lent : List ℕ) where
       (ea ∙ ap (λ x. outcomeOf x .answer) (sym e))
       (em ∙ ap (λ x. outcomeOf x .written ++ drop (length (outcomeOf x .written)) lent) (sym e))
 
-  module _ {index lens counts ends : List ℕ} {r : Case} (w : Examined file (length lent) index lens counts ends r) where
+  module _ {index lens counts ends : List ℕ} {r : Case} (w : CaseFound file (length lent) index lens counts ends r) where
     pub judged-refused : (n p : ℕ) → r ≡ RefusedCase n p → Demand1 file lent (answerAs (Refused n p)) lent
     unfolding caseAs outcomeOf refusal answerAs
     judged-refused n p e = meets1 (refusedCase (record { number = n; place = p })) (sym (w .is-case) ∙ ap (caseAs file) e) (refused n p) lent refl refl
@@ -88,7 +96,7 @@ module _ (file lent : List ℕ) where
         let tables = subst (Leaves file index lens counts ends) e (w .tables) in
         let accepted = binding-case (length lent) file rs is .0 in
         let s = shrunk (automatonOf rs) (planOf rs) (bindingsOf rs) in
-        let found = judges .judged .judged lens rs (tables .known) (tables .passed) (tables .ends-are) (accepted .whole-file) in
+        let found = judges .judged .judged (short file (accepted .short)) lens (tables .known) (tables .passed) (tables .ends-are) (accepted .whole-file) in
         meets1 (bindingCase rs) is (answerAs v) marks (ap answerAs (judges .is-verdict) ∙ answer-bindings s lent marks _ _ _ _ found) (found .flags-are)
 
     pub judged-path : r ≡ Path → (p : Replayed) → ReplaysPath file index counts p → (v : Verdict) → v ≡ ofPath p → Demand1 file lent (answerAs v) lent

@@ -1,12 +1,22 @@
 -- What our own functions promise each other; nothing here has to be believed.
-use Prim.Native.Nat.{ℕ}
+use Prim.Native.Nat.{ℕ, _≤_}
 use mathlib.Core.Path.{_≡_}
 use mathlib.Core.Bool.{Bool}
 use mathlib.Core.List.{List}
+use mathlib.Core.Option.{none}
+use lib.ListN.{length}
 use Rattle.scheme.specs.Lists.{if_then_else_}
+use Rattle.casefile.specs.Records.{recordsOf, listed}
+use Rattle.casefile.specs.Tables.{planOf, automatonOf, bindingsOf}
+use Rattle.casefile.specs.Refusals.{refuseWhole}
+use Rattle.casefile.specs.Promises.{Passed}
+use Rattle.casefile.specs.BindingCases.{shrunk}
+use Rattle.index.specs.layout.Layout.{maxFile}
+use Rattle.index.specs.entries.Known.{Known}
+use Rattle.intake.specs.plan.PlanTests.{EndsAre}
 use Rattle.replay.specs.declared.replay.Replayed.{Replayed}
 use Rattle.replay.specs.declared.replay.Replayed.the-variants.{Refuted as Refuted′, Refused as Refused′}
-use Rattle.binding_cases.specs.Judging.{JudgesBindings}
+use Rattle.binding_cases.specs.Judging.{IsShrunk}
 use Rattle.plan_check.specs.declared.Verdict.{Verdict}
 use Rattle.plan_check.specs.declared.Verdict.the-variants.{Proved, Unproved, Refuted, Refused}
 
@@ -19,11 +29,17 @@ unfoldable pub ofPath : Replayed → Verdict
 ofPath (Refuted′ n q c) = Refuted n q c
 ofPath (Refused′ n p) = Refused n p
 
+-- what the definitions keep of the bindings of a file that is not refused, by its tables, where it has no more than a given number of bytes
+pub record JudgesUpTo (size : ℕ) (file index counts ends lent marks : List ℕ) (accepted : Bool) (kept total rounds : ℕ) : Type 0 where
+  pub judged : length file ≤ size → (lens : List ℕ) → Known file index lens counts (listed (recordsOf file)) → Passed (listed (recordsOf file)) → EndsAre (listed (recordsOf file)) ends
+      → refuseWhole (listed (recordsOf file)) (length lent) ≡ none
+      → IsShrunk (shrunk (automatonOf (listed (recordsOf file))) (planOf (listed (recordsOf file))) (bindingsOf (listed (recordsOf file)))) lent marks accepted kept total rounds
+
 -- v is the verdict on the bindings of a file, by its tables, and the lent flags became `marks`
 pub record JudgesBindingCase (file index counts ends lent marks : List ℕ) (v : Verdict) : Type 0 where
   pub accepted : Bool
   pub kept : ℕ
   pub total : ℕ
   pub rounds : ℕ
-  pub judged : JudgesBindings file index counts ends lent marks accepted kept total rounds
+  pub judged : JudgesUpTo maxFile file index counts ends lent marks accepted kept total rounds
   pub is-verdict : v ≡ ofBindings accepted kept total rounds

@@ -5,7 +5,6 @@ use index::entries::place_at;
 use index::layout::BLOCK_UNIT;
 use index::layout::COUNT_UNIT;
 use index::layout::COUNT_UNITS;
-use index::layout::Lost;
 use index::layout::MAX_ARITY;
 use index::layout::MAX_NONTERMINALS;
 use index::layout::MAX_TERM;

@@ -1,1 +1,4 @@
-pub mod Shrinking
+pub mod Resting
+pub mod tested
+pub mod dropping
+pub mod shrinking

@@ -16,4 +16,3 @@ pub mod Acceptance
 pub mod Alike
 pub mod Examples
 pub mod Sorting
-pub mod Agreeing

@@ -1,6 +1,8 @@
-pub mod Places
+pub mod Keeping
 pub mod Arguments
-pub mod Heads
-pub mod Runs
 pub mod Targets
-pub mod Choices
+pub mod Bound
+pub mod Members
+pub mod Given
+pub mod Terms
+pub mod Moved

@@ -1,2 +1,3 @@
-pub mod known
-pub mod check
+pub mod Worlds
+pub mod notes
+pub mod heads

@@ -1,2 +1,5 @@
 pub mod check;
-pub mod known;
+pub mod heads;
+pub mod hints;
+pub mod notes;
+pub mod parts;

@@ -1,4 +1,4 @@
-// The transitions by state and constructor: behind the goals the index has where the payload of each lies in the file, an entry
+// The transitions by state and constructor: behind its entries the index has where the payload of each lies in the file, an entry
 // for each state and constructor; 0 where there is none.
 use index::enter::clear;
 use index::enter::store;

@@ -25,8 +25,8 @@ pub struct Class {
 pub fn classes() -> Result<Vec<Class>, String> {
     let class = |name, subjects| Class { name, subjects };
     Ok(vec![
-        class("small", vec![Subject::new("E", &ground::e())]),
-        class("typical", papers_examples()?),
+        class("small", small()?),
+        class("typical", dispatches()?),
         class(
             "large",
             vec![
@@ -87,6 +87,70 @@ pub fn series() -> Vec<Class> {
         doubled("letters at 4,096 nodes", &[256, 512, 1_024, 2_048, 4_096], &|letters| long_path(letters, 11)),
         doubled("letters at 8 nodes", &[256, 512, 1_024, 2_048, 4_096], &|letters| long_path(letters, 2)),
     ]
+}
+
+/// E, and the schemes of the papers.
+fn small() -> Result<Vec<Subject>, String> {
+    let mut subjects = vec![Subject::new("E", &ground::e())];
+    subjects.extend(papers_examples()?);
+    Ok(subjects)
+}
+
+/// Dispatch plans of some floors.
+fn dispatches() -> Result<Vec<Subject>, String> {
+    [4, 12, 40].iter().map(|&floors| Ok(Subject::new(format!("a dispatch of {floors} floors"), &dispatch(floors)?))).collect()
+}
+
+/// A lift that is called from floor to floor: it goes up or down some floors, opens, takes in loads, closes. The doors are closed
+/// in state 0 and open in state 1. Of the bindings offered, those that have it move or load in the wrong state are dropped.
+fn dispatch(floors: usize) -> Result<CaseFile, String> {
+    let mut text = String::from(
+        "constructor br 2
+         constructor up 1
+         constructor down 1
+         constructor open 1
+         constructor close 1
+         constructor load 1
+         constructor end 0
+         rule S : o = Call0 end
+         rule Up k : o > o = up k
+         rule Down k : o > o = down k
+         rule Wait k : o > o = br k (Wait k)
+         rule Go move k : (o > o) > o > o = br (move k) (move (Go move k))
+         states 2
+         transition 0 br 0 0
+         transition 0 up 0
+         transition 0 down 0
+         transition 0 open 1
+         transition 0 end
+         transition 1 br 1 1
+         transition 1 close 0
+         transition 1 load 1
+         binding S : 0
+         binding Up : 0 > 0
+         binding Up : 1 > 1
+         binding Down : 0 > 0
+         binding Down : 1 > 1
+         binding Wait : 0 > 0
+         binding Wait : 1 > 1
+         binding Go : (0 > 0) > 0 > 0
+         binding Go : (1 > 1) > 1 > 1
+         binding Go : (0 > 0) & (1 > 1) > 0 & 1 > 0\n",
+    );
+    for floor in 0..floors {
+        let (next, way) = ((floor + 1) % floors, if floor + 1 < floors { "Up" } else { "Down" });
+        text += &format!(
+            "rule Call{floor} k : o > o = br (Go {way} (Stop{floor} (Call{next} k))) (Wait k)
+             rule Stop{floor} k : o > o = open (Doors{floor} (close k))
+             rule Doors{floor} k : o > o = br k (load (Doors{floor} k))
+             binding Call{floor} : 0 > 0
+             binding Call{floor} : 1 > 1
+             binding Stop{floor} : 0 > 0
+             binding Doors{floor} : 0 > 0
+             binding Doors{floor} : 1 > 1\n"
+        );
+    }
+    case_file(&text)
 }
 
 /// Schemes that Kobayashi (2009, 2011) prints in full, with bindings that prove them or a path that refutes them.

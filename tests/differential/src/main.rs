@@ -1,10 +1,10 @@
 //! Compares the library with an independent implementation of the scope, on the lines that the scope gives and on files
-//! drawn by a seed: the answer, and every byte of the flags with some bytes past their end. Then it judges the files of the
-//! benchmarks with 1 MB of stack: that a call needs less is measured so, not proved.
+//! drawn by a seed: the answer, and every byte of the flags with some bytes past their end. Before the drawn files it judges the
+//! files of the benchmarks and the hostile files at the limits with 1 MB of stack: that a call needs less is measured so, not
+//! proved.
 //!
 //! `differential [COUNT [SEED [THREADS]]]` draws COUNT files; `differential --file FILE [FLAGS]` compares one file;
-//! `differential --limits [NAME..]` judges the hostile files at the limits with 1 MB of stack, and `differential --write FOLDER`
-//! writes them.
+//! `differential --limits [NAME..]` judges hostile files at the limits alone, and `differential --write FOLDER` writes them.
 
 use differential::random::Random;
 use differential::verdict::Verdict;
@@ -242,6 +242,8 @@ fn compare_many(numbers: &[u64]) -> Result<bool, String> {
     println!("lines of the scope: {passed} passed, {failed} failed");
     if library::LINKED {
         let (fit, wrong) = in_thread(stack::try_files)??;
+        let (met, missed) = in_thread(|| stack::try_limits(&[]))??;
+        let (fit, wrong) = (fit + met, wrong + missed);
         println!("files judged with 1 MB of stack, measured and not proved: {fit} passed, {wrong} failed");
         passed += fit;
         failed += wrong;

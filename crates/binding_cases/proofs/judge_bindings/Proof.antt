@@ -1,5 +1,7 @@
 -- `judge_bindings` meets its contract.
 use native.Mathlib.Omega.{arith}
+use mathlib.Core.Path.{refl}
+use Rattle.binding_cases.proofs.Parts.{users-small}
 use Rattle.binding_cases.proofs.Tables.{judged}
 use borrow.Author.Needs.{needs}
 use Rattle.binding_cases.proofs.judge_bindings.Statement.{statement}
@@ -11,29 +13,41 @@ place-at-requires c κs = search needs
 place-at-requires-2 : tie.Need-place-at-requires-2
 place-at-requires-2 c κs = search needs
 
-fill-goals-requires : tie.Need-fill-goals-requires
-fill-goals-requires c κs = search needs
-
-fill-owns-requires : tie.Need-fill-owns-requires
-fill-owns-requires c κs = search needs
+fill-rows-requires : tie.Need-fill-rows-requires
+fill-rows-requires c κs = search needs
 
 place-at-requires-3 : tie.Need-place-at-requires-3
 place-at-requires-3 c κs = search needs
 
-fill-rows-requires : tie.Need-fill-rows-requires
-fill-rows-requires c κs = search needs
+fill-firsts-requires : tie.Need-fill-firsts-requires
+fill-firsts-requires c κs = search needs
+
+fill-table-requires : tie.Need-fill-table-requires
+fill-table-requires c κs = search needs
+
+sub-words : tie.Need-sub-words
+sub-words c = search needs
+
+add-words : tie.Need-add-words
+add-words c = search needs
+
+mul-set-places : tie.Need-mul-set-places
+mul-set-places c = omega (arith, users-small (c .before .before .before .before .before .before .before .before .before .before .before .before .before .before .before .before .before .before .place-at .result) (c .before .before .before .before .before .before .before .before .before .before .before .before .before .before .before .before .before .before .place-at .ensures .bound))
+
+add-set-places : tie.Need-add-set-places
+add-set-places c = omega (arith, users-small (c .before .before .before .before .before .before .before .before .before .before .before .before .before .before .before .before .before .before .place-at .result) (c .before .before .before .before .before .before .before .before .before .before .before .before .before .before .before .before .before .before .place-at .ensures .bound))
+
+set-places-requires : tie.Need-set-places-requires
+set-places-requires c κs = (omega arith, omega (arith, users-small (c .before .before .before .before .before .before .before .before .before .before .before .before .before .before .before .before .before .before .place-at .result) (c .before .before .before .before .before .before .before .before .before .before .before .before .before .before .before .before .before .before .place-at .ensures .bound)))
+
+fill-candidates-requires : tie.Need-fill-candidates-requires
+fill-candidates-requires c κs = search needs
 
 place-at-requires-4 : tie.Need-place-at-requires-4
 place-at-requires-4 c κs = search needs
 
-fill-groups-requires : tie.Need-fill-groups-requires
-fill-groups-requires c κs = search needs
-
-place-at-requires-5 : tie.Need-place-at-requires-5
-place-at-requires-5 c κs = search needs
-
-fill-firsts-requires : tie.Need-fill-firsts-requires
-fill-firsts-requires c κs = search needs
+add-t32 : tie.Need-add-t32
+add-t32 c = search needs
 
 shrink-requires : tie.Need-shrink-requires
 shrink-requires c κs = search needs
@@ -42,22 +56,29 @@ start-kept-requires : tie.Need-start-kept-requires
 start-kept-requires c κs = search needs
 
 same-length : tie.Need-same-length
-same-length c = search needs
+same-length c = c .before .before .before .before .before .before .before .before .before .before .before .before .before .before .before .before .before .before .before .before .before .before .before .before .before .before .before .before .before .before .before .before .before .before .before .before .before .before .before .fill-rows .ensures .long
 
 same-length-2 : tie.Need-same-length-2
-same-length-2 c = search needs
+same-length-2 c = c .before .before .before .before .before .before .before .before .before .before .before .before .before .before .before .before .before .before .before .before .before .before .before .before .before .before .before .before .before .before .before .before .before .fill-firsts .kept .1 .1 .1 .0
+
+same-length-3 : tie.Need-same-length-3
+same-length-3 c = search needs
+
+same-length-4 : tie.Need-same-length-4
+same-length-4 c = search needs
+
+same-length-5 : tie.Need-same-length-5
+same-length-5 c = search needs
+
+same-length-6 : tie.Need-same-length-6
+same-length-6 c = search needs
 
 returns : tie.Need-returns
 returns c =
-    let i = c .before .before .before .before .before .before .before .before .before .before .before .before .before .before .before .before .before .before .before .before .before .before .before .before .before .before .before .before .before .before .before .before .before .before .before .before .before .before .before .fill-goals-arg .given .0 .1 in
-    let lent-groups = c .before .before .before .before .before .before .before .before .before .before .before .before .before .before .before .before .before .before .before .before .before .before .before .before .before .before .before .fill-groups-arg3 .given .0 .1 in
-    let lent-firsts = c .before .before .before .before .before .before .before .before .before .before .before .before .before .before .before .before .before .before .before .before .before .fill-firsts-arg3 .given .0 .1 in
-    judged _ _ _ _ _ _ _ _ _ (λ k. omega (arith, c .before .before .before .before .before .before .before .before .before .before .before .before .before .before .before .before .before .before .before .before .before .before .before .before .before .before .before .before .before .before .before .before .before .before .before .before .before .before .before .before .before .before .before .before .before .before .shared-slice-known .given k)) (omega arith)
-    _ (c .before .before .before .before .before .before .before .before .before .before .before .before .before .before .before .before .before .before .before .before .before .before .before .before .before .before .before .before .before .before .before .before .before .before .before .before .before .before .before .before .before .before .place-at .ensures) _ (c .before .before .before .before .before .before .before .before .before .before .before .before .before .before .before .before .before .before .before .before .before .before .before .before .before .before .before .before .before .before .before .before .before .before .before .before .before .before .before .before .place-at2 .ensures) _ _ _ (c .before .before .before .before .before .before .before .before .before .before .before .before .before .before .before .before .before .before .before .before .before .before .before .before .before .before .before .before .before .before .before .before .before .before .before .before .before .before .fill-goals .ensures) (c .before .before .before .before .before .before .before .before .before .before .before .before .before .before .before .before .before .before .before .before .before .before .before .before .before .before .before .before .before .before .before .before .before .before .before .before .fill-owns .ensures)
-    _ (c .before .before .before .before .before .before .before .before .before .before .before .before .before .before .before .before .before .before .before .before .before .before .before .before .before .before .before .before .before .before .before .before .before .place-at3 .ensures) (c .before .before .before .before .before .before .before .before .before .before .before .before .before .before .before .before .before .before .before .before .before .before .before .before .before .before .before .before .before .before .before .before .fill-rows .ensures)
-    _ (c .before .before .before .before .before .before .before .before .before .before .before .before .before .before .before .before .before .before .before .before .before .before .before .before .before .before .before .before .place-at4 .ensures) _ _ (omega arith) (c .before .before .before .before .before .before .before .before .before .before .before .before .before .before .before .before .before .before .before .before .before .before .before .before .before .before .fill-groups .ensures)
-    _ (c .before .before .before .before .before .before .before .before .before .before .before .before .before .before .before .before .before .before .before .before .before .before .place-at5 .ensures) _ _ (omega arith) (c .before .before .before .before .before .before .before .before .before .before .before .before .before .before .before .before .before .before .before .before .fill-firsts .ensures)
-    (c .before .before .before .before .before .before .before .before .before .before .before .shrink .ensures) (c .start-kept .ensures)
+    judged _ _ _ _ _ _ _ _ _ _ _ _ _ _ _ _ _ _ _ _ _ _ _ _ _ _ (λ k. omega (arith, c .before .before .before .before .before .before .before .before .before .before .before .before .before .before .before .before .before .before .before .before .before .before .before .before .before .before .before .before .before .before .before .before .before .before .before .before .before .before .before .before .before .before .before .before .before .before .before .before .before .before .before .shared-slice-known .given k))
+    (c .before .before .before .before .before .before .before .before .before .before .before .before .before .before .before .before .before .before .before .before .before .before .before .before .before .before .before .before .before .before .before .before .before .before .before .before .before .before .before .before .before .before .place-at .ensures) (c .before .before .before .before .before .before .before .before .before .before .before .before .before .before .before .before .before .before .before .before .before .before .before .before .before .before .before .before .before .before .before .before .before .before .before .before .before .before .before .before .place-at2 .ensures) (c .before .before .before .before .before .before .before .before .before .before .before .before .before .before .before .before .before .before .before .before .before .before .before .before .before .before .before .before .before .before .before .before .before .before .before .place-at3 .ensures) (c .before .before .before .before .before .before .before .before .before .before .before .before .before .before .before .place-at4 .ensures)
+    (c .before .before .before .before .before .before .before .before .before .before .before .before .before .before .before .before .before .before .before .before .before .before .before .before .before .before .before .before .before .before .before .before .before .before .before .before .before .before .before .fill-rows .ensures) (c .before .before .before .before .before .before .before .before .before .before .before .before .before .before .before .before .before .before .before .before .before .before .before .before .before .before .before .before .before .before .before .before .before .fill-firsts .ensures) (c .before .before .before .before .before .before .before .before .before .before .before .before .before .before .before .before .before .before .before .before .before .before .before .before .before .before .before .fill-table .ensures) refl (c .before .before .before .before .before .before .before .before .before .before .before .before .before .before .before .before .before .before .before .before .before .before .before .set-places .ensures) (c .before .before .before .before .before .before .before .before .before .before .before .before .before .before .before .before .before .before .fill-candidates .ensures)
+    refl refl refl (c .before .before .before .before .before .before .before .before .before .shrink .ensures) (c .start-kept .ensures)
 
 pub judge-bindings-spec : {M : Type 1} → statement M
 judge-bindings-spec =
@@ -65,16 +86,24 @@ judge-bindings-spec =
     (tie.spec
     place-at-requires
     place-at-requires-2
-    fill-goals-requires
-    fill-owns-requires
-    place-at-requires-3
     fill-rows-requires
-    place-at-requires-4
-    fill-groups-requires
-    place-at-requires-5
+    place-at-requires-3
     fill-firsts-requires
+    fill-table-requires
+    sub-words
+    add-words
+    mul-set-places
+    add-set-places
+    set-places-requires
+    fill-candidates-requires
+    place-at-requires-4
+    add-t32
     shrink-requires
     start-kept-requires
     same-length
     same-length-2
+    same-length-3
+    same-length-4
+    same-length-5
+    same-length-6
     returns)

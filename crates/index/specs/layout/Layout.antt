@@ -45,6 +45,16 @@ maxType = 34
 abbrev pub maxTerm : ℕ
 maxTerm = 4096
 
+-- the bytes of a node of a body; the least bytes of a record of a type, and of one of a binding
+abbrev pub nodeBytes : ℕ
+nodeBytes = 4
+
+abbrev pub typeBytes : ℕ
+typeBytes = 5
+
+abbrev pub bindingBytes : ℕ
+bindingBytes = 8
+
 -- the index: where the entries of each kind begin, and what stands behind them
 abbrev pub sortsAt : ℕ
 sortsAt = 0
@@ -82,17 +92,8 @@ hashesAt = pathAt + 1
 abbrev pub linksAt : ℕ
 linksAt = hashesAt + hashes
 
-abbrev pub goalsAt : ℕ
-goalsAt = linksAt + maxTypes
-
-abbrev pub resultsAt : ℕ
-resultsAt = goalsAt + maxTypes
-
-abbrev pub ownTypesAt : ℕ
-ownTypesAt = resultsAt + maxTypes
-
 abbrev pub placesAt : ℕ
-placesAt = ownTypesAt + maxBindings
+placesAt = linksAt + maxTypes
 
 abbrev pub indexSize : ℕ
 indexSize = placesAt + maxTransitions
@@ -125,23 +126,8 @@ fitArguments = 2
 abbrev pub fitMasks : ℕ
 fitMasks = 3
 
-abbrev pub fitsSize : ℕ
-fitsSize = maxTypes * fitMasks
-
 abbrev pub maxGoals : ℕ
 maxGoals = maxTypes + maxStates
-
-abbrev pub memoSize : ℕ
-memoSize = maxNodes * maxGoals
-
-abbrev pub lastStamp : ℕ
-lastStamp = 127
-
-abbrev pub shared : ℕ
-shared = 64
-
-abbrev pub sharedSize : ℕ
-sharedSize = shared + 1
 
 -- a closure as a number
 abbrev pub nodeUnits : ℕ
@@ -161,3 +147,147 @@ countUnit = 1073741824
 
 abbrev pub blockUnit : ℕ
 blockUnit = 17179869184
+
+-- the bits of a word; the words of a cell of answers, and the most cells that a node has
+abbrev pub wordBits : ℕ
+wordBits = 32
+
+abbrev pub cellWords : ℕ
+cellWords = 3
+
+abbrev pub maxCells : ℕ
+maxCells = 33
+
+-- the flat table of a check: the automaton, the groups of bindings, the rows, the nodes
+abbrev pub targetsBase : ℕ
+targetsBase = 0
+
+abbrev pub presentAt : ℕ
+presentAt = targetsBase + maxConstructors * maxStates
+
+abbrev pub aritiesAt : ℕ
+aritiesAt = presentAt + maxConstructors
+
+abbrev pub groupsAt : ℕ
+groupsAt = aritiesAt + maxConstructors
+
+abbrev pub rowsAt : ℕ
+rowsAt = groupsAt + rowsSize
+
+abbrev pub resultCell : ℕ
+resultCell = 0
+
+abbrev pub endCell : ℕ
+endCell = 1
+
+abbrev pub statesCell : ℕ
+statesCell = 2
+
+abbrev pub arrowsCell : ℕ
+arrowsCell = 3
+
+abbrev pub manyCell : ℕ
+manyCell = 4
+
+abbrev pub goalCell : ℕ
+goalCell = 5
+
+abbrev pub symbolCell : ℕ
+symbolCell = 6
+
+abbrev pub ownCell : ℕ
+ownCell = 7
+
+abbrev pub membersCell : ℕ
+membersCell = 8
+
+abbrev pub rowCells : ℕ
+rowCells = 24
+
+abbrev pub rowLimit : ℕ
+rowLimit = 2048
+
+abbrev pub placeLimit : ℕ
+placeLimit = 131072
+
+abbrev pub numberCell : ℕ
+numberCell = 1
+
+abbrev pub nextCell : ℕ
+nextCell = 2
+
+abbrev pub nodeCells : ℕ
+nodeCells = 3
+
+abbrev pub noNumber : ℕ
+noNumber = 65535
+
+abbrev pub maxMembers : ℕ
+maxMembers = 16
+
+-- the numbers of a test
+abbrev pub testOwn : ℕ
+testOwn = 0
+
+abbrev pub testBase : ℕ
+testBase = 1
+
+abbrev pub testBinding : ℕ
+testBinding = 2
+
+abbrev pub testBody : ℕ
+testBody = 3
+
+abbrev pub testStamp : ℕ
+testStamp = 4
+
+abbrev pub testShared : ℕ
+testShared = 5
+
+abbrev pub testWide : ℕ
+testWide = 6
+
+abbrev pub testWords : ℕ
+testWords = 7
+
+abbrev pub testAcross : ℕ
+testAcross = 8
+
+abbrev pub testBindings : ℕ
+testBindings = 9
+
+abbrev pub testUsers : ℕ
+testUsers = 10
+
+abbrev pub testAnswers : ℕ
+testAnswers = 11
+
+-- the cells in front of the sets of candidates, the cells of hints
+abbrev pub testCells : ℕ
+testCells = 16
+
+abbrev pub hintCells : ℕ
+hintCells = 16384
+
+abbrev pub wordsLimit : ℕ
+wordsLimit = 64
+
+abbrev pub noTargets : ℕ
+noTargets = 65536
+
+-- the words of a set of bindings
+abbrev pub maxBindingWords : ℕ
+maxBindingWords = 32
+
+-- the lengths of files that have tables of their own
+abbrev pub tinyFile : ℕ
+tinyFile = 384
+
+abbrev pub smallFile : ℕ
+smallFile = 1024
+
+abbrev pub middleFile : ℕ
+middleFile = 2048
+
+abbrev pub longFile : ℕ
+longFile = 4096

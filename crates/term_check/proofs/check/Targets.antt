@@ -1,31 +1,98 @@
--- The loop over the arguments of a constructor: each has its target.
-use Prim.Native.Nat.{ℕ, suc, _<_, _≤_}
+-- The arguments of a constructor, one after another, each against its target.
+use Prim.Native.Nat.{ℕ, suc, _-_, _/_, _%_, _^_, _<_, _≤_}
 use native.Mathlib.Omega.{arith}
-use mathlib.Core.Path.{_≡_, refl}
-use mathlib.Core.Bool.{Bool, true, false}
-use mathlib.Core.List.{List}
-use lib.ListN.{getD}
-use Rattle.arrows.specs.argument_goals.Wants.{Wants, IsTargetGoal}
-use Rattle.arrows.proofs.argument_goals.Wanting.{want-target, want-second, follow-row}
-use Rattle.term_check.specs.check.Checking.{Body, ChecksTerm, ChecksArgs}
-use Rattle.term_check.proofs.check.Arguments.{Args, args-past, args-stuck, args-next, args-lacks, args-has}
+use native.Mathlib.Nat.{pow-succ', div-div-eq-div-mul}
+use mathlib.Core.Path.{_≡_, refl, sym, ap, subst, _∙_}
+use mathlib.Core.Bool.{Bool, true, false, true≢false}
+use mathlib.Core.List.{List, [], _∷_, List·Memᴰ, List·Memᴰ·head, List·Memᴰ·eq-of-singleton}
+use Rattle.scheme.specs.Terms.{Terms, _∷ᵗ_, countᵗ}
+use Rattle.scheme.specs.Types.{state, members, takes}
+use Rattle.index.specs.layout.Layout.{maxStates}
+use Rattle.tables.specs.reading.Cells.{nodeAt}
+use Rattle.tables.specs.Facts.{Goal, of-state, AllAt, closed, closeds}
+use Rattle.term_check.specs.notes.Notes.{baseIn}
+use Rattle.term_check.specs.Worlds.{Args, Case, World, Has, Ready, Includes, ChecksTerm, ChecksTargets, Targets, shut}
+use Rattle.term_check.proofs.Places.{no-terms, first-at}
+use Rattle.term_check.proofs.check.Keeping.{includes-less, includes-part, ready-on, keeps-all, keeps-on}
+use Rattle.term_check.proofs.check.Arguments.{node-there, closed-first, Several, several, some-terms, next-on, stuck}
 
-module _ (x : Body) {memo₀ : List ℕ} {first count : ℕ} {row memo : List ℕ} {at k : ℕ} (w : Args x memo₀ first count true 0 row memo at k 0 0) (h : k < count) where
-  module _ (target : ℕ) (is : IsTargetGoal (x .test .types) row k target) where
-    -- no file has that many types
-    pub target-past : target ≡ 65535 → ChecksArgs x memo₀ first count true 0 row memo false
-    target-past e = args-past x w h (λ rs ty a τ t. let m = is .past e in omega (arith, ty .few))
+-- the first target, and the others
+pub data Split (n targets : ℕ) (qs : List ℕ) : Type 0 where
+  split : (p : ℕ) (ps : List ℕ) → qs ≡ p ∷ ps → targets % 16 ≡ p → p < maxStates → Targets (n - 1) (targets / 16) ps → Split n targets qs
 
-    module _ (ne : target ≡ 65535 → ⊥) where
-      wants-it : Wants (x .file) (x .index) (x .test .types) true 0 row k 0 target
-      wants-it = want-target target (is .target ne)
+pub targets-split : (n targets : ℕ) (qs : List ℕ) → 0 < n → Targets n targets qs → Split n targets qs
+targets-split n targets [] some-left (l, f) = absurd (omega arith)
+targets-split n targets (p ∷ ps) some-left (l, f) =
+    let e : p ≡ targets / 16 ^ 0 % 16 = f 0 (omega arith) in
+    let d : targets / 1 ≡ targets = omega arith in
+    let i : targets % 16 ≡ p = omega arith in
+    split p ps refl i (omega arith) (omega arith, λ k h. f (suc k) (omega arith) ∙ ap (λ (z : ℕ). targets / z % 16) (pow-succ' 16 k) ∙ ap (λ (z : ℕ). z % 16) (sym (div-div-eq-div-mul targets 16 (16 ^ k))))
 
-      pub target-stuck : (next : ℕ) → next ≡ getD (x .ends) at 0 → next ≤ at → ChecksArgs x memo₀ first count true 0 row memo false
-      target-stuck next e l = args-stuck x w h target wants-it next e l
+module _ (x : Case) (memo users : List ℕ) (at n targets : ℕ) where
+  pub targets-none : n ≤ 0 → ChecksTargets x memo users at n targets memo users true
+  unfolding Args
+  targets-none l =
+      record {
+        keeps = keeps-all x memo users;
+        yes = λ y w r closed flags inc ts al c cl qs q are. subst (λ z. Args (Has w flags) z (takes qs q)) (sym (no-terms ts (let e : countᵗ ts ≡ 0 = omega arith in e))) tt;
+        no = λ y. absurd (true≢false y);
+      }
 
-      module _ (memo′ : List ℕ) (b : Bool) (told : ChecksTerm x memo at target memo′ b) where
-        pub target-lacks : b ≡ false → ChecksArgs x memo₀ first count true 0 row memo′ false
-        target-lacks e = args-lacks x w h target wants-it ne memo′ b told e
+  module _ (some-left : 0 < n) (next : ℕ) (is-next : next ≡ nodeAt (x .t) (baseIn (x .test)) at .next) where
+    pub targets-stuck : next ≤ at → ChecksTargets x memo users at n targets memo users false
+    targets-stuck l =
+        record {
+          keeps = keeps-all x memo users;
+          yes = λ y. absurd (true≢false (sym y));
+          no = λ y w r ts al c qs q are h. stuck x w (r .setting) at next is-next l ts al (some-terms n ts c some-left);
+        }
 
-        pub target-has : b ≡ true → (next k′ : ℕ) → next ≡ getD (x .ends) at 0 → at < next → k′ ≡ suc k → Args x memo₀ first count true 0 row memo′ next k′ 0 0
-        target-has e next k′ en l ek = args-next x (args-has x w h target wants-it ne memo′ b told e 1 refl) h 65535 want-second refl next k′ 0 en l follow-row ek
+    module _ (memo′ users′ : List ℕ) (b : Bool) (told : ChecksTerm x memo users at (targets % 16) memo′ users′ b) where
+      -- the first target is the goal
+      goal-is : (w : World) (p : ℕ) → targets % 16 ≡ p → p < maxStates → Goal (w .rs) (targets % 16) (state p)
+      goal-is w p e h = of-state p h e refl
+
+      pub targets-lack : b ≡ false → ChecksTargets x memo users at n targets memo′ users′ false
+      unfolding Args takes members
+      targets-lack eb =
+          record {
+            keeps = told .keeps;
+            yes = λ y. absurd (true≢false (sym y));
+            no = λ y w r ts al c qs q are h. lack w r ts al qs q h (some-terms n ts c some-left) (targets-split n targets qs some-left are);
+          }
+        where
+          lack : (w : World) → Ready x w memo users → (ts : Terms) → AllAt (w .ns) at ts → (qs : List ℕ) (q : ℕ) → Args (Has w (w .kept)) ts (takes qs q) → Several n ts → Split n targets qs → ⊥
+          lack w r ts al qs q h (several t rest e f) (split p ps i j l are) =
+              let k : Args (Has w (w .kept)) (t ∷ᵗ rest) (takes (p ∷ ps) q) = subst (λ z. Args (Has w (w .kept)) (t ∷ᵗ rest) (takes z q)) i (subst (λ z. Args (Has w (w .kept)) z (takes qs q)) e h) in
+              told .no eb w r t (first-at (w .ns) at t rest (subst (AllAt (w .ns) at) e al)) (state p) (goal-is w p j l) (k .0 (state p) (List·Memᴰ·head refl))
+
+      module _ (eb : b ≡ true) (memo″ users″ : List ℕ) (d : Bool) (rest-told : ChecksTargets x memo′ users′ next (n - 1) (targets / 16) memo″ users″ d) where
+        pub targets-rest : ChecksTargets x memo users at n targets memo″ users″ d
+        unfolding Args takes members
+        targets-rest =
+            record {
+              keeps = keeps-on (told .keeps) (rest-told .keeps);
+              yes = λ y w r closed flags inc ts al c cl qs q are. holds-all y w r closed flags inc ts al cl qs q (some-terms n ts c some-left) (targets-split n targets qs some-left are);
+              no = λ y w r ts al c qs q are h. lack y w r ts al qs q h (some-terms n ts c some-left) (targets-split n targets qs some-left are);
+            }
+          where
+            holds-all : d ≡ true → (w : World) → Ready x w memo users → (cl : Bool) (flags : List ℕ) → Includes x w users″ cl flags → (ts : Terms) → AllAt (w .ns) at ts → (cl ≡ true → closeds ts ≡ true) → (qs : List ℕ) (q : ℕ) → Several n ts → Split n targets qs → Args (Has w flags) ts (takes qs q)
+            holds-all y w r cl flags inc ts al shuts qs q (several t rest e f) (split p ps i j l are) =
+                let s = r .setting in
+                let al′ = subst (AllAt (w .ns) at) e al in
+                let first = first-at (w .ns) at t rest al′ in
+                let less = includes-less x w users′ users″ (rest-told .keeps .grows) cl flags inc in
+                let parts : cl ≡ true → (closed t ≡ true) × (closeds rest ≡ true) = λ k. closed-first t rest (subst (λ z. closeds z ≡ true) e (shuts k)) in
+                let here = includes-part x w users′ cl (shut x at) (λ k. node-there x w s at t first .1 ∙ parts k .0) flags less in
+                let both : Args (Has w flags) (t ∷ᵗ rest) (takes (p ∷ ps) q) = (
+                  λ m k. subst (Has w flags t) (sym (List·Memᴰ·eq-of-singleton k)) (told .yes eb w r flags here t first (state p) (goal-is w p j l)),
+                  rest-told .yes y w (ready-on (told .keeps) r) cl flags inc rest (next-on x w s at next is-next t rest al′) f (λ k. parts k .1) ps q are,
+                ) in
+                subst (λ z. Args (Has w flags) z (takes qs q)) (sym e) (subst (λ z. Args (Has w flags) (t ∷ᵗ rest) (takes z q)) (sym i) both)
+
+            lack : d ≡ false → (w : World) → Ready x w memo users → (ts : Terms) → AllAt (w .ns) at ts → (qs : List ℕ) (q : ℕ) → Args (Has w (w .kept)) ts (takes qs q) → Several n ts → Split n targets qs → ⊥
+            lack y w r ts al qs q h (several t rest e f) (split p ps i j l are) =
+                let s = r .setting in
+                let al′ = subst (AllAt (w .ns) at) e al in
+                let k : Args (Has w (w .kept)) (t ∷ᵗ rest) (takes (p ∷ ps) q) = subst (λ z. Args (Has w (w .kept)) (t ∷ᵗ rest) (takes z q)) i (subst (λ z. Args (Has w (w .kept)) z (takes qs q)) e h) in
+                rest-told .no y w (ready-on (told .keeps) r) rest (next-on x w s at next is-next t rest al′) f ps q are (k .1)

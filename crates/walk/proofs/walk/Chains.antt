@@ -8,7 +8,7 @@ use lib.Dec.{eqb}
 use lib.ListN.{length, getD, set, length-set, List·getD-append}
 use lib.Seq.{getD-at, getD-set-same, getD-set-other}
 use Rattle.scheme.specs.Lists.{if_then_else_}
-use Rattle.index.specs.layout.Layout.{maxTypes, hashes, hashesAt, linksAt, goalsAt}
+use Rattle.index.specs.layout.Layout.{maxTypes, hashes, hashesAt, linksAt, placesAt}
 use Rattle.index.specs.entries.Chains.{hashOf, latest, Chained}
 use Rattle.index.proofs.chains.Hashing.{hash-few}
 use Rattle.index.proofs.chains.Chaining.{latest-here, latest-other}
@@ -33,7 +33,7 @@ latest-more ps p h (suc n) l =
     ap₂ (λ (x : List ℕ) (y : ℕ). if eqb (hashOf x) h then suc n else y) (List·getD-append ps (p ∷ []) [] n l) (latest-more ps p h n (omega arith))
 
 -- a type more: its link is the head of its hash, and it becomes that head
-module _ (index : List ℕ) (ps : List (List ℕ)) (n : ℕ) (p : List ℕ) (long : goalsAt ≤ length index) (so-many : length ps ≡ n) (few : n < maxTypes) (c : Chained index ps n) where
+module _ (index : List ℕ) (ps : List (List ℕ)) (n : ℕ) (p : List ℕ) (long : placesAt ≤ length index) (so-many : length ps ≡ n) (few : n < maxTypes) (c : Chained index ps n) where
   abbrev head : ℕ
   head = hashesAt + hashOf p
 

@@ -24,7 +24,7 @@ use Rattle.casefile.specs.Tables.{grow, sortFrom, sortsOf}
 use Rattle.casefile.proofs.Passed.{payloads-more, payloads-other}
 use Rattle.casefile.proofs.Growth.{grow-append, grow-length}
 use Rattle.casefile.proofs.TypeTable.{count-payloads}
-use Rattle.index.specs.layout.Layout.{maxSorts, maxTypes, sortsAt, constructorsAt, nonterminalsAt, rulesAt, transitionsAt, typesAt, bindingsAt, statesAt, pathAt, hashesAt, linksAt, goalsAt, kinds, allSorts}
+use Rattle.index.specs.layout.Layout.{maxSorts, maxTypes, sortsAt, constructorsAt, nonterminalsAt, rulesAt, transitionsAt, typesAt, bindingsAt, statesAt, pathAt, hashesAt, linksAt, placesAt, kinds, allSorts}
 use Rattle.index.specs.entries.Index.{base, Indexed}
 use Rattle.index.proofs.entries.Stays.{indexed-same}
 use Rattle.index.specs.entries.Chains.{hashOf, Chained}
@@ -188,7 +188,7 @@ base-room path i h = omega arith
 module _ (file index lens counts : List ℕ) (rs : List Record) (known : Known file index lens counts rs)
     (r : Record) (at start : ℕ) (is-record : r ≡ recordAt file at) (fits : whole file at ≡ true) (is-start : start ≡ at + 4)
     (k : Kind) (is-kind : r .kind ≡ number k) (many : getD counts (number k) 0 < room k)
-    (index-long : goalsAt ≤ length index) (counts-long : length counts ≡ kinds) where
+    (index-long : placesAt ≤ length index) (counts-long : length counts ≡ kinds) where
   abbrev n : ℕ
   n = getD counts (number k) 0
 
@@ -277,7 +277,7 @@ module _ (file index lens counts : List ℕ) (rs : List Record) (known : Known f
     chained-type =
         let one : suc n ≡ getD counts⁺ 7 0 = (let a = counted-here in let b = ap (λ z. getD counts⁺ z 0) is-type in omega arith) in
         rw (payloads-more type rs r (eq-eqb (r .kind) 7 (is-kind ∙ is-type)), ← one)
-        (chained-more index⁺ (payloads type rs) n (r .payload) (subst (λ z. goalsAt ≤ z) (sym (length-set index (base k + n) start)) index-long) types-many few chained-before)
+        (chained-more index⁺ (payloads type rs) n (r .payload) (subst (λ z. placesAt ≤ z) (sym (length-set index (base k + n) start)) index-long) types-many few chained-before)
 
     pub known-type : Known file (set (set (set index (base k + n) start) (linksAt + n) (getD (set index (base k + n) start) (hashesAt + hashOf (r .payload)) 0)) (hashesAt + hashOf (r .payload)) (n + 1)) lens (set counts (number k) (n + 1)) (rs ++ (r ∷ []))
     known-type =

@@ -35,7 +35,7 @@ use Rattle.casefile.specs.Promises.{Passed, nothing, also}
 use Rattle.casefile.proofs.Plans.{signatures-length}
 use Rattle.walk.proofs.kinds.Dispatch.{sorts-length}
 use Rattle.scheme.proofs.Lists.{or-false, and-false, last-more}
-use Rattle.index.specs.layout.Layout.{maxFile, maxSorts, maxConstructors, maxNonterminals, maxTransitions, maxTypes, maxBindings, hashes, hashesAt, goalsAt, kinds, allSorts}
+use Rattle.index.specs.layout.Layout.{maxFile, maxSorts, maxConstructors, maxNonterminals, maxTransitions, maxTypes, maxBindings, hashes, hashesAt, placesAt, kinds, allSorts}
 use Rattle.index.specs.entries.Codes.{codeFor}
 use Rattle.index.specs.entries.Index.{base, Indexed}
 use Rattle.index.specs.entries.Chains.{hashOf}
@@ -70,7 +70,7 @@ none-indexed file index k n e =
 zero-count : (counts counts′ : List ℕ) → length counts ≡ kinds → Clears counts 0 kinds counts′ → (k : ℕ) → k < kinds → getD counts′ k 0 ≡ 0
 zero-count counts counts′ ten c k h = ap (λ j. getD counts′ j 0) (sym (zero-add k)) ∙ c .zeros (omega arith) k h
 
-pub starts : (file index lens lens′ counts counts′ : List ℕ) → goalsAt ≤ length index → ((h : ℕ) → h < hashes → getD index (hashesAt + h) 0 ≡ 0) → length lens ≡ allSorts → length counts ≡ kinds → Clears counts 0 kinds counts′ → lens′ ≡ stored lens 0 0
+pub starts : (file index lens lens′ counts counts′ : List ℕ) → placesAt ≤ length index → ((h : ℕ) → h < hashes → getD index (hashesAt + h) 0 ≡ 0) → length lens ≡ allSorts → length counts ≡ kinds → Clears counts 0 kinds counts′ → lens′ ≡ stored lens 0 0
     → Walking file index lens′ counts′ 0 0
 unfolding lastKind lastOr recordsOf sortsOf payloads ofKind select grow arguments
 starts file index lens lens′ counts counts′ hi hz hl hc ec el =
@@ -386,7 +386,7 @@ module _ {file index lens counts : List ℕ} {at last : ℕ} (w : Walking file i
             enough = let a = w .enough in let b = step-of (w .fuel) (w .enough) .1 in let d = rr .next-is in omega (arith, left-is);
             same = λ flags. sym (ap (λ z. unlessRefused z (caseFrom flags (walk left file (c .at)) next-records)) (passes .0)) ∙ sym (ap (λ z. caseFrom flags z (w .rs)) stepped) ∙ w .same flags;
             all = append-assoc (w .rs) (r ∷ []) (listed (walk left file (c .at))) ∙ sym (ap (λ z. w .rs ++ listed z) stepped) ∙ w .all;
-            index-long = subst (λ z. goalsAt ≤ z) (sym (ap length index-is ∙ chains-length (set index (base k + n) start) kind n (r .payload) ∙ length-set index (base k + n) start)) (w .index-long);
+            index-long = subst (λ z. placesAt ≤ z) (sym (ap length index-is ∙ chains-length (set index (base k + n) start) kind n (r .payload) ∙ length-set index (base k + n) start)) (w .index-long);
             lens-long = ap length el ∙ lens-length lens kind (getD counts kind 0) p ∙ w .lens-long;
             counts-long = ap length counts-is ∙ length-set counts (number k) (n + 1) ∙ w .counts-long;
           }
@@ -495,4 +495,4 @@ module _ {file index₀ lens₀ counts₀ : List ℕ} (c : Carried file index₀
 pub whole-walk : (file index index′ lens lens′ counts counts′ index″ lens″ counts″ : List ℕ) (t : Turned) → Clears counts 0 kinds counts′ → lens′ ≡ stored lens 0 0 → Clears index hashesAt hashes index′
     → PassesTo file index′ lens′ counts′ index″ lens″ counts″ t → WalksTo file index lens counts index″ lens″ counts″ (t .walked)
 whole-walk file index index′ lens lens′ counts counts′ index″ lens″ counts″ t ec el empty passes = λ hi hl hc few.
-    passes few (starts file index′ lens lens′ counts counts′ (subst (λ z. goalsAt ≤ z) (sym (empty .long)) hi) (empty .zeros (omega arith)) hl hc ec el)
+    passes few (starts file index′ lens lens′ counts counts′ (subst (λ z. placesAt ≤ z) (sym (empty .long)) hi) (empty .zeros (omega arith)) hl hc ec el)

@@ -12,7 +12,7 @@ use Rattle.casefile.specs.Kinds.{Kind, payloads}
 use Rattle.casefile.specs.Refusals.{lastKind, refuseWhole}
 use Rattle.casefile.specs.Cases.{refusedCase, unlessRefused, acceptedCase, caseFrom}
 use Rattle.casefile.specs.Promises.{Passed}
-use Rattle.index.specs.layout.Layout.{maxFile, goalsAt, kinds, allSorts}
+use Rattle.index.specs.layout.Layout.{maxFile, placesAt, kinds, allSorts}
 use Rattle.index.specs.entries.Known.{Known}
 use Rattle.walk.specs.declared.walk.Walked.{Walked}
 use Rattle.walk.specs.declared.walk.Walked.the-variants.{Refused, Read}
@@ -29,7 +29,7 @@ pub record Walking (file index lens counts : List ℕ) (at last : ℕ) : Type 0 
   pub enough : length file ≤ at + fuel
   pub same : (flags : ℕ) → caseFrom flags (walk fuel file at) rs ≡ caseFrom flags (recordsOf file) []
   pub all : rs ++ listed (walk fuel file at) ≡ listed (recordsOf file)
-  pub index-long : goalsAt ≤ length index
+  pub index-long : placesAt ≤ length index
   pub lens-long : length lens ≡ allSorts
   pub counts-long : length counts ≡ kinds
 
@@ -78,4 +78,4 @@ PassesTo file index lens counts index′ lens′ counts′ t = length file ≤ m
 
 -- the promise of the walk, for tables of the right sizes
 abbrev pub WalksTo : List ℕ → List ℕ → List ℕ → List ℕ → List ℕ → List ℕ → List ℕ → Walked → Type 0
-WalksTo file index lens counts index′ lens′ counts′ r = goalsAt ≤ length index → length lens ≡ allSorts → length counts ≡ kinds → length file ≤ maxFile → WalkEnds file index′ lens′ counts′ r
+WalksTo file index lens counts index′ lens′ counts′ r = placesAt ≤ length index → length lens ≡ allSorts → length counts ≡ kinds → length file ≤ maxFile → WalkEnds file index′ lens′ counts′ r

@@ -1,4 +1,4 @@
-use Prim.Native.Nat.{_-_}
+-- `misfit` meets its contract.
 use native.Mathlib.Omega.{arith}
 use Rattle.intake.proofs.evidence.Evidence.{finds-first}
 use borrow.Author.Needs.{needs}
@@ -11,8 +11,17 @@ fill-fits-requires c κs = search needs
 first-misfit-requires : tie.Need-first-misfit-requires
 first-misfit-requires c κs = search needs
 
+same-length : tie.Need-same-length
+same-length c = search needs
+
 returns : tie.Need-returns
-returns c = finds-first _ _ _ _ _ _ _ _ (λ k. omega (arith, c .before .before .before .before .before .before .shared-slice-known .given k)) (omega arith) (c .before .before .before .fill-fits .ensures) (c .first-misfit .ensures)
+returns c = finds-first _ _ _ _ _ _ _ _ (λ k. omega (arith, c .before .before .before .before .before .before .before .before .shared-slice-known .given k)) (c .before .before .before .before .fill-fits .ensures) (c .first-misfit .ensures)
 
 pub misfit-spec : {M : Type 1} → statement M
-misfit-spec = tie.close (tie.spec fill-fits-requires first-misfit-requires returns)
+misfit-spec =
+    tie.close
+    (tie.spec
+    fill-fits-requires
+    first-misfit-requires
+    same-length
+    returns)

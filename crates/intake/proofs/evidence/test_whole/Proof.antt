@@ -1,4 +1,4 @@
-use Prim.Native.Nat.{_-_}
+-- `test_whole` meets its contract.
 use Rattle.intake.proofs.evidence.Evidence.{whole-refused, plan-is-fine}
 use borrow.Author.Needs.{needs}
 use Rattle.intake.proofs.evidence.test_whole.Statement.{statement}
@@ -20,13 +20,19 @@ same-length : tie.Need-same-length
 same-length c = search needs
 
 returns : tie.Need-returns
-returns c = λ lens rs kn ok room. whole-refused rs _ _ _ _ _ (c .before .plan .given .1) (c .before .before .before .before .before .test-plan .ensures lens rs kn ok room)
+returns c = λ lens rs kn ok room long. whole-refused rs _ _ _ _ _ (c .before .plan .given .1) (c .before .before .before .before .before .test-plan .ensures lens rs kn ok room)
 
 same-length-2 : tie.Need-same-length-2
 same-length-2 c = search needs
 
+same-length-3 : tie.Need-same-length-3
+same-length-3 c = search needs
+
 returns-2 : tie.Need-returns-2
-returns-2 c = λ lens rs kn ok room. record { verdict = c .test-evidence .ensures lens rs kn ok (plan-is-fine rs _ _ (c .before .before .enum-told .given .1) (c .before .before .before .before .before .before .test-plan .ensures lens rs kn ok room)); ends-are = λ e. (c .before .before .before .before .before .before .test-plan .ensures lens rs kn ok room) .ends-are (c .before .before .enum-told .given .1) }
+returns-2 c = λ lens rs kn ok room long.
+    let fine = c .before .before .before .before .enum-told .given .1 in
+    let planned = c .before .before .before .before .before .before .before .before .test-plan .ensures lens rs kn ok room in
+    record { verdict = c .before .before .test-evidence .ensures lens rs kn ok (plan-is-fine rs _ _ fine planned) long; ends-are = λ e. planned .ends-are fine }
 
 pub test-whole-spec : {M : Type 1} → statement M
 test-whole-spec =
@@ -39,4 +45,5 @@ test-whole-spec =
     same-length
     returns
     same-length-2
+    same-length-3
     returns-2)

@@ -1,5 +1,5 @@
 -- `examine` meets its contract.
-use Prim.Native.Nat.{ℕ, _-_}
+use Prim.Native.Nat.{ℕ}
 use native.Mathlib.Omega.{arith}
 use mathlib.Core.Path.{_≡_, sym}
 use lib.ListN.{length}
@@ -7,10 +7,10 @@ use Rattle.intake.proofs.intake.Taking.{taken-long, taken-refused, take
 use borrow.Author.Needs.{needs}
 use Rattle.intake.proofs.intake.examine.Statement.{statement}
 use Rattle.intake.proofs.intake.examine.Tie as tie
-use Rattle.index.specs.layout.Layout.{indexSize, kinds, allSorts, endsSize}
+use Rattle.index.specs.layout.Layout.{indexSize, kinds, allSorts}
 
 returns : tie.Need-returns
-returns c = taken-long _ _ _ _ _ _ (c .if1 .taken)
+returns c = record { found = λ room. taken-long _ _ _ _ _ _ (c .if1 .taken) }
 
 walk-requires : tie.Need-walk-requires
 walk-requires c κs = search needs
@@ -25,10 +25,30 @@ test-whole-requires : tie.Need-test-whole-requires
 test-whole-requires c κs = search needs
 
 returns-2 : tie.Need-returns-2
-returns-2 c = let i : _≡_ {A = ℕ} indexSize (length (c .before .before .before .before .before .before .before .before .before .args .index .now)) = search needs in let l : _≡_ {A = ℕ} allSorts (length (c .before .before .before .before .before .before .before .before .before .args .lens .now)) = search needs in let k : _≡_ {A = ℕ} kinds (length (c .before .before .before .before .before .before .before .before .before .args .counts .now)) = search needs in taken-refused _ _ _ _ _ _ (c .before .before .before .before .before .before .before .if1 .left) _ _ _ (c .before .walked .given .1) (c .before .before .before .walk .ensures (omega arith) (sym l) (sym k) (c .before .before .before .before .before .before .before .if1 .left))
+returns-2 c =
+    let a = c .before .before .before .before .before .before .before .before .before .before .before .args in
+    let i : _≡_ {A = ℕ} indexSize (length (a .index .now)) = search needs in
+    let l : _≡_ {A = ℕ} allSorts (length (a .lens .now)) = search needs in
+    let k : _≡_ {A = ℕ} kinds (length (a .counts .now)) = search needs in
+    let short = c .before .before .before .before .before .before .before .if1 .left in
+    let walked = c .before .before .before .walk .ensures (omega arith) (sym l) (sym k) short in
+    record { found = λ room. taken-refused _ _ _ _ _ _ short _ _ _ (c .before .walked .given .1) walked }
+
+same-length : tie.Need-same-length
+same-length c = search needs
+
+same-length-2 : tie.Need-same-length-2
+same-length-2 c = search needs
 
 returns-3 : tie.Need-returns-3
-returns-3 c = let i : _≡_ {A = ℕ} indexSize (length (c .before .before .before .before .before .before .before .before .before .before .before .before .before .before .before .before .before .args .index .now)) = search needs in let l : _≡_ {A = ℕ} allSorts (length (c .before .before .before .before .before .before .before .before .before .before .before .before .before .before .before .before .before .args .lens .now)) = search needs in let k : _≡_ {A = ℕ} kinds (length (c .before .before .before .before .before .before .before .before .before .before .before .before .before .before .before .before .before .args .counts .now)) = search needs in let e : _≡_ {A = ℕ} endsSize (length (c .before .before .before .before .before .before .before .before .before .before .before .before .before .before .before .before .before .args .ends .now)) = search needs in taken-whole _ _ _ _ _ _ (c .before .before .before .before .before .before .before .before .before .before .before .before .before .before .before .if1 .left) _ (c .before .before .before .before .before .before .before .before .before .enum-told .given .1) (c .before .before .before .before .before .before .before .before .before .before .before .walk .ensures (omega arith) (sym l) (sym k) (c .before .before .before .before .before .before .before .before .before .before .before .before .before .before .before .if1 .left)) (c .before .before .before .before .before .before .before .before .before .before .before .before .before .before .before .before .before .args .ends .now) (omega arith) _ (c .test-whole .ensures)
+returns-3 c =
+    let a = c .before .before .before .before .before .before .before .before .before .before .before .before .before .before .before .before .before .before .before .before .before .before .before .args in
+    let i : _≡_ {A = ℕ} indexSize (length (a .index .now)) = search needs in
+    let l : _≡_ {A = ℕ} allSorts (length (a .lens .now)) = search needs in
+    let k : _≡_ {A = ℕ} kinds (length (a .counts .now)) = search needs in
+    let short = c .before .before .before .before .before .before .before .before .before .before .before .before .before .before .before .before .before .before .before .if1 .left in
+    let walked = c .before .before .before .before .before .before .before .before .before .before .before .before .before .before .before .walk .ensures (omega arith) (sym l) (sym k) short in
+    record { found = λ room. taken-whole _ _ _ _ _ _ short _ (c .before .before .before .before .before .before .before .before .before .before .before .before .before .enum-told .given .1) walked (a .ends .now) (a .fit .now) room _ (c .before .before .before .before .test-whole .ensures) }
 
 pub examine-spec : {M : Type 1} → statement M
 examine-spec =
@@ -40,4 +60,6 @@ examine-spec =
     enum-told
     test-whole-requires
     returns-2
+    same-length
+    same-length-2
     returns-3)

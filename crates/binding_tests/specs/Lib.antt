@@ -1,2 +1,0 @@
-pub mod mentions
-pub mod test

@@ -1,3 +1,0 @@
-pub mod Choosing
-pub mod Numbers
-pub mod Spanning

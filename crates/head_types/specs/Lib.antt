@@ -1,3 +1,0 @@
-pub mod constructors
-pub mod candidates
-pub mod bare

@@ -1,3 +1,0 @@
-pub mod bare;
-pub mod candidates;
-pub mod constructors;

@@ -1,0 +1,3 @@
+pub mod Joining
+pub mod Gone
+pub mod LentParts

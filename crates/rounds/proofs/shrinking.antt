@@ -1,0 +1,5 @@
+pub mod Counting
+pub mod Flagged
+pub mod Going
+pub mod Leaving
+pub mod Turning

@@ -1,0 +1,120 @@
+-- One turn over the marked bindings: those that are passed are tested, and all that is not marked rests on its notes as before.
+use Prim.Native.Nat.{ℕ, _+_, _*_, _-_, _/_, _%_, _<_, _≤_}
+use native.Mathlib.Omega.{arith}
+use native.Mathlib.Decide.{decLt, ℕ-discrete}
+use mathlib.Core.Path.{_≡_, refl, sym, subst, _∙_}
+use mathlib.Core.Bool.{true}
+use mathlib.Core.List.{List}
+use lib.ListN.{length, getD, drop}
+use Rattle.scheme.specs.Flags.{isKept}
+use Rattle.casefile.specs.Records.{Record}
+use Rattle.index.specs.layout.Layout.{wordBits, maxBindingWords, testCells}
+use Rattle.marks.specs.Marks.{bitOf, In, FindsNext}
+use Rattle.answers.specs.Answers.{Under}
+use Rattle.tables.specs.Facts.{CandidatesAre}
+use Rattle.tables.specs.Filling.{wordsFor}
+use Rattle.term_check.specs.Worlds.{answersOf, usersOf}
+use Rattle.rounds.specs.Resting.{total, Holds, Frame, Rests, Room}
+use Rattle.rounds.specs.tested.Tested.{Placed, Grows, Retests}
+use Rattle.rounds.specs.shrinking.Shrinking.{Settled, Turns}
+use Rattle.rounds.specs.declared.tested.Sizes.{Sizes}
+use Rattle.rounds.proofs.tested.Placing.{moved}
+
+pub in-grows : (words words′ : List ℕ) → Grows words words′ → (at n : ℕ) → In words at n → In words′ at n
+in-grows words words′ g at n i = g (at + n / wordBits) (n % wordBits) (omega arith) i
+
+pub rests-more : (rs : List Record) (kept users users′ : List ℕ) → Grows users users′ → (b : ℕ) → Rests rs kept users b → Rests rs kept users′ b
+rests-more rs kept users users′ g b r flags h = r flags (λ c l k n. h c l k (in-grows users users′ g (c * wordsFor rs) b n))
+
+pub in-or-not : (words : List ℕ) (at n : ℕ) → Dec (In words at n)
+in-or-not words at n = ℕ-discrete (bitOf (n % wordBits) (getD words (at + n / wordBits) 0)) 1
+
+-- the number found is behind the last one
+pub next-less : {words : List ℕ} {at b end r : ℕ} → b < end → FindsNext words at (b + 1) end r → end - r < end - b
+next-less {b = b} {end = end} {r = r} h f = go (decLt r end)
+  where
+    go : Dec (r < end) → end - r < end - b
+    go (yes l) = let on = f .found l .0 in omega arith
+    go (no l) = omega arith
+
+module _ (t sets firsts : List ℕ) (sizes : Sizes) (kept todo memo users failed : List ℕ) (last : ℕ) where
+  -- what a turn asks of a file
+  pub record Given (rs : List Record) : Type 0 where
+    pub frame : Frame rs t firsts sizes
+    pub candidates : CandidatesAre rs kept sets (wordsFor rs)
+    pub room : Room rs users
+    pub under : Under memo (last + 1)
+    pub long : maxBindingWords ≤ length failed
+    pub none : (c : ℕ) → In failed 0 c → ⊥
+    pub settled : Settled rs kept users todo
+
+  -- all marked bindings below b are tested
+  pub record Turning (memo′ users′ failed′ : List ℕ) (stamp b : ℕ) : Type 0 where
+    pub users-long : length users′ ≡ length users
+    pub failed-long : length failed′ ≡ length failed
+    pub under : Under memo (last + 1) → Under memo′ (stamp + 1)
+    pub failures : (rs : List Record) → Given rs → (c : ℕ) → c < total rs → In failed′ 0 c → (isKept (getD kept c 0) ≡ true) × (Holds rs kept c → ⊥)
+    pub settled : (rs : List Record) → Given rs → (c : ℕ) → c < total rs → isKept (getD kept c 0) ≡ true → (In failed′ 0 c → ⊥) → (In todo 0 c → c < b) → Rests rs kept users′ c
+
+  pub turn-none : (end b : ℕ) → FindsNext todo 0 0 end b → Turning memo users failed last b
+  turn-none end b f =
+      record {
+        users-long = refl;
+        failed-long = refl;
+        under = λ u. u;
+        failures = λ rs g c l i. absurd (g .none c i);
+        settled = λ rs g c l k n m. g .settled c l k (λ i. f .passed c (omega arith) (m i) i);
+      }
+
+  module _ (memo′ users′ failed′ : List ℕ) (stamp b : ℕ) (w : Turning memo′ users′ failed′ stamp b) where
+    pub turn-more : (memo″ users″ failed″ : List ℕ) (next end b′ : ℕ) → length users″ ≡ length users′ → length failed″ ≡ length failed′
+        → Retests t sets firsts sizes kept memo′ users′ failed′ stamp b memo″ users″ failed″ next → FindsNext todo 0 (b + 1) end b′
+        → Turning memo″ users″ failed″ next b′
+    turn-more memo″ users″ failed″ next end b′ lu lf r f =
+        record {
+          users-long = lu ∙ w .users-long;
+          failed-long = lf ∙ w .failed-long;
+          under = λ u. r .under (w .under u);
+          failures = λ rs g c l i. failing rs g c l i (ℕ-discrete c b) (in-or-not failed′ 0 c);
+          settled = λ rs g c l k n m. settling rs g c l k n m (ℕ-discrete c b);
+        }
+      where
+        answer : (rs : List Record) → Given rs → b < total rs → (isKept (getD kept b 0) ≡ true → (In failed″ 0 b → ⊥) → Rests rs kept users″ b) × (In failed″ 0 b → (In failed′ 0 b → ⊥) → (isKept (getD kept b 0) ≡ true) × (Holds rs kept b → ⊥))
+        answer rs g l = let ul = w .users-long in let fl = w .failed-long in let room = g .room in let long = g .long in r .answer rs (g .frame) (g .candidates) (omega arith) (w .under (g .under)) (omega arith) l
+
+        failing : (rs : List Record) → Given rs → (c : ℕ) → c < total rs → In failed″ 0 c → Dec (c ≡ b) → Dec (In failed′ 0 c) → (isKept (getD kept c 0) ≡ true) × (Holds rs kept c → ⊥)
+        failing rs g c l i d (yes j) = w .failures rs g c l j
+        failing rs g c l i (no d) (no j) = absurd (j (r .only c i d))
+        failing rs g c l i (yes e) (no j) =
+            subst (λ x. In failed″ 0 x → (In failed′ 0 x → ⊥) → x < total rs → (isKept (getD kept x 0) ≡ true) × (Holds rs kept x → ⊥)) (sym e) (λ i′ j′ l′. answer rs g l′ .1 i′ j′) i j l
+
+        settling : (rs : List Record) → Given rs → (c : ℕ) → c < total rs → isKept (getD kept c 0) ≡ true → (In failed″ 0 c → ⊥) → (In todo 0 c → c < b′) → Dec (c ≡ b) → Rests rs kept users″ c
+        settling rs g c l k n m (yes e) =
+            subst (λ x. x < total rs → isKept (getD kept x 0) ≡ true → (In failed″ 0 x → ⊥) → Rests rs kept users″ x) (sym e) (λ l′ k′ n′. answer rs g l′ .0 k′ n′) l k n
+        settling rs g c l k n m (no d) =
+            rests-more rs kept users′ users″ (r .grows) c (w .settled rs g c l k (λ i. n (in-grows failed′ failed″ (r .more) 0 c i)) (λ i. below c d i (m i) (decLt c b)))
+          where
+            below : (c : ℕ) → (c ≡ b → ⊥) → In todo 0 c → c < b′ → Dec (c < b) → c < b
+            below c d i h (yes s) = s
+            below c d i h (no s) = absurd (f .passed c (let z = d in omega arith) h i)
+
+    pub turn-all : (end : ℕ) → end ≡ sizes .bindings % 2048 → end ≤ b → Turns t sets firsts sizes kept todo memo users failed last memo′ users′ failed′ stamp
+    turn-all end is h =
+        record {
+          users-long = w .users-long;
+          failed-long = w .failed-long;
+          under = w .under;
+          failures = λ rs fr ca ro un lo no′ se. w .failures rs (given rs fr ca ro un lo no′ se);
+          settled = λ rs fr ca ro un lo no′ se c l k n.
+              let few = fr .few-bindings in
+              let all = fr .bindings-are in
+              w .settled rs (given rs fr ca ro un lo no′ se) c l k n (λ i. omega arith);
+        }
+      where
+        given : (rs : List Record) → Frame rs t firsts sizes → CandidatesAre rs kept sets (wordsFor rs) → Room rs users → Under memo (last + 1) → maxBindingWords ≤ length failed → ((c : ℕ) → In failed 0 c → ⊥) → Settled rs kept users todo → Given rs
+        given rs fr ca ro un lo no′ se = record { frame = fr; candidates = ca; room = ro; under = un; long = lo; none = no′; settled = se }
+
+-- the same by the places as they stood before
+pub turns-from : (r₀ r w w′ t firsts : List ℕ) (sizes : Sizes) (kept todo failed : List ℕ) (last : ℕ) (failed′ : List ℕ) (n : ℕ) → Placed r₀ r → Turns t (drop testCells r) firsts sizes kept todo (answersOf r w) (usersOf r w) failed last (answersOf r w′) (usersOf r w′) failed′ n
+    → Turns t (drop testCells r) firsts sizes kept todo (answersOf r₀ w) (usersOf r₀ w) failed last (answersOf r₀ w′) (usersOf r₀ w′) failed′ n
+turns-from r₀ r w w′ t firsts sizes kept todo failed last failed′ n p x = moved r₀ r p (λ answers users. Turns t (drop testCells r) firsts sizes kept todo (answers w) (users w) failed last (answers w′) (users w′) failed′ n) x

@@ -1,0 +1,48 @@
+-- `count_kept` meets its contract. The invariant: the first i flags are counted.
+use Prim.Native.Nat.{_-_, _≤_}
+use native.Mathlib.Omega.{arith}
+use borrow.Author.Needs.{needs}
+use Rattle.rounds.proofs.shrinking.Counting.{flag-small, Counted, counted-none, counted-more, counted-all}
+use Rattle.rounds.proofs.shrinking.count_kept.Statement.{statement}
+use Rattle.rounds.proofs.shrinking.count_kept.Tie as tie
+
+abbrev Inv-loop : tie.InvT-loop
+Inv-loop flags n kept₀ i₀ kept i = (i ≤ n) × Counted flags n kept i
+
+abbrev μ-loop : tie.MeasureT-loop
+μ-loop flags n kept₀ i₀ kept i = n - i
+
+loop-holds : tie.Need-loop-holds Inv-loop μ-loop
+loop-holds c = (omega arith, counted-none _ _)
+
+kept-at-requires : tie.Need-kept-at-requires Inv-loop μ-loop
+kept-at-requires c κs = search needs
+
+add-kept : tie.Need-add-kept Inv-loop μ-loop
+add-kept c = omega (arith, flag-small _ _ (c .kept-at .ensures), c .before .before .loop .inv .1 .few, c .before .loop-test .taken)
+
+add-i : tie.Need-add-i Inv-loop μ-loop
+add-i c = omega (arith, c .before .loop-test .taken)
+
+loop-less : tie.Need-loop-less Inv-loop μ-loop
+loop-less c = omega (arith, c .before .loop-test .taken)
+
+loop-again : tie.Need-loop-again Inv-loop μ-loop
+loop-again c = let h = c .before .loop-test .taken in (omega arith, counted-more _ _ _ _ (c .before .before .loop .inv .1) _ (c .kept-at .ensures) h)
+
+returns : tie.Need-returns Inv-loop μ-loop
+returns c = counted-all _ _ _ _ (c .before .loop .inv .1) (c .before .loop .inv .0) (c .loop-test .left)
+
+pub count-kept-spec : {M : Type 1} → statement M
+count-kept-spec =
+    tie.close
+    (tie.spec
+    Inv-loop
+    μ-loop
+    loop-holds
+    kept-at-requires
+    add-kept
+    add-i
+    loop-less
+    loop-again
+    returns)

@@ -1,0 +1,4 @@
+pub mod Clearing
+pub mod Placing
+pub mod Testing
+pub mod Retesting

@@ -1,0 +1,90 @@
+-- The test of a binding, and its mark where it fails.
+use Prim.Native.Nat.{ℕ, zero, suc, _+_, _/_, _%_}
+use native.Mathlib.Omega.{arith}
+use mathlib.Core.Path.{_≡_, refl, sym, subst, _∙_}
+use mathlib.Core.Logic.{_⊎_, inl, inr}
+use mathlib.Core.Bool.{Bool, true, false, true≢false}
+use mathlib.Core.List.{List}
+use lib.ListN.{length, getD, drop}
+use Rattle.scheme.specs.Flags.{isKept}
+use Rattle.casefile.specs.Fields.{field}
+use Rattle.index.specs.layout.Layout.{testCells}
+use Rattle.marks.specs.Marks.{In, Puts}
+use Rattle.answers.specs.Answers.{Under}
+use Rattle.term_check.specs.Worlds.{answersOf, usersOf}
+use Rattle.rounds.specs.tested.Tested.{Same, Freshens, TestsBinding, Retests}
+use Rattle.rounds.specs.declared.tested.Sizes.{Sizes}
+use Rattle.rounds.proofs.tested.Placing.{moved-sets}
+
+-- what a flag says
+kept-not : (n : ℕ) → n ≡ 0 → isKept n ≡ true → ⊥
+unfolding isKept
+kept-not zero e k = true≢false (sym k)
+kept-not (suc n) e k = omega arith
+
+kept-so : (n : ℕ) → (n ≡ 0 → ⊥) → isKept n ≡ true
+unfolding isKept
+kept-so zero d = absurd (d refl)
+kept-so (suc n) d = refl
+
+-- a flag as it is read
+flag-is : (kept : List ℕ) (b flag : ℕ) → flag ≡ field 1 kept b → flag ≡ getD kept b 0
+unfolding field
+flag-is kept b flag e = omega arith
+
+-- the numbers of a set by word and bit
+same-number : (c b : ℕ) → 0 + c / 32 ≡ 0 + b / 32 → c % 32 ≡ b % 32 → c ≡ b
+same-number c b e f = omega arith
+
+module _ (t sets firsts : List ℕ) (sizes : Sizes) (kept memo users failed : List ℕ) (last b : ℕ) where
+  -- a binding that is not kept is not tested
+  pub retest-dropped : (flag : ℕ) → flag ≡ field 1 kept b → flag ≡ 0 → Retests t sets firsts sizes kept memo users failed last b memo users failed last
+  retest-dropped flag e z =
+      record {
+        grows = λ i k h x. x;
+        more = λ i k h x. x;
+        under = λ u. u;
+        only = λ c x d. x;
+        answer = λ rs w ca ro u long h. (λ k n. absurd (kept-not (getD kept b 0) (sym (flag-is kept b flag e) ∙ z) k), λ x n. absurd (n x));
+      }
+
+  module _ (flag : ℕ) (e : flag ≡ field 1 kept b) (ne : flag ≡ 0 → ⊥) (memo₁ : List ℕ) (stamp : ℕ) (new : Freshens memo last memo₁ stamp) (users₁ : List ℕ) (eu : users₁ ≡ users) (memo′ users′ : List ℕ) (r : Bool) (test : TestsBinding t sets firsts sizes memo₁ users₁ stamp b memo′ users′ r) where
+    told : TestsBinding t sets firsts sizes memo₁ users stamp b memo′ users′ r
+    told = subst (λ l. TestsBinding t sets firsts sizes memo₁ l stamp b memo′ users′ r) eu test
+
+    on : Under memo (last + 1) → Under memo′ (stamp + 1)
+    on u = told .under (new .fresh u)
+
+    -- one that holds
+    pub retest-holds : r ≡ true → Retests t sets firsts sizes kept memo users failed last b memo′ users′ failed stamp
+    retest-holds y =
+        record {
+          grows = told .grows;
+          more = λ i k h x. x;
+          under = on;
+          only = λ c x d. x;
+          answer = λ rs w ca ro u long h. (λ k n. told .yes y rs kept w ca ro (new .fresh u) h, λ x n. absurd (n x));
+        }
+
+    -- one that fails
+    pub retest-fails : r ≡ false → (failed′ : List ℕ) → Puts failed 0 b failed′ → Retests t sets firsts sizes kept memo users failed last b memo′ users′ failed′ stamp
+    retest-fails y failed′ p =
+        record {
+          grows = told .grows;
+          more = p .grows;
+          under = on;
+          only = λ c x d. one c d (p .only (0 + c / 32) (c % 32) (omega arith) x);
+          answer = λ rs w ca ro u long h. (
+            λ k n. absurd (n (p .put (let few = w .few-bindings in omega arith))),
+            λ x n. (kept-so (getD kept b 0) (λ z. ne (flag-is kept b flag e ∙ z)), told .no y rs kept w ca ro (new .fresh u) h),
+          );
+        }
+      where
+        one : (c : ℕ) → (c ≡ b → ⊥) → In failed 0 c ⊎ ((0 + c / 32 ≡ 0 + b / 32) × (c % 32 ≡ b % 32)) → In failed 0 c
+        one c d (inl x) = x
+        one c d (inr (i, k)) = absurd (d (same-number c b i k))
+
+-- the same by the places and the sets as they stood before
+pub retests-from : (r₀ r w w′ t firsts : List ℕ) (sizes : Sizes) (kept failed : List ℕ) (last b : ℕ) (failed′ : List ℕ) (n : ℕ) → Same r₀ r → Retests t (drop testCells r) firsts sizes kept (answersOf r w) (usersOf r w) failed last b (answersOf r w′) (usersOf r w′) failed′ n
+    → Retests t (drop testCells r₀) firsts sizes kept (answersOf r₀ w) (usersOf r₀ w) failed last b (answersOf r₀ w′) (usersOf r₀ w′) failed′ n
+retests-from r₀ r w w′ t firsts sizes kept failed last b failed′ n s x = moved-sets r₀ r s (λ sets answers users. Retests t sets firsts sizes kept (answers w) (users w) failed last b (answers w′) (users w′) failed′ n) x

@@ -1,0 +1,100 @@
+// Bindings that failed are dropped, and those that they served are marked for the next round.
+use crate::tested::Sizes;
+use index::layout::MAX_BINDINGS;
+use index::layout::ROW_LIMIT;
+use index::layout::TEST_CELLS;
+use index::layout::WORD;
+use marks::next_in;
+use marks::word_in;
+use tables::candidates::leave_sets;
+use term_check::parts::from_of;
+use term_check::parts::split_of;
+ghost use mathlib.Core.Path.{_≡_};
+ghost use mathlib.Core.List.{List};
+ghost use lib.ListN.{set, drop};
+ghost use Prim.Native.Nat.{ℕ};
+ghost use Rattle.index.specs.layout.Layout.{testCells};
+ghost use Rattle.tables.specs.Filling.{LeavesSets};
+ghost use Rattle.term_check.specs.Worlds.{usersOf};
+ghost use Rattle.rounds.specs.tested.Tested.{Placed};
+ghost use Rattle.rounds.specs.dropping.Dropping.{Joins, Drops, DropsAll};
+
+// Joins the n words at a place to a set.
+fn join(words: &[u32], at: usize, n: usize, into: &mut [u32])
+    ensures { λ _. ⌜ Joins (now (words .entry)) at n (now (into .entry)) (now (into .exit)) ⌝ }
+{
+    let mut k: usize = 0;
+    while k < n {
+        if into.len() <= k {
+            return;
+        }
+        into[k] = into[k] | word_in(words, at, k);
+        k = k + 1;
+    }
+}
+
+// Sets a flag to 0.
+fn drop_flag(flags: &mut [u8], b: usize)
+    ensures { λ _. ⌜ now (flags .exit) ≡ set (now (flags .entry)) b 0 ⌝ }
+{
+    if b < flags.len() {
+        flags[b] = 0;
+    }
+}
+
+// Takes binding b out of the sets of candidates, which stand behind the numbers of the test.
+fn leave(t: &[u16], b: usize, words: usize, r: &mut [u32])
+    ensures { λ _. ⌜ Placed (now (r .entry)) (now (r .exit)) × LeavesSets (now (t .entry)) b words (drop testCells (now (r .entry))) (drop testCells (now (r .exit))) ⌝ }
+{
+    if r.len() < TEST_CELLS {
+        return;
+    }
+    leave_sets(t, b, words, &mut r[TEST_CELLS..]);
+}
+
+// Joins the n words at a place of the users to a set.
+fn join_users(r: &[u32], w: &[u32], at: usize, n: usize, into: &mut [u32])
+    ensures { λ _. ⌜ Joins (usersOf (now (r .entry)) (now (w .entry))) at n (now (into .entry)) (now (into .exit)) ⌝ }
+{
+    let split = split_of(r, w);
+    let from = from_of(r, w);
+    join(&w[from..split], at, n, into);
+}
+
+// Drops binding b: its flag, what it is a candidate for; those that it served are marked.
+fn drop_binding(
+    t: &[u16],
+    w: &[u32],
+    sizes: Sizes,
+    r: &mut [u32],
+    flags: &mut [u8],
+    todo: &mut [u32],
+    b: usize,
+)
+    ensures { λ _. ⌜ Placed (now (r .entry)) (now (r .exit)) × ((firsts : List ℕ) → Drops (now (t .entry)) firsts (usersOf (now (r .entry)) (now (w .entry))) sizes b (drop testCells (now (r .entry))) (now (flags .entry)) (now (todo .entry)) (drop testCells (now (r .exit))) (now (flags .exit)) (now (todo .exit))) ⌝ }
+{
+    let words = (sizes.bindings % ROW_LIMIT + (WORD - 1)) / WORD;
+    drop_flag(flags, b);
+    join_users(r, w, b % MAX_BINDINGS * words, words, todo);
+    leave(t, b, words, r);
+}
+
+// Drops all that failed.
+pub fn drop_failed(
+    t: &[u16],
+    w: &[u32],
+    sizes: Sizes,
+    failed: &[u32],
+    r: &mut [u32],
+    flags: &mut [u8],
+    todo: &mut [u32],
+)
+    ensures { λ _. ⌜ Placed (now (r .entry)) (now (r .exit)) × ((firsts : List ℕ) → DropsAll (now (t .entry)) firsts (usersOf (now (r .entry)) (now (w .entry))) sizes (now (failed .entry)) (drop testCells (now (r .entry))) (now (flags .entry)) (now (todo .entry)) (drop testCells (now (r .exit))) (now (flags .exit)) (now (todo .exit))) ⌝ }
+{
+    let total = sizes.bindings % ROW_LIMIT;
+    let mut b = next_in(failed, 0, 0, total);
+    while b < total {
+        drop_binding(t, w, sizes, r, flags, todo, b);
+        b = next_in(failed, 0, b + 1, total);
+    }
+}

@@ -1,0 +1,3 @@
+pub mod Filling
+pub mod Places
+pub mod Meaning

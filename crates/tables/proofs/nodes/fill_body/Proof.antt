@@ -1,0 +1,79 @@
+-- `fill_body` meets its contract. The invariant: the nodes from i on are entered, and `par` is the first parameter among them.
+use Rattle.tables.proofs.nodes.Filling.{BodyTo, body-none, body-more, body-all}
+use borrow.Author.Needs.{needs}
+use native.Mathlib.Omega.{arith}
+use Rattle.tables.proofs.nodes.fill_body.Statement.{statement}
+use Rattle.tables.proofs.nodes.fill_body.Tie as tie
+
+abbrev Inv-loop : tie.InvT-loop
+Inv-loop file start n ends first at t₀ par₀ i₀ t par i = BodyTo file start n ends first at t₀ par i t
+
+abbrev μ-loop : tie.MeasureT-loop
+μ-loop file start n ends first at t₀ par₀ i₀ t par i = i
+
+loop-holds : tie.Need-loop-holds Inv-loop μ-loop
+loop-holds c = body-none
+
+sub-i : tie.Need-sub-i Inv-loop μ-loop
+sub-i c = search needs
+
+mul-place : tie.Need-mul-place Inv-loop μ-loop
+mul-place c = omega (arith, c .before .before .before .before .before .pre .1, c .before .loop .inv .upTo)
+
+add-place : tie.Need-add-place Inv-loop μ-loop
+add-place c = omega (arith, c .before .before .before .before .before .pre .0, c .before .before .before .before .before .pre .1, c .before .loop .inv .upTo)
+
+add-place-at : tie.Need-add-place-at Inv-loop μ-loop
+add-place-at c = omega (arith, c .before .before .before .before .before .pre .2, c .before .before .before .before .before .pre .1, c .before .loop .inv .upTo)
+
+place-at-requires : tie.Need-place-at-requires Inv-loop μ-loop
+place-at-requires c κs = search needs
+
+byte-at-requires : tie.Need-byte-at-requires Inv-loop μ-loop
+byte-at-requires c κs = search needs
+
+par-at-requires : tie.Need-par-at-requires Inv-loop μ-loop
+par-at-requires c κs = search needs
+
+mul-enter-node : tie.Need-mul-enter-node Inv-loop μ-loop
+mul-enter-node c = omega (arith, c .before .before .before .before .before .before .before .before .pre .1, c .before .before .before .before .loop .inv .upTo)
+
+add-enter-node : tie.Need-add-enter-node Inv-loop μ-loop
+add-enter-node c = omega (arith, c .before .before .before .before .before .before .before .before .pre .3, c .before .before .before .before .before .before .before .before .pre .1, c .before .before .before .before .loop .inv .upTo)
+
+enter-node-requires : tie.Need-enter-node-requires Inv-loop μ-loop
+enter-node-requires c κs = (omega (arith, c .before .before .before .before .before .before .before .before .before .pre .0, c .before .before .before .before .before .before .before .before .before .pre .1, c .before .before .before .before .before .loop .inv .upTo), c .before .before .before .place-at .ensures .bound, omega (arith, c .before .before .before .before .before .before .before .before .before .pre .3, c .before .before .before .before .before .before .before .before .before .pre .1, c .before .before .before .before .before .loop .inv .upTo))
+
+loop-less : tie.Need-loop-less Inv-loop μ-loop
+loop-less c = search needs
+
+loop-again : tie.Need-loop-again Inv-loop μ-loop
+loop-again c = body-more (c .before .before .before .before .before .before .before .before .loop .inv) (c .before .before .before .before .before .before .before .loop-test .taken) _ _ _ (c .before .before .before .before .before .byte-at .ensures .value) (c .before .before .before .before .before .before .place-at .ensures .value) (c .before .before .before .before .par-at .ensures) _ (c .before .before .enter-node .ensures)
+
+same-length : tie.Need-same-length Inv-loop μ-loop
+same-length c = c .before .loop .inv .within .long
+
+returns : tie.Need-returns Inv-loop μ-loop
+returns c = body-all (c .before .loop .inv) (c .loop-test .left)
+
+pub fill-body-spec : {M : Type 1} → statement M
+fill-body-spec =
+    tie.close
+    (tie.spec
+    Inv-loop
+    μ-loop
+    loop-holds
+    sub-i
+    mul-place
+    add-place
+    add-place-at
+    place-at-requires
+    byte-at-requires
+    par-at-requires
+    mul-enter-node
+    add-enter-node
+    enter-node-requires
+    loop-less
+    loop-again
+    same-length
+    returns)

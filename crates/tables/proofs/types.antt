@@ -1,0 +1,5 @@
+pub mod Filling
+pub mod Records
+pub mod Meaning
+pub mod Kept
+pub mod Bindings

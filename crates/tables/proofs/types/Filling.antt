@@ -1,0 +1,446 @@
+-- The rows of states, types and bindings as they are filled, one after another. A row is entered by stores of its cells; each store leaves all
+-- other cells as they were, so what is so of an earlier row stays so.
+use Prim.Native.Nat.{ℕ, _+_, _-_, _*_, _%_, _<_, _≤_}
+use native.Mathlib.Omega.{arith}
+use native.Mathlib.Decide.{ℕ-discrete}
+use mathlib.Core.Path.{_≡_, refl, sym, ap, subst, _∙_}
+use mathlib.Core.Logic.{_⊎_, inl, inr}
+use mathlib.Core.List.{List}
+use lib.ListN.{length, getD}
+use Rattle.casefile.specs.Fields.{byte, word}
+use Rattle.records.specs.fields.Promises.{HasLength}
+use Rattle.index.specs.layout.Layout.{maxStates, maxTypes, maxBindings, maxMembers, typesAt, bindingsAt, rowsAt, rowCells, goalCell, symbolCell, ownCell, membersCell}
+use Rattle.index.specs.enter.Entering.{stored}
+use Rattle.marks.specs.Marks.{bitOf}
+use Rattle.marks.proofs.Bits.{zero-bit}
+use Rattle.tables.specs.Facts.{StateRow}
+use Rattle.tables.specs.Frames.{Within, Adds}
+use Rattle.tables.specs.reading.Cells.{rowAt, cellOf, endOf, memberOf, symbolOf, ownOf}
+use Rattle.tables.specs.types.Rows.{rowOf, goalOf, memberIn, Room, FillsStates, CountsMembers, FillsMembers, StatesAmong, ArrowsAmong, ArrowSays, Low, FillsArrow, TypeSays, FillsType, FillsTypes, FillsBindings}
+use Rattle.tables.proofs.Frames.{Put, within-none, within-then, within-wider, store-long, store-here, store-other, within-store, row-apart, column-apart, other-row}
+
+-- The states.
+pub record StatesTo (before : List ℕ) (q : ℕ) (t : List ℕ) : Type 0 where
+  pub upTo : q ≤ maxStates
+  pub within : Within rowsAt (rowsAt + maxStates * rowCells) before t
+  pub rows : rowsAt + maxStates * rowCells ≤ length before → (p : ℕ) → p < q → StateRow t p
+
+pub states-none : {before : List ℕ} → StatesTo before 0 before
+states-none = record { upTo = omega arith; within = within-none; rows = λ l p h. absurd (omega arith) }
+
+module _ {before : List ℕ} {q : ℕ} {t : List ℕ} (so : StatesTo before q t) where
+  pub states-more : q < maxStates → (row : ℕ) → row ≡ rowAt q → (a b c : List ℕ) → a ≡ stored t (row + 0) 65535 → b ≡ stored a (row + 1) q → c ≡ stored b (row + 4) 0 → StatesTo before (q + 1) c
+  states-more h row er a b c ea eb ec =
+      record {
+        upTo = omega arith;
+        within = within-then (so .within) (within-wider rowsAt (rowsAt + maxStates * rowCells) (omega arith) (omega arith) step);
+        rows = λ l p k. row-at l p k (ℕ-discrete p q);
+      }
+    where
+      pa : Put t (row + 0) 65535 a
+      pa = record { is = ea }
+
+      pb : Put a (row + 1) q b
+      pb = record { is = eb }
+
+      pc : Put b (row + 4) 0 c
+      pc = record { is = ec }
+
+      step : Within (rowAt q) (rowAt q + rowCells) t c
+      step = within-then (within-store pa (omega arith) (omega arith)) (within-then (within-store pb (omega arith) (omega arith)) (within-store pc (omega arith) (omega arith)))
+
+      row-at : rowsAt + maxStates * rowCells ≤ length before → (p : ℕ) → p < q + 1 → Dec (p ≡ q) → StateRow c p
+      row-at l p k (no z) =
+          let y : (p ≡ q → ⊥) = z in
+          let old = so .rows l p (omega arith) in
+          let same : (j : ℕ) → j < rowCells → cellOf c p j ≡ cellOf t p j = λ j m. other-row step p j (omega arith) (omega arith) m z in
+          record { no-result = same 0 (omega arith) ∙ old .no-result; own-end = same 1 (omega arith) ∙ old .own-end; no-members = same 4 (omega arith) ∙ old .no-members }
+      row-at l p k (yes z) =
+          let lt = so .within .long in
+          let la = store-long pa in
+          let lb = store-long pb in
+          subst (StateRow c) (sym z)
+          (record {
+            no-result = ap (λ x. getD c (x + 0) 0) (sym er) ∙ store-other pc (row + 0) (λ e. omega arith) ∙ store-other pb (row + 0) (λ e. omega arith) ∙ store-here pa (omega arith) (omega arith);
+            own-end = ap (λ x. getD c (x + 1) 0) (sym er) ∙ store-other pc (row + 1) (λ e. omega arith) ∙ store-here pb (omega arith) (omega arith);
+            no-members = ap (λ x. getD c (x + 4) 0) (sym er) ∙ store-here pc (omega arith) (omega arith);
+          })
+
+  pub states-all : maxStates ≤ q → FillsStates before t
+  states-all h = record { within = so .within; rows = λ l p k. so .rows l p (omega arith) }
+
+-- The members of an arrow.
+pub record MembersTo (file : List ℕ) (start many m : ℕ) (before : List ℕ) (j : ℕ) (t : List ℕ) : Type 0 where
+  pub upTo : j ≤ many
+  pub few : many ≤ maxMembers
+  pub types : m < maxTypes
+  pub within : Within (rowAt (rowOf m) + membersCell) (rowAt (rowOf m) + rowCells) before t
+  pub member : Room (rowOf m) before → (i : ℕ) → i < j → memberIn file start i < m → memberOf t (rowOf m) i ≡ goalOf before (memberIn file start i)
+
+pub members-none : {file : List ℕ} {start many m : ℕ} {before : List ℕ} → many ≤ maxMembers → m < maxTypes → MembersTo file start many m before 0 before
+members-none few types = record { upTo = omega arith; few = few; types = types; within = within-none; member = λ l i h. absurd (omega arith) }
+
+module _ {file : List ℕ} {start many m : ℕ} {before : List ℕ} {j : ℕ} {t : List ℕ} (so : MembersTo file start many m before j t) where
+  pub members-more : j < many → (row w goal : ℕ) → row ≡ rowAt (rowOf m) → w ≡ memberIn file start j → goal ≡ goalOf t w → goal < 65536 → (after : List ℕ) → after ≡ stored t (row + (membersCell + j)) goal → MembersTo file start many m before (j + 1) after
+  members-more h row w goal er ew eg small after ea =
+      record {
+        upTo = omega arith;
+        few = so .few;
+        types = so .types;
+        within = within-then (so .within) (within-store put (omega arith) (omega (arith, so .few)));
+        member = λ l i k below. at l i k below (ℕ-discrete i j);
+      }
+    where
+      put : Put t (row + (membersCell + j)) goal after
+      put = record { is = ea }
+
+      at : Room (rowOf m) before → (i : ℕ) → i < j + 1 → memberIn file start i < m → Dec (i ≡ j) → memberOf after (rowOf m) i ≡ goalOf before (memberIn file start i)
+      at l i k below (no z) =
+          let y : (i ≡ j → ⊥) = z in
+          store-other put (rowAt (rowOf m) + (membersCell + i % maxMembers)) (λ e. z (omega (arith, so .few))) ∙ so .member l i (omega arith) below
+      at l i k below (yes z) =
+          let here : rowAt (rowOf m) + (membersCell + i % maxMembers) ≡ row + (membersCell + j) = omega (arith, so .few) in
+          let is : w ≡ memberIn file start i = ew ∙ ap (memberIn file start) (sym z) in
+          let old : goalOf t w ≡ goalOf before w = so .within .outside (rowAt (rowOf w) + goalCell) (λ a b. apart (omega arith) a b) in
+          ap (λ x. getD after x 0) here ∙ store-here put small (omega (arith, so .few, so .within .long)) ∙ eg ∙ old ∙ ap (goalOf before) is
+        where
+          apart : w < m → rowAt (rowOf m) + membersCell ≤ rowAt (rowOf w) + goalCell → rowAt (rowOf w) + goalCell < rowAt (rowOf m) + rowCells → ⊥
+          apart b x y = omega (arith, so .types)
+
+  pub members-all : many ≤ j → FillsMembers file start many m before t
+  members-all h = record { within = so .within; member = λ l i k. so .member l i (omega arith) }
+
+-- The states among members, and how many are arrows.
+pub record StatesSo (t : List ℕ) (g many j r : ℕ) : Type 0 where
+  pub upTo : j ≤ many
+  pub among : StatesAmong t g j r
+
+pub among-none : {t : List ℕ} {g many : ℕ} → StatesSo t g many 0 0
+among-none = record { upTo = omega arith; among = record { small = omega arith; in-set = λ j h. absurd (omega arith); only = λ q e. absurd (let z = zero-bit q in omega arith) } }
+
+module _ {t : List ℕ} {g many j r : ℕ} (so : StatesSo t g many j r) (h : j < many) (x : ℕ) (ex : x ≡ memberOf t g j) where
+  pub among-put : x < maxStates → (r′ : ℕ) → Adds r x r′ → StatesSo t g many (j + 1) r′
+  among-put l r′ is =
+      record {
+        upTo = omega arith;
+        among = record {
+          small = is .small (so .among .small) l;
+          in-set = λ i k m. there i k m (ℕ-discrete i j);
+          only = λ q e. whose q (is .only l q e);
+        };
+      }
+    where
+      there : (i : ℕ) → i < j + 1 → memberOf t g i < maxStates → Dec (i ≡ j) → bitOf (memberOf t g i) r′ ≡ 1
+      there i k m (yes z) = subst (λ y. bitOf y r′ ≡ 1) (ex ∙ ap (memberOf t g) (sym z)) (is .put l)
+      there i k m (no z) = let y : (i ≡ j → ⊥) = z in is .grows l (memberOf t g i) (so .among .in-set i (omega arith) m)
+
+      whose : (q : ℕ) → (bitOf q r ≡ 1) ⊎ (q ≡ x) → (i : ℕ) × (i < j + 1) × (memberOf t g i ≡ q)
+      whose q (inl e) = let (i, k, f) = so .among .only q e in (i, omega arith, f)
+      whose q (inr e) = (j, omega arith, sym ex ∙ sym e)
+
+  pub among-pass : maxStates ≤ x → StatesSo t g many (j + 1) r
+  among-pass l =
+      record {
+        upTo = omega arith;
+        among = record {
+          small = so .among .small;
+          in-set = λ i k m. there i k m (ℕ-discrete i j);
+          only = λ q e. let (i, k, f) = so .among .only q e in (i, omega arith, f);
+        };
+      }
+    where
+      there : (i : ℕ) → i < j + 1 → memberOf t g i < maxStates → Dec (i ≡ j) → bitOf (memberOf t g i) r ≡ 1
+      there i k m (yes z) = let e : memberOf t g i ≡ x = ap (memberOf t g) z ∙ sym ex in absurd (omega arith)
+      there i k m (no z) = let y : (i ≡ j → ⊥) = z in so .among .in-set i (omega arith) m
+
+pub among-all : {t : List ℕ} {g many j r : ℕ} → StatesSo t g many j r → many ≤ j → StatesAmong t g many r
+among-all {t} {g} {many} {j} {r} so h = let u = so .upTo in let e : j ≡ many = omega arith in subst (λ k. StatesAmong t g k r) e (so .among)
+
+pub record ArrowsSo (t : List ℕ) (g many j r : ℕ) : Type 0 where
+  pub upTo : j ≤ many
+  pub among : ArrowsAmong t g j r
+
+pub arrows-none : {t : List ℕ} {g many : ℕ} → ArrowsSo t g many 0 0
+arrows-none = record { upTo = omega arith; among = record { few = omega arith; none = λ e j h. absurd (omega arith) } }
+
+module _ {t : List ℕ} {g many j r : ℕ} (so : ArrowsSo t g many j r) (h : j < many) (x : ℕ) (ex : x ≡ memberOf t g j) where
+  pub arrows-one : ArrowsSo t g many (j + 1) (r + 1)
+  arrows-one = record { upTo = omega arith; among = record { few = omega (arith, so .among .few); none = λ e. absurd (omega arith) } }
+
+  pub arrows-pass : x < maxStates → ArrowsSo t g many (j + 1) r
+  arrows-pass l = record { upTo = omega arith; among = record { few = omega (arith, so .among .few); none = λ e i k. small e i k (ℕ-discrete i j) } }
+    where
+      small : r ≡ 0 → (i : ℕ) → i < j + 1 → Dec (i ≡ j) → memberOf t g i < maxStates
+      small e i k (yes z) = subst (λ y. y < maxStates) (ex ∙ ap (memberOf t g) (sym z)) l
+      small e i k (no z) = let y : (i ≡ j → ⊥) = z in so .among .none e i (omega arith)
+
+pub arrows-all : {t : List ℕ} {g many j r : ℕ} → ArrowsSo t g many j r → many ≤ j → ArrowsAmong t g many r
+arrows-all {t} {g} {many} {j} {r} so h = let u = so .upTo in let e : j ≡ many = omega arith in subst (λ k. ArrowsAmong t g k r) e (so .among)
+
+-- The bindings.
+pub record BindingsTo (file index : List ℕ) (bindings : ℕ) (before : List ℕ) (b : ℕ) (t : List ℕ) : Type 0 where
+  pub upTo : b ≤ bindings
+  pub few : bindings ≤ maxBindings
+  pub within : Within rowsAt (rowsAt + bindings * rowCells) before t
+  pub others : (i k : ℕ) → k < rowCells → (k ≡ symbolCell → ⊥) → (k ≡ ownCell → ⊥) → cellOf t i k ≡ cellOf before i k
+  pub symbol : rowsAt + bindings * rowCells ≤ length before → (i : ℕ) → i < b → symbolOf t i ≡ word file (getD index (bindingsAt + i) 0)
+  pub own : rowsAt + bindings * rowCells ≤ length before → (i : ℕ) → i < b → ownOf t i ≡ goalOf before (word file (getD index (bindingsAt + i) 0 + 2))
+
+pub bindings-many : {file index : List ℕ} {bindings : ℕ} {before : List ℕ} → maxBindings < bindings → FillsBindings file index bindings before before
+bindings-many h = record { within = within-none; others = λ i k l x y. refl; symbol = λ few. absurd (omega arith); own = λ few. absurd (omega arith) }
+
+pub bindings-none : {file index : List ℕ} {bindings : ℕ} {before : List ℕ} → bindings ≤ maxBindings → BindingsTo file index bindings before 0 before
+bindings-none few = record { upTo = omega arith; few = few; within = within-none; others = λ i k l x y. refl; symbol = λ l i h. absurd (omega arith); own = λ l i h. absurd (omega arith) }
+
+module _ {file index : List ℕ} {bindings : ℕ} {before : List ℕ} {b : ℕ} {t : List ℕ} (so : BindingsTo file index bindings before b t) where
+  pub bindings-more : b < bindings → (row place symbol w own : ℕ) → row ≡ rowAt b → place ≡ getD index (bindingsAt + b) 0 → symbol ≡ word file place → symbol < 65536 → w ≡ word file (place + 2) → own ≡ goalOf t w → own < 65536
+      → (a c : List ℕ) → a ≡ stored t (row + symbolCell) symbol → c ≡ stored a (row + ownCell) own → BindingsTo file index bindings before (b + 1) c
+  bindings-more h row place symbol w own er ep es small ew eo small′ a c ea ec =
+      let few = so .few in
+      record {
+        upTo = omega arith;
+        few = so .few;
+        within = within-then (so .within) (within-then (within-store pa (omega arith) (omega arith)) (within-store pc (omega arith) (omega arith)));
+        others = λ i k l x y. both i k (λ e. x (column-apart i b k symbolCell l (omega arith) (e ∙ ap (λ z. z + symbolCell) er))) (λ e. y (column-apart i b k ownCell l (omega arith) (e ∙ ap (λ z. z + ownCell) er))) ∙ so .others i k l x y;
+        symbol = λ l i k. symbol-at l i k (ℕ-discrete i b);
+        own = λ l i k. own-at l i k (ℕ-discrete i b);
+      }
+    where
+      pa : Put t (row + symbolCell) symbol a
+      pa = record { is = ea }
+
+      pc : Put a (row + ownCell) own c
+      pc = record { is = ec }
+
+      both : (i k : ℕ) → (rowAt i + k ≡ row + symbolCell → ⊥) → (rowAt i + k ≡ row + ownCell → ⊥) → cellOf c i k ≡ cellOf t i k
+      both i k x y = store-other pc (rowAt i + k) y ∙ store-other pa (rowAt i + k) x
+
+      -- a row of an earlier binding
+      earlier : (i k l : ℕ) → i < bindings → (i ≡ b → ⊥) → k < rowCells → l < rowCells → rowAt i + k ≡ row + l → ⊥
+      earlier i k l hi z hk hl e = z (row-apart i b k l (omega (arith, so .few)) (omega (arith, so .few)) hk hl (e ∙ ap (λ x. x + l) er))
+
+      symbol-at : rowsAt + bindings * rowCells ≤ length before → (i : ℕ) → i < b + 1 → Dec (i ≡ b) → symbolOf c i ≡ word file (getD index (bindingsAt + i) 0)
+      symbol-at l i k (no z) =
+          let y : (i ≡ b → ⊥) = z in
+          both i symbolCell (earlier i symbolCell symbolCell (omega arith) z (omega arith) (omega arith)) (earlier i symbolCell ownCell (omega arith) z (omega arith) (omega arith)) ∙ so .symbol l i (omega arith)
+      symbol-at l i k (yes z) =
+          let lt = so .within .long in
+          let few = so .few in
+          subst (λ x. symbolOf c x ≡ word file (getD index (bindingsAt + x) 0)) (sym z)
+          (ap (λ x. getD c (x + symbolCell) 0) (sym er) ∙ store-other pc (row + symbolCell) (λ e. omega arith) ∙ store-here pa small (omega arith) ∙ es ∙ ap (word file) ep)
+
+      own-at : rowsAt + bindings * rowCells ≤ length before → (i : ℕ) → i < b + 1 → Dec (i ≡ b) → ownOf c i ≡ goalOf before (word file (getD index (bindingsAt + i) 0 + 2))
+      own-at l i k (no z) =
+          let y : (i ≡ b → ⊥) = z in
+          both i ownCell (earlier i ownCell symbolCell (omega arith) z (omega arith) (omega arith)) (earlier i ownCell ownCell (omega arith) z (omega arith) (omega arith)) ∙ so .own l i (omega arith)
+      own-at l i k (yes z) =
+          let lt = so .within .long in
+          let la = store-long pa in
+          let few = so .few in
+          subst (λ x. ownOf c x ≡ goalOf before (word file (getD index (bindingsAt + x) 0 + 2))) (sym z)
+          (ap (λ x. getD c (x + ownCell) 0) (sym er) ∙ store-here pc small′ (omega arith) ∙ eo ∙ so .others (rowOf w) goalCell (omega arith) (λ e. omega arith) (λ e. omega arith) ∙ ap (goalOf before) (ew ∙ ap (λ x. word file (x + 2)) ep))
+
+  pub bindings-all : bindings ≤ b → FillsBindings file index bindings before t
+  bindings-all h = record { within = so .within; others = so .others; symbol = λ few l i k. so .symbol l i (omega arith); own = λ few l i k. so .own l i (omega arith) }
+
+-- The row of an arrow.
+-- the same members have the same states and arrows
+states-same : {t after : List ℕ} {g many many′ r r′ : ℕ} → ((j : ℕ) → memberOf after g j ≡ memberOf t g j) → many ≡ many′ → r ≡ r′ → StatesAmong t g many r → StatesAmong after g many′ r′
+states-same {t} {after} {g} {many} {many′} {r} {r′} same em er s =
+    let l = s .small in
+    record {
+      small = omega arith;
+      in-set = λ j h k. subst (λ x. bitOf x r′ ≡ 1) (sym (same j)) (subst (λ x. bitOf (memberOf t g j) x ≡ 1) er (s .in-set j (omega arith) (subst (λ x. x < maxStates) (same j) k)));
+      only = λ q e. let (j, h, f) = s .only q (subst (λ x. bitOf q x ≡ 1) (sym er) e) in (j, omega arith, same j ∙ f);
+    }
+
+arrows-same : {t after : List ℕ} {g many many′ r r′ : ℕ} → ((j : ℕ) → memberOf after g j ≡ memberOf t g j) → many ≡ many′ → r ≡ r′ → ArrowsAmong t g many r → ArrowsAmong after g many′ r′
+arrows-same {t} {after} {g} {many} {many′} {r} {r′} same em er s =
+    let l = s .few in
+    record { few = omega arith; none = λ z j h. subst (λ x. x < maxStates) (sym (same j)) (s .none (omega arith) j (omega arith)) }
+
+module _ {file : List ℕ} {start len m : ℕ} {t : List ℕ} (types : m < maxTypes) where
+  pub arrow-filled : (row w result end many states arrows : ℕ) → row ≡ rowAt (rowOf m) → w ≡ word file start → result ≡ goalOf t w → result < 65536 → end ≡ endOf t result → end < 65536 → CountsMembers len many
+      → (a b c d e f : List ℕ) → a ≡ stored t (row + 0) result → b ≡ stored a (row + 1) end → c ≡ stored b (row + 4) many → FillsMembers file start many m c d
+      → StatesAmong d (rowOf m) many states → ArrowsAmong d (rowOf m) many arrows → e ≡ stored d (row + 2) states → f ≡ stored e (row + 3) arrows → FillsArrow file start len m t f
+  arrow-filled row w result end many states arrows er ew eg small ee small′ counts a b c d e f ea eb ec ms ss as′ ed ef =
+      record {
+        within = step;
+        goal-same =
+            store-other pf (rowAt g + goalCell) (λ z. omega arith) ∙ store-other pe (rowAt g + goalCell) (λ z. omega arith) ∙ ms .within .outside (rowAt g + goalCell) (λ x y. omega arith)
+            ∙ store-other pc (rowAt g + goalCell) (λ z. omega arith) ∙ store-other pb (rowAt g + goalCell) (λ z. omega arith) ∙ store-other pa (rowAt g + goalCell) (λ z. omega arith);
+        says = λ h room low.
+            let lengths = room-of room in
+            record {
+              result = λ l. front 0 (inl (omega arith)) ∙ store-other pc (rowAt g + 0) (λ z. omega arith) ∙ store-other pb (rowAt g + 0) (λ z. omega arith) ∙ store-here pa small (omega arith) ∙ eg ∙ ap (goalOf t) ew ∙ sym (old (rowOf (word file start)) goalCell (omega arith) (omega arith));
+              end = λ l.
+                  let lw : w < m = omega arith in
+                  let lg = low w lw in
+                  let er′ : result ≡ goalOf f (word file start) = eg ∙ ap (goalOf t) ew ∙ sym (old (rowOf (word file start)) goalCell (omega arith) (omega arith)) in
+                  front 1 (inl (omega arith)) ∙ store-other pc (rowAt g + 1) (λ z. omega arith) ∙ store-here pb small′ (omega arith) ∙ ee ∙ sym (old result 1 (omega arith) (omega arith)) ∙ ap (endOf f) er′;
+              many = λ x y. front 4 (inr refl) ∙ store-here pc (let q = counts .few in omega arith) (omega arith) ∙ counts .many x y;
+              member = λ x y j k l.
+                  let q = counts .many x y in
+                  kept j ∙ ms .member (omega arith) j (omega arith) l ∙ front-row (rowOf (memberIn file start j)) goalCell (omega arith) (omega arith) ∙ sym (old (rowOf (memberIn file start j)) goalCell (omega arith) (omega arith));
+              states = λ x y. states-same kept (counts .many x y) (sym (store-other pf (rowAt g + 2) (λ z. omega arith) ∙ store-here pe (ss .small) (omega arith))) ss;
+              arrows = λ x y. arrows-same kept (counts .many x y) (sym (store-here pf (let q = counts .few in let p = as′ .few in omega arith) (omega arith))) as′;
+            };
+      }
+    where
+      g : ℕ
+      g = rowOf m
+
+      pa : Put t (rowAt g + 0) result a
+      pa = record { is = ea ∙ ap (λ x. stored t (x + 0) result) er }
+
+      pb : Put a (rowAt g + 1) end b
+      pb = record { is = eb ∙ ap (λ x. stored a (x + 1) end) er }
+
+      pc : Put b (rowAt g + 4) many c
+      pc = record { is = ec ∙ ap (λ x. stored b (x + 4) many) er }
+
+      pe : Put d (rowAt g + 2) states e
+      pe = record { is = ed ∙ ap (λ x. stored d (x + 2) states) er }
+
+      pf : Put e (rowAt g + 3) arrows f
+      pf = record { is = ef ∙ ap (λ x. stored e (x + 3) arrows) er }
+
+      half : Within (rowAt g) (rowAt g + rowCells) t c
+      half = within-then (within-store pa (omega arith) (omega arith)) (within-then (within-store pb (omega arith) (omega arith)) (within-store pc (omega arith) (omega arith)))
+
+      step : Within (rowAt g) (rowAt g + rowCells) t f
+      step =
+          within-then half
+          (within-then (within-wider (rowAt g) (rowAt g + rowCells) (omega arith) (omega arith) (ms .within)) (within-then (within-store pe (omega arith) (omega arith)) (within-store pf (omega arith) (omega arith))))
+
+      room-of : Room g t → (rowAt g + rowCells ≤ length a) × (rowAt g + rowCells ≤ length b) × (rowAt g + rowCells ≤ length c) × (rowAt g + rowCells ≤ length d) × (rowAt g + rowCells ≤ length e)
+      room-of room =
+          let la = store-long pa in
+          let lb = store-long pb in
+          let lc = store-long pc in
+          let ld = ms .within .long in
+          let le = store-long pe in
+          (omega arith, omega arith, omega arith, omega arith, omega arith)
+
+      -- earlier rows
+      old : (i k : ℕ) → i < g → k < rowCells → cellOf f i k ≡ cellOf t i k
+      old i k h l = other-row step i k (omega (arith, types)) (omega (arith, types)) l (λ z. omega arith)
+
+      front-row : (i k : ℕ) → i < g → k < rowCells → cellOf c i k ≡ cellOf t i k
+      front-row i k h l = other-row half i k (omega (arith, types)) (omega (arith, types)) l (λ z. omega arith)
+
+      -- the cells before the members, and the members
+      front : (k : ℕ) → (k < 2) ⊎ (k ≡ 4) → cellOf f g k ≡ cellOf c g k
+      front k (inl x) = store-other pf (rowAt g + k) (λ z. omega arith) ∙ store-other pe (rowAt g + k) (λ z. omega arith) ∙ ms .within .outside (rowAt g + k) (λ y u. omega arith)
+      front k (inr x) = store-other pf (rowAt g + k) (λ z. omega arith) ∙ store-other pe (rowAt g + k) (λ z. omega arith) ∙ ms .within .outside (rowAt g + k) (λ y u. omega arith)
+
+      kept : (j : ℕ) → memberOf f g j ≡ memberOf d g j
+      kept j = store-other pf (rowAt g + (membersCell + j % maxMembers)) (λ z. omega arith) ∙ store-other pe (rowAt g + (membersCell + j % maxMembers)) (λ z. omega arith)
+
+-- The row of a type.
+module _ (file index : List ℕ) (m : ℕ) (types : m < maxTypes) (row start len : ℕ) (er : row ≡ rowAt (rowOf m)) (es : start ≡ getD index (typesAt + m) 0) (is : HasLength file start len) where
+  -- the length, where the payload has a header
+  len-there : 4 ≤ getD index (typesAt + m) 0 → len ≡ word file (getD index (typesAt + m) 0 - 4)
+  len-there h = is .headed (omega arith) ∙ ap (λ x. word file (x - 4)) es
+
+  pub type-state : {t : List ℕ} → len ≡ 1 → (q v : ℕ) → q ≡ byte file start → v ≡ q % maxStates → (a : List ℕ) → a ≡ stored t (row + goalCell) v → FillsType file index m t a
+  type-state {t} one q v eq ev a ea =
+      record {
+        within = within-store put (omega arith) (omega arith);
+        says = λ h room low.
+            let here : goalOf a m ≡ v = store-here put (omega arith) (omega arith) in
+            record {
+              low = omega arith;
+              state = λ k e. here ∙ ev ∙ ap (λ x. x % maxStates) (eq ∙ ap (byte file) es);
+              arrow = λ k ne. absurd (ne (sym (len-there k) ∙ one));
+            };
+      }
+    where
+      put : Put t (rowAt (rowOf m) + goalCell) v a
+      put = record { is = ea ∙ ap (λ x. stored t (x + goalCell) v) er }
+
+  pub type-arrow : {t : List ℕ} → (len ≡ 1 → ⊥) → (a f : List ℕ) → a ≡ stored t (row + goalCell) (maxStates + m) → FillsArrow file start len m a f → FillsType file index m t f
+  type-arrow {t} many a f ea fills =
+      record {
+        within = within-then first (fills .within);
+        says = λ h room low.
+            let la = store-long put in
+            let here : goalOf f m ≡ rowOf m = fills .goal-same ∙ store-here put (omega arith) (omega arith) in
+            let says = fills .says h (omega arith) (λ i k. subst (λ x. x < rowOf m) (sym (other-row first (rowOf i) goalCell (omega arith) (omega arith) (omega arith) (λ z. omega arith))) (low i k)) in
+            record {
+              low = omega arith;
+              state = λ k e. absurd (many (len-there k ∙ e));
+              arrow = λ k ne. (here, subst (λ x. ArrowSays file x (word file (getD index (typesAt + m) 0 - 4)) m f) es (subst (λ x. ArrowSays file start x m f) (len-there k) says));
+            };
+      }
+    where
+      put : Put t (rowAt (rowOf m) + goalCell) (maxStates + m) a
+      put = record { is = ea ∙ ap (λ x. stored t (x + goalCell) (maxStates + m)) er }
+
+      first : Within (rowAt (rowOf m)) (rowAt (rowOf m) + rowCells) t a
+      first = within-store put (omega arith) (omega arith)
+
+-- The rows of all types. What is so of a row stays so while the rows up to it do not change.
+module _ {i m : ℕ} (t after : List ℕ) (h : i < m) (same : (g k : ℕ) → g < rowOf m → k < rowCells → cellOf after g k ≡ cellOf t g k) (low : (w : ℕ) → w < m → goalOf t w < rowOf m) where
+  says-stays : {file : List ℕ} {start len : ℕ} → ArrowSays file start len i t → ArrowSays file start len i after
+  says-stays {file} {start} s =
+      record {
+        result = λ l. here 0 (omega arith) ∙ s .result l ∙ sym (goal (word file start) (omega arith));
+        end = λ l. here 1 (omega arith) ∙ s .end l ∙ sym (ap (endOf after) (goal (word file start) (omega arith)) ∙ same (goalOf t (word file start)) 1 (low (word file start) (omega arith)) (omega arith));
+        many = λ x y. here 4 (omega arith) ∙ s .many x y;
+        member = λ x y j k l. here (membersCell + j % maxMembers) (omega arith) ∙ s .member x y j k l ∙ sym (goal (memberIn file start j) (omega arith));
+        states = λ x y. states-same (λ j. here (membersCell + j % maxMembers) (omega arith)) refl (sym (here 2 (omega arith))) (s .states x y);
+        arrows = λ x y. arrows-same (λ j. here (membersCell + j % maxMembers) (omega arith)) refl (sym (here 3 (omega arith))) (s .arrows x y);
+      }
+    where
+      here : (k : ℕ) → k < rowCells → cellOf after (rowOf i) k ≡ cellOf t (rowOf i) k
+      here k l = same (rowOf i) k (omega arith) l
+
+      goal : (w : ℕ) → w < m → goalOf after w ≡ goalOf t w
+      goal w l = same (rowOf w) goalCell (omega arith) (omega arith)
+
+  type-stays : {file index : List ℕ} → TypeSays file index i t → TypeSays file index i after
+  type-stays s =
+      let goal = same (rowOf i) goalCell (omega arith) (omega arith) in
+      let l = s .low in
+      record {
+        low = omega arith;
+        state = λ k e. goal ∙ s .state k e;
+        arrow = λ k ne. let (g, a) = s .arrow k ne in (goal ∙ g, says-stays a);
+      }
+
+pub record TypesTo (file index : List ℕ) (types : ℕ) (before : List ℕ) (m : ℕ) (t : List ℕ) : Type 0 where
+  pub upTo : m ≤ types
+  pub few : types ≤ maxTypes
+  pub within : Within (rowAt (rowOf 0)) (rowAt (rowOf 0) + types * rowCells) before t
+  pub says : rowAt (rowOf 0) + types * rowCells ≤ length before → (i : ℕ) → i < m → TypeSays file index i t
+
+pub types-many : {file index : List ℕ} {types : ℕ} {before : List ℕ} → maxTypes < types → FillsTypes file index types before before
+types-many h = record { within = within-none; says = λ few. absurd (omega arith) }
+
+pub types-none : {file index : List ℕ} {types : ℕ} {before : List ℕ} → types ≤ maxTypes → TypesTo file index types before 0 before
+types-none few = record { upTo = omega arith; few = few; within = within-none; says = λ l i h. absurd (omega arith) }
+
+module _ {file index : List ℕ} {types : ℕ} {before : List ℕ} {m : ℕ} {t : List ℕ} (so : TypesTo file index types before m t) where
+  pub types-more : m < types → {after : List ℕ} → FillsType file index m t after → TypesTo file index types before (m + 1) after
+  types-more h {after} fills =
+      let few = so .few in
+      record {
+        upTo = omega arith;
+        few = so .few;
+        within = within-then (so .within) (within-wider (rowAt (rowOf 0)) (rowAt (rowOf 0) + types * rowCells) (omega arith) (omega arith) (fills .within));
+        says = λ l i k. at l i k (ℕ-discrete i m);
+      }
+    where
+      low : rowAt (rowOf 0) + types * rowCells ≤ length before → Low m t
+      low l i k = let b = so .says l i k .low in omega arith
+
+      same : (g k : ℕ) → g < rowOf m → k < rowCells → cellOf after g k ≡ cellOf t g k
+      same g k l r = let few = so .few in other-row (fills .within) g k (omega arith) (omega arith) r (λ z. omega arith)
+
+      at : rowAt (rowOf 0) + types * rowCells ≤ length before → (i : ℕ) → i < m + 1 → Dec (i ≡ m) → TypeSays file index i after
+      at l i k (yes z) = let few = so .few in let lt = so .within .long in subst (λ x. TypeSays file index x after) (sym z) (fills .says (omega arith) (omega arith) (low l))
+      at l i k (no z) = let y : (i ≡ m → ⊥) = z in let b : i < m = omega arith in type-stays t after b same (low l) (so .says l i b)
+
+  pub types-all : types ≤ m → FillsTypes file index types before t
+  types-all h = record { within = so .within; says = λ few l i k. so .says l i (omega arith) }

@@ -1,0 +1,9 @@
+pub mod reading
+pub mod types
+pub mod automaton
+pub mod candidates
+pub mod nodes
+pub mod table
+pub mod Frames
+pub mod Facts
+pub mod Filling

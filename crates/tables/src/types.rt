@@ -1,0 +1,182 @@
+// The rows of states, types and bindings.
+use crate::bits::with_bit;
+use crate::reading::end_of;
+use crate::reading::member_of;
+use crate::reading::row_at;
+use index::enter::store;
+use index::entries::place_at;
+use index::layout::ARROWS;
+use index::layout::BINDINGS_AT;
+use index::layout::END;
+use index::layout::GOAL;
+use index::layout::MANY;
+use index::layout::MAX_BINDINGS;
+use index::layout::MAX_STATES;
+use index::layout::MAX_TYPE;
+use index::layout::MAX_TYPES;
+use index::layout::MEMBER_STATES;
+use index::layout::MEMBERS;
+use index::layout::NONE;
+use index::layout::OWN;
+use index::layout::RESULT;
+use index::layout::ROW_CELLS;
+use index::layout::ROW_LIMIT;
+use index::layout::ROWS_AT;
+use index::layout::SYMBOL;
+use index::layout::TYPES_AT;
+use records::fields::byte_at;
+use records::fields::length_at;
+use records::fields::word_at;
+ghost use mathlib.Core.Path.{_≡_};
+ghost use Prim.Native.Nat.{_<_, _≤_};
+ghost use Rattle.index.specs.layout.Layout.{maxTypes, maxMembers};
+ghost use Rattle.tables.specs.types.Rows.{goalOf, FillsStates, CountsMembers, FillsMembers, StatesAmong, ArrowsAmong, FillsArrow, FillsType, FillsTypes, FillsBindings};
+
+// The goal that type m is.
+fn goal_of(t: &[u16], m: usize) -> usize
+    requires { ⌜ m < 65536 ⌝ }
+    ensures { λ r. ⌜ (r ≡ goalOf (now (t .entry)) m) × (r < 65536) ⌝ }
+{
+    place_at(t, ROWS_AT + (MAX_STATES + m) % ROW_LIMIT * ROW_CELLS + GOAL)
+}
+
+// Enters the rows of the states.
+pub fn fill_states(t: &mut [u16])
+    ensures { λ _. ⌜ FillsStates (now (t .entry)) (now (t .exit)) ⌝ }
+{
+    let mut q: usize = 0;
+    while q < MAX_STATES {
+        let row = row_at(q);
+        store(t, row + RESULT, NONE);
+        store(t, row + END, q);
+        store(t, row + MANY, 0);
+        q = q + 1;
+    }
+}
+
+// How many members an arrow has whose payload has a length.
+fn members_in(len: usize) -> usize
+    ensures { λ r. ⌜ CountsMembers len r ⌝ }
+{
+    if len < 2 {
+        return 0;
+    }
+    if MAX_TYPE < len {
+        return 0;
+    }
+    (len - 2) / 2
+}
+
+// Enters the members of type m, an arrow whose payload begins at a place.
+fn fill_members(file: &[u8], start: usize, many: usize, m: usize, t: &mut [u16])
+    requires { ⌜ (start < 65536) × (many ≤ maxMembers) × (m < maxTypes) ⌝ }
+    ensures { λ _. ⌜ FillsMembers (now (file .entry)) start many m (now (t .entry)) (now (t .exit)) ⌝ }
+{
+    let row = row_at(MAX_STATES + m);
+    let mut j: usize = 0;
+    while j < many {
+        let goal = goal_of(t, word_at(file, start + 2 + 2 * j));
+        store(t, row + (MEMBERS + j), goal);
+        j = j + 1;
+    }
+}
+
+// The states among the first members of a goal, as bits.
+fn states_among(t: &[u16], goal: usize, many: usize) -> usize
+    ensures { λ r. ⌜ StatesAmong (now (t .entry)) goal many r ⌝ }
+{
+    let mut states: u32 = 0;
+    let mut j: usize = 0;
+    while j < many {
+        let member = member_of(t, goal, j);
+        if member < MAX_STATES {
+            states = with_bit(states, member);
+        }
+        j = j + 1;
+    }
+    states as usize
+}
+
+// How many of the first members of a goal are arrows.
+fn arrows_among(t: &[u16], goal: usize, many: usize) -> usize
+    ensures { λ r. ⌜ ArrowsAmong (now (t .entry)) goal many r ⌝ }
+{
+    let mut arrows: usize = 0;
+    let mut j: usize = 0;
+    while j < many {
+        if MAX_STATES <= member_of(t, goal, j) {
+            arrows = arrows + 1;
+        }
+        j = j + 1;
+    }
+    arrows
+}
+
+// Enters the row of type m, an arrow whose payload begins at a place and has a length.
+fn fill_arrow(file: &[u8], start: usize, len: usize, m: usize, t: &mut [u16])
+    requires { ⌜ (start < 65536) × (m < maxTypes) ⌝ }
+    ensures { λ _. ⌜ FillsArrow (now (file .entry)) start len m (now (t .entry)) (now (t .exit)) ⌝ }
+{
+    let row = row_at(MAX_STATES + m);
+    let result = goal_of(t, word_at(file, start));
+    let end = end_of(t, result);
+    let many = members_in(len);
+    store(t, row + RESULT, result);
+    store(t, row + END, end);
+    store(t, row + MANY, many);
+    fill_members(file, start, many, m, t);
+    let states = states_among(t, MAX_STATES + m, many);
+    let arrows = arrows_among(t, MAX_STATES + m, many);
+    store(t, row + MEMBER_STATES, states);
+    store(t, row + ARROWS, arrows);
+}
+
+// Enters the row of type m.
+fn fill_type(file: &[u8], index: &[u16], m: usize, t: &mut [u16])
+    requires { ⌜ m < maxTypes ⌝ }
+    ensures { λ _. ⌜ FillsType (now (file .entry)) (now (index .entry)) m (now (t .entry)) (now (t .exit)) ⌝ }
+{
+    let row = row_at(MAX_STATES + m);
+    let start = place_at(index, TYPES_AT + m);
+    let len = length_at(file, start);
+    if len == 1 {
+        let state = byte_at(file, start) % MAX_STATES;
+        store(t, row + GOAL, state);
+        return;
+    }
+    store(t, row + GOAL, MAX_STATES + m);
+    fill_arrow(file, start, len, m, t);
+}
+
+// Enters the rows of all types.
+pub fn fill_types(file: &[u8], index: &[u16], types: usize, t: &mut [u16])
+    ensures { λ _. ⌜ FillsTypes (now (file .entry)) (now (index .entry)) types (now (t .entry)) (now (t .exit)) ⌝ }
+{
+    if MAX_TYPES < types {
+        return;
+    }
+    let mut m: usize = 0;
+    while m < types {
+        fill_type(file, index, m, t);
+        m = m + 1;
+    }
+}
+
+// Enters the rows of all bindings.
+pub fn fill_bindings(file: &[u8], index: &[u16], bindings: usize, t: &mut [u16])
+    ensures { λ _. ⌜ FillsBindings (now (file .entry)) (now (index .entry)) bindings (now (t .entry)) (now (t .exit)) ⌝ }
+{
+    if MAX_BINDINGS < bindings {
+        return;
+    }
+    let mut b: usize = 0;
+    while b < bindings {
+        let row = row_at(b);
+        let place = place_at(index, BINDINGS_AT + b);
+        let symbol = word_at(file, place);
+        let own = goal_of(t, word_at(file, place + 2));
+        store(t, row + SYMBOL, symbol);
+        store(t, row + OWN, own);
+        b = b + 1;
+    }
+}

@@ -1,0 +1,3 @@
+pub mod Goals
+pub mod Rules
+pub mod Places

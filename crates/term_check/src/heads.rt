@@ -1,0 +1,193 @@
+// The types of a head against a goal, and what is known of an argument without a check.
+use crate::notes::number_in;
+use crate::parts::outlook_in;
+use answers::Outlook;
+use index::layout::MAX_CONSTRUCTORS;
+use index::layout::MAX_STATES;
+use index::layout::NO_TARGETS;
+use index::layout::NONE;
+use index::layout::ROW_LIMIT;
+use index::layout::TEST_BASE;
+use index::layout::TEST_BINDINGS;
+use index::layout::TEST_CELLS;
+use index::layout::TEST_OWN;
+use index::layout::TEST_WORDS;
+use index::layout::WORDS_LIMIT;
+use marks::is_in;
+use tables::reading::Node;
+use tables::reading::arity_of;
+use tables::reading::arrows_of;
+use tables::reading::end_of;
+use tables::reading::many_of;
+use tables::reading::member_of;
+use tables::reading::node_of;
+use tables::reading::off;
+use tables::reading::own_of;
+use tables::reading::present_of;
+use tables::reading::result_of;
+use tables::reading::states_of;
+use tables::reading::symbol_of;
+use tables::reading::targets_of;
+ghost use mathlib.Core.Path.{_≡_};
+ghost use Prim.Native.Nat.{_/_, _^_, _≤_};
+ghost use Rattle.term_check.specs.Worlds.{caseOf, answersOf};
+ghost use Rattle.term_check.specs.heads.Heads.{IsCandidate, Matches, IsTargets, Alone, Seen, Decides};
+
+// The type of binding c, where it is a kept one of a nonterminal whose type with arrows off is the goal; else NONE.
+pub fn candidate(t: &[u16], r: &[u32], number: usize, count: usize, goal: usize, c: usize) -> usize
+    ensures { λ s. ⌜ IsCandidate (caseOf (now (t .entry)) (now (r .entry))) number count goal c s ⌝ }
+{
+    if number_in(r, TEST_BINDINGS) <= c {
+        return NONE;
+    }
+    let words = number_in(r, TEST_WORDS) % WORDS_LIMIT;
+    if !is_in(r, TEST_CELLS + goal % ROW_LIMIT * words, c) {
+        return NONE;
+    }
+    if symbol_of(t, c) != number {
+        return NONE;
+    }
+    let ty = own_of(t, c);
+    if off(t, ty, count) != goal {
+        return NONE;
+    }
+    ty
+}
+
+// Whether a goal takes targets, so many that are packed in a number, one after another to a state.
+fn matches(t: &[u16], goal: usize, targets: usize, left: usize) -> bool
+    ensures { λ r. ⌜ Matches (now (t .entry)) goal targets left r ⌝ }
+{
+    let mut g = goal;
+    let mut rest = targets;
+    let mut i = left;
+    while 0 < i {
+        if many_of(t, g) != 1 {
+            return false;
+        }
+        if member_of(t, g, 0) != rest % 16 {
+            return false;
+        }
+        g = result_of(t, g);
+        rest = rest / 16;
+        i = i - 1;
+    }
+    g < MAX_STATES
+}
+
+// The targets behind so many.
+fn behind(targets: usize, count: usize) -> usize
+    ensures { λ r. ⌜ (count ≤ 4 → r ≡ targets / 16 ^ count) ⌝ }
+{
+    if count == 0 {
+        return targets;
+    }
+    if count == 1 {
+        return targets / 16;
+    }
+    if count == 2 {
+        return targets / 256;
+    }
+    if count == 3 {
+        return targets / 4096;
+    }
+    targets / 65536
+}
+
+// The targets of the transition of a constructor whose type, with so many arrows off, is a goal; NO_TARGETS where there is none. It is
+// the one at the state in which the goal ends.
+pub fn targets_for(t: &[u16], c: usize, count: usize, goal: usize) -> usize
+    ensures { λ r. ⌜ IsTargets (now (t .entry)) c count goal r ⌝ }
+{
+    if MAX_CONSTRUCTORS <= c {
+        return NO_TARGETS;
+    }
+    let q = end_of(t, goal) % MAX_STATES;
+    let present = present_of(t, c);
+    if (present >> q) % 2 == 0 {
+        return NO_TARGETS;
+    }
+    let arity = arity_of(t, c);
+    if arity < count {
+        return NO_TARGETS;
+    }
+    let targets = targets_of(t, c, q);
+    if goal < MAX_STATES {
+        if arity == count {
+            return targets;
+        }
+    }
+    if !matches(t, goal, behind(targets, count), arity - count) {
+        return NO_TARGETS;
+    }
+    targets
+}
+
+// What is known of a parameter that stands alone and a state: 2 that it has it, 1 that it lacks it; 0 of another term or goal.
+pub fn alone(t: &[u16], r: &[u32], node: Node, goal: usize) -> usize
+    ensures { λ s. ⌜ Alone (caseOf (now (t .entry)) (now (r .entry))) node goal s ⌝ }
+{
+    if node.tag != 2 {
+        return 0;
+    }
+    if node.count != 0 {
+        return 0;
+    }
+    if MAX_STATES <= goal {
+        return 0;
+    }
+    let given = off(t, number_in(r, TEST_OWN), node.number);
+    if given == NONE {
+        return 0;
+    }
+    if given < MAX_STATES {
+        return 0;
+    }
+    let had = states_of(t, given);
+    if (had >> goal) % 2 == 0 {
+        return 1;
+    }
+    2
+}
+
+// The states that the term at a node is known to have, and those that it is known to lack: of a parameter that stands alone all are known.
+fn look(t: &[u16], r: &[u32], w: &[u32], at: usize) -> Outlook
+    ensures { λ s. ⌜ Seen (caseOf (now (t .entry)) (now (r .entry))) (answersOf (now (r .entry)) (now (w .entry))) at s ⌝ }
+{
+    let node = node_of(t, number_in(r, TEST_BASE), at);
+    if node.tag == 2 {
+        if node.count == 0 {
+            let given = off(t, number_in(r, TEST_OWN), node.number);
+            if given == NONE {
+                return Outlook { had: 0, lacked: 0 };
+            }
+            if given < MAX_STATES {
+                return Outlook { had: 0, lacked: 0 };
+            }
+            let had = states_of(t, given) as u32;
+            return Outlook {
+                had,
+                lacked: 65535 - had,
+            };
+        }
+    }
+    outlook_in(r, w, node.closed, at)
+}
+
+// What is known of the term at a node and the members of an arrow: 2 that it has them all, 1 that it lacks one, else 0.
+pub fn decided(t: &[u16], r: &[u32], w: &[u32], at: usize, ty: usize) -> usize
+    ensures { λ s. ⌜ Decides (caseOf (now (t .entry)) (now (r .entry))) (answersOf (now (r .entry)) (now (w .entry))) at ty s ⌝ }
+{
+    let states = states_of(t, ty) as u32;
+    let known = look(t, r, w, at);
+    if states & known.lacked != 0 {
+        return 1;
+    }
+    if arrows_of(t, ty) != 0 {
+        return 0;
+    }
+    if states - (states & known.had) != 0 {
+        return 0;
+    }
+    2
+}

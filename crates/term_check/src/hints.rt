@@ -1,0 +1,64 @@
+// Which binding served last, for a node and a goal, and for a nonterminal and a goal. Nothing is promised of a hint.
+use crate::notes::number_in;
+use crate::parts::from_of;
+use index::layout::HEAD_HINTS_AT;
+use index::layout::HINT_STRIDE;
+use index::layout::HINTS;
+use index::layout::MAX_BINDINGS;
+use index::layout::MAX_NODES;
+use index::layout::MAX_STATES;
+use index::layout::NODE_CELLS;
+use index::layout::NONE;
+use index::layout::PLACE_LIMIT;
+use index::layout::ROW_LIMIT;
+use index::layout::TEST_BASE;
+ghost use mathlib.Core.Path.{_≡_};
+ghost use Prim.Native.Nat.{_<_};
+ghost use lib.ListN.{length};
+ghost use Rattle.index.specs.layout.Layout.{hintCells};
+ghost use Rattle.term_check.specs.Worlds.{answersOf, usersOf};
+
+// The hint for a node and a goal: in the lower half of the table.
+fn node_place(r: &[u32], at: usize, goal: usize) -> usize
+    ensures { λ i. ⌜ i < hintCells ⌝ }
+{
+    let node = (number_in(r, TEST_BASE) + at % MAX_NODES * NODE_CELLS) % PLACE_LIMIT;
+    (node * MAX_STATES + goal % ROW_LIMIT) % HEAD_HINTS_AT
+}
+
+// The hint for a nonterminal and a goal: in the upper half.
+fn head_place(number: usize, goal: usize) -> usize
+    ensures { λ i. ⌜ i < hintCells ⌝ }
+{
+    HEAD_HINTS_AT + (number % ROW_LIMIT * HINT_STRIDE + goal % ROW_LIMIT) % HEAD_HINTS_AT
+}
+
+// The binding that served last for a node and a goal; NONE where there is no table of hints.
+pub fn node_hint(r: &[u32], w: &[u32], at: usize, goal: usize) -> usize {
+    if from_of(r, w) < HINTS {
+        return NONE;
+    }
+    number_in(w, node_place(r, at, goal))
+}
+
+// The binding that served last for a nonterminal and a goal, at any node.
+pub fn head_hint(r: &[u32], w: &[u32], number: usize, goal: usize) -> usize {
+    if from_of(r, w) < HINTS {
+        return NONE;
+    }
+    number_in(w, head_place(number, goal))
+}
+
+// Enters the binding that served, where there is a table of hints.
+pub fn hint_in(r: &[u32], w: &mut [u32], at: usize, number: usize, goal: usize, c: usize)
+    ensures { λ _. ⌜ (length (now (w .exit)) ≡ length (now (w .entry))) × (answersOf (now (r .entry)) (now (w .exit)) ≡ answersOf (now (r .entry)) (now (w .entry))) × (usersOf (now (r .entry)) (now (w .exit)) ≡ usersOf (now (r .entry)) (now (w .entry))) ⌝ }
+{
+    if from_of(r, w) < HINTS {
+        return;
+    }
+    let head = head_place(number, goal);
+    let node = node_place(r, at, goal);
+    let served = (c % MAX_BINDINGS) as u32;
+    w[head] = served;
+    w[node] = served;
+}

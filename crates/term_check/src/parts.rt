@@ -1,0 +1,79 @@
+// What a check writes: hints first, then the users of bindings, then the answers. Where users and answers begin are numbers of the test.
+use crate::notes::note;
+use crate::notes::number_in;
+use crate::notes::stamp_of;
+use answers::Outlook;
+use answers::learn;
+use answers::outlook_of;
+use answers::recall;
+use index::layout::TEST_ANSWERS;
+use index::layout::TEST_USERS;
+use index::layout::TEST_WIDE;
+ghost use mathlib.Core.Path.{_≡_};
+ghost use Prim.Native.Nat.{_≤_};
+ghost use lib.ListN.{length};
+ghost use Rattle.answers.specs.Answers.{Recalls, Looks, Learns};
+ghost use Rattle.term_check.specs.notes.Notes.{wideIn, stampOf, Notes};
+ghost use Rattle.term_check.specs.Worlds.{splitAt, fromIn, answersOf, usersOf};
+
+// Where the answers begin.
+pub fn split_of(r: &[u32], w: &[u32]) -> usize
+    ensures { λ s. ⌜ (s ≡ splitAt (now (r .entry)) (now (w .entry))) × (s ≤ length (now (w .entry))) ⌝ }
+{
+    let split = number_in(r, TEST_ANSWERS);
+    if w.len() < split {
+        return w.len();
+    }
+    split
+}
+
+// Where the users begin.
+pub fn from_of(r: &[u32], w: &[u32]) -> usize
+    ensures { λ s. ⌜ (s ≡ fromIn (now (r .entry)) (now (w .entry))) × (s ≤ length (now (w .entry))) ⌝ }
+{
+    let split = split_of(r, w);
+    let from = number_in(r, TEST_USERS);
+    if split < from {
+        return split;
+    }
+    from
+}
+
+// What is remembered of a node and a goal: 0 nothing, 1 that it lacks it, 2 that it has it.
+pub fn recall_in(r: &[u32], w: &[u32], closed: bool, at: usize, goal: usize) -> usize
+    ensures { λ s. ⌜ Recalls (answersOf (now (r .entry)) (now (w .entry))) (wideIn (now (r .entry))) (stampOf (now (r .entry)) closed) at goal s ⌝ }
+{
+    let split = split_of(r, w);
+    let wide = number_in(r, TEST_WIDE);
+    let stamp = stamp_of(r, closed);
+    recall(&w[split..], wide, stamp, at, goal)
+}
+
+// What is remembered of a node and the states.
+pub fn outlook_in(r: &[u32], w: &[u32], closed: bool, at: usize) -> Outlook
+    ensures { λ s. ⌜ Looks (answersOf (now (r .entry)) (now (w .entry))) (wideIn (now (r .entry))) (stampOf (now (r .entry)) closed) at s ⌝ }
+{
+    let split = split_of(r, w);
+    let wide = number_in(r, TEST_WIDE);
+    let stamp = stamp_of(r, closed);
+    outlook_of(&w[split..], wide, stamp, at)
+}
+
+// Remembers an answer.
+pub fn learn_in(r: &[u32], w: &mut [u32], closed: bool, at: usize, goal: usize, yes: bool)
+    ensures { λ _. ⌜ (length (now (w .exit)) ≡ length (now (w .entry))) × (usersOf (now (r .entry)) (now (w .exit)) ≡ usersOf (now (r .entry)) (now (w .entry))) × Learns (answersOf (now (r .entry)) (now (w .entry))) (wideIn (now (r .entry))) (stampOf (now (r .entry)) closed) at goal yes (answersOf (now (r .entry)) (now (w .exit))) ⌝ }
+{
+    let split = split_of(r, w);
+    let wide = number_in(r, TEST_WIDE);
+    let stamp = stamp_of(r, closed);
+    learn(&mut w[split..], wide, stamp, at, goal, yes);
+}
+
+// Notes that a kept binding served at a node.
+pub fn note_in(r: &[u32], w: &mut [u32], closed: bool, c: usize)
+    ensures { λ _. ⌜ (length (now (w .exit)) ≡ length (now (w .entry))) × (answersOf (now (r .entry)) (now (w .exit)) ≡ answersOf (now (r .entry)) (now (w .entry))) × Notes (usersOf (now (r .entry)) (now (w .entry))) (now (r .entry)) closed c (usersOf (now (r .entry)) (now (w .exit))) ⌝ }
+{
+    let split = split_of(r, w);
+    let from = from_of(r, w);
+    note(&mut w[from..split], r, closed, c);
+}
