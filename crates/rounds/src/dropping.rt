@@ -1,11 +1,11 @@
 // Bindings that failed are dropped, and those that they served are marked for the next round.
+use crate::tested::Course;
 use crate::tested::Sizes;
 use index::layout::MAX_BINDINGS;
 use index::layout::ROW_LIMIT;
 use index::layout::TEST_CELLS;
 use index::layout::WORD;
 use marks::next_in;
-use marks::word_in;
 use tables::candidates::leave_sets;
 use term_check::parts::from_of;
 use term_check::parts::split_of;
@@ -23,12 +23,18 @@ ghost use Rattle.rounds.specs.dropping.Dropping.{Joins, Drops, DropsAll}
 fn join(words: &[u32], at: usize, n: usize, into: &mut [u32])
     ensures { λ _. ⌜ Joins (now (words .entry)) at n (now (into .entry)) (now (into .exit)) ⌝ }
 {
+    if into.len() < n {
+        return;
+    }
+    if words.len() < at {
+        return;
+    }
+    if words.len() - at < n {
+        return;
+    }
     let mut k: usize = 0;
     while k < n {
-        if into.len() <= k {
-            return;
-        }
-        into[k] = into[k] | word_in(words, at, k);
+        into[k] = into[k] | words[at + k];
         k = k + 1;
     }
 }
@@ -79,7 +85,7 @@ fn drop_binding(
     leave(t, b, words, r);
 }
 
-// Drops all that failed.
+// Drops all that failed, which are from the least of a course on and before its past.
 pub fn drop_failed(
     t: &[u16],
     w: &[u32],
@@ -88,13 +94,13 @@ pub fn drop_failed(
     r: &mut [u32],
     flags: &mut [u8],
     todo: &mut [u32],
+    n: Course,
 )
-    ensures { λ _. ⌜ Placed (now (r .entry)) (now (r .exit)) × ((firsts : List ℕ) → DropsAll (now (t .entry)) firsts (usersOf (now (r .entry)) (now (w .entry))) sizes (now (failed .entry)) (drop testCells (now (r .entry))) (now (flags .entry)) (now (todo .entry)) (drop testCells (now (r .exit))) (now (flags .exit)) (now (todo .exit))) ⌝ }
+    ensures { λ _. ⌜ Placed (now (r .entry)) (now (r .exit)) × ((firsts : List ℕ) → DropsAll (now (t .entry)) firsts (usersOf (now (r .entry)) (now (w .entry))) sizes (now (failed .entry)) (drop testCells (now (r .entry))) (now (flags .entry)) (now (todo .entry)) (n .least) (n .past) (drop testCells (now (r .exit))) (now (flags .exit)) (now (todo .exit))) ⌝ }
 {
-    let total = sizes.bindings % ROW_LIMIT;
-    let mut b = next_in(failed, 0, 0, total);
-    while b < total {
+    let mut b = next_in(failed, 0, n.least, n.past);
+    while b < n.past {
         drop_binding(t, w, sizes, r, flags, todo, b);
-        b = next_in(failed, 0, b + 1, total);
+        b = next_in(failed, 0, b + 1, n.past);
     }
 }

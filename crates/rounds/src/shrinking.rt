@@ -1,10 +1,10 @@
 // Shrinking by rounds: each round tests the bindings that rest on one that the round before dropped, against the set as the round
 // began, and drops those that fail; the rounds end with one that drops nothing.
 use crate::dropping::drop_failed;
+use crate::tested::Course;
 use crate::tested::Sizes;
 use crate::tested::retest;
 use index::layout::BINDING_WORDS;
-use index::layout::MAX_BINDINGS;
 use index::layout::ROW_LIMIT;
 use marks::next_in;
 use records::fields::byte_at;
@@ -23,7 +23,7 @@ pub struct Ended {
     pub rounds: usize,
 }
 
-// Tests all bindings that are marked and kept, and marks those that fail. The number of the last test is returned.
+// Tests all bindings that are marked and kept, and marks those that fail. The course of the turn is returned.
 fn turn(
     t: &[u16],
     firsts: &[u16],
@@ -34,17 +34,21 @@ fn turn(
     w: &mut [u32],
     failed: &mut [u32],
     last: u32,
-) -> u32
+) -> Course
     ensures { λ n. ⌜ (length (now (w .exit)) ≡ length (now (w .entry))) × Same (now (r .entry)) (now (r .exit)) × Turns (now (t .entry)) (drop testCells (now (r .entry))) (now (firsts .entry)) sizes (now (flags .entry)) (now (todo .entry)) (answersOf (now (r .entry)) (now (w .entry))) (usersOf (now (r .entry)) (now (w .entry))) (now (failed .entry)) last (answersOf (now (r .entry)) (now (w .exit))) (usersOf (now (r .entry)) (now (w .exit))) (now (failed .exit)) n ⌝ }
 {
     let total = sizes.bindings % ROW_LIMIT;
-    let mut stamp = last;
+    let mut n = Course {
+        last,
+        least: 0,
+        past: 0,
+    };
     let mut b = next_in(todo, 0, 0, total);
     while b < total {
-        stamp = retest(t, firsts, sizes, flags, r, w, failed, stamp, b);
+        n = retest(t, firsts, sizes, flags, r, w, failed, n, b);
         b = next_in(todo, 0, b + 1, total);
     }
-    stamp
+    n
 }
 
 // Sets the first n flags to 1.
@@ -104,16 +108,16 @@ pub fn shrink(
     let mut last: u32 = 0;
     while rounds <= total {
         let mut failed = [0u32; BINDING_WORDS];
-        last = turn(t, firsts, sizes, flags, &todo, r, w, &mut failed, last);
-        let first = next_in(&failed, 0, 0, total);
-        if total <= first {
+        let n = turn(t, firsts, sizes, flags, &todo, r, w, &mut failed, last);
+        if n.past == 0 {
             return Ended {
                 kept: count_kept(flags, total),
                 rounds,
             };
         }
+        last = n.last;
         todo = [0u32; BINDING_WORDS];
-        drop_failed(t, w, sizes, &failed, r, flags, &mut todo);
+        drop_failed(t, w, sizes, &failed, r, flags, &mut todo, n);
         rounds = rounds + 1;
     }
     Ended { kept: 0, rounds }

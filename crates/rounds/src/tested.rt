@@ -21,13 +21,20 @@ ghost use Prim.Native.Nat.{_≤_};
 ghost use lib.ListN.{length, drop};
 ghost use Rattle.index.specs.layout.Layout.{testUsers, testCells};
 ghost use Rattle.term_check.specs.Worlds.{answersOf, usersOf};
-ghost use Rattle.rounds.specs.tested.Tested.{Same, Writes, Clears, Freshens, TestsBinding, Retests};
+ghost use Rattle.rounds.specs.tested.Tested.{Same, Writes, Clears, Freshens, Fails, TestsBinding, Retests};
 
 // The sizes of a case: where the nodes begin in the flat table, how many goals and how many bindings there are.
 pub struct Sizes {
     pub nodes: usize,
     pub goals: usize,
     pub bindings: usize,
+}
+
+// The course of a turn: the number of the last test, the least binding that failed, and one more than the greatest or 0.
+pub struct Course {
+    pub last: u32,
+    pub least: usize,
+    pub past: usize,
 }
 
 // Sets all words to 0.
@@ -104,7 +111,26 @@ fn holds(
     check_term(t, r, w, 0, goal)
 }
 
-// Tests binding b where its flag says kept, and marks it where it fails. The number of the last test is returned.
+// The course after binding b failed in the last test, and is greater than those that failed before.
+fn with_failed(n: Course, last: u32, b: usize) -> Course
+    ensures { λ r. ⌜ Fails n last b r ⌝ }
+{
+    let past = b % ROW_LIMIT + 1;
+    if n.past == 0 {
+        return Course {
+            last,
+            least: b,
+            past,
+        };
+    }
+    Course {
+        last,
+        least: n.least,
+        past,
+    }
+}
+
+// Tests binding b where its flag says kept, and marks it where it fails. The course after the test is returned.
 pub fn retest(
     t: &[u16],
     firsts: &[u16],
@@ -113,18 +139,22 @@ pub fn retest(
     r: &mut [u32],
     w: &mut [u32],
     failed: &mut [u32],
-    last: u32,
+    n: Course,
     b: usize,
-) -> u32
-    ensures { λ n. ⌜ (length (now (w .exit)) ≡ length (now (w .entry))) × Same (now (r .entry)) (now (r .exit)) × (length (now (failed .exit)) ≡ length (now (failed .entry))) × Retests (now (t .entry)) (drop testCells (now (r .entry))) (now (firsts .entry)) sizes (now (flags .entry)) (answersOf (now (r .entry)) (now (w .entry))) (usersOf (now (r .entry)) (now (w .entry))) (now (failed .entry)) last b (answersOf (now (r .entry)) (now (w .exit))) (usersOf (now (r .entry)) (now (w .exit))) (now (failed .exit)) n ⌝ }
+) -> Course
+    ensures { λ a. ⌜ (length (now (w .exit)) ≡ length (now (w .entry))) × Same (now (r .entry)) (now (r .exit)) × (length (now (failed .exit)) ≡ length (now (failed .entry))) × Retests (now (t .entry)) (drop testCells (now (r .entry))) (now (firsts .entry)) sizes (now (flags .entry)) (answersOf (now (r .entry)) (now (w .entry))) (usersOf (now (r .entry)) (now (w .entry))) (now (failed .entry)) n b (answersOf (now (r .entry)) (now (w .exit))) (usersOf (now (r .entry)) (now (w .exit))) (now (failed .exit)) a ⌝ }
 {
     if byte_at(flags, b) == 0 {
-        return last;
+        return n;
     }
-    let stamp = freshen(r, w, last);
+    let stamp = freshen(r, w, n.last);
     if holds(t, firsts, sizes, r, w, stamp, b) {
-        return stamp;
+        return Course {
+            last: stamp,
+            least: n.least,
+            past: n.past,
+        };
     }
     put_in(failed, 0, b);
-    stamp
+    with_failed(n, stamp, b)
 }

@@ -13,10 +13,10 @@ use Rattle.index.specs.layout.Layout.{maxBindings, maxBindingWords, rowLimit}
 use Rattle.marks.specs.Marks.{In, FindsNext}
 use Rattle.tables.specs.Facts.{CandidatesAre}
 use Rattle.tables.specs.Filling.{wordsFor, LeavesSets}
-use Rattle.rounds.specs.Resting.{total, Frame, Noted}
+use Rattle.term_check.proofs.check.Keeping.{in-more}
+use Rattle.rounds.specs.Resting.{total, Frame, Noted, Room}
 use Rattle.rounds.specs.dropping.Dropping.{Joins, Drops, DropsAll}
 use Rattle.rounds.specs.declared.tested.Sizes.{Sizes}
-use Rattle.rounds.proofs.dropping.Joining.{grows-in}
 
 -- a store past the end changes nothing
 pub set-past : (l : List ℕ) (i : ℕ) → length l ≤ i → set l i 0 ≡ l
@@ -57,56 +57,56 @@ module _ (t firsts users : List ℕ) (sizes : Sizes) where
             let w = words-are f in
             subst (λ x. CandidatesAre rs x sets′ (wordsFor rs)) (sym e)
             (subst (CandidatesAre rs (set flags b 0) sets′) w (l .left rs flags (f .table .types) (f .table .bindings) h k w (subst (CandidatesAre rs flags sets) (sym w) cs)));
-        marked = λ rs f h room d k i.
+        marked = λ rs f room h long d k i.
             let n = total-is f in
+            let w = words-are f in
             let few = f .few-bindings in
             let own : b % maxBindings ≡ b = omega arith in
-            let place : b * wordsFor rs ≡ b % maxBindings * ((sizes .bindings % rowLimit + 31) / 32) = ap₂ _*_ (sym own) (sym (words-are f)) in
-            j .joined d (omega arith) (omega arith) (subst (λ x. In users x d) place i);
+            let place : b * wordsFor rs ≡ b % maxBindings * ((sizes .bindings % rowLimit + 31) / 32) = ap₂ _*_ (sym own) (sym w) in
+            let columns : (b + 1) * wordsFor rs ≤ total rs * wordsFor rs = mul-le-mul {n₁ = b + 1} {m₁ = wordsFor rs} {n₂ = total rs} {m₂ = wordsFor rs} (omega arith) (omega arith) in
+            let column : (b + 1) * wordsFor rs ≡ b * wordsFor rs + wordsFor rs = omega arith in
+            j .joined d (omega arith) (omega arith) (omega arith) (subst (λ x. In users x d) place i);
       }
 
   -- all that failed below b are dropped
-  pub record Dropped (failed sets flags todo sets′ flags′ todo′ : List ℕ) (b : ℕ) : Type 0 where
+  pub record Dropped (failed sets flags todo : List ℕ) (least past : ℕ) (sets′ flags′ todo′ : List ℕ) (b : ℕ) : Type 0 where
     pub sets-long : length sets′ ≡ length sets
     pub flags-long : length flags′ ≡ length flags
     pub todo-long : length todo′ ≡ length todo
-    pub gone : (rs : List Record) → Frame rs t firsts sizes → total rs ≤ length flags → (c : ℕ) → c < b → c < total rs → In failed 0 c → getD flags′ c 0 ≡ 0
-    pub others : (rs : List Record) → Frame rs t firsts sizes → (c : ℕ) → (c < total rs → In failed 0 c → ⊥) → getD flags′ c 0 ≡ getD flags c 0
-    pub candidates : (rs : List Record) → Frame rs t firsts sizes → total rs ≤ length flags → CandidatesAre rs flags sets (wordsFor rs) → CandidatesAre rs flags′ sets′ (wordsFor rs)
-    pub marked : (rs : List Record) → Frame rs t firsts sizes → maxBindingWords ≤ length todo → (c d : ℕ) → c < b → c < total rs → d < total rs → In failed 0 c → Noted rs users d c → In todo′ 0 d
+    pub gone : (rs : List Record) → Frame rs t firsts sizes → past ≤ total rs → total rs ≤ length flags → (c : ℕ) → c < b → least ≤ c → c < past → In failed 0 c → getD flags′ c 0 ≡ 0
+    pub others : (c : ℕ) → (In failed 0 c → ⊥) → getD flags′ c 0 ≡ getD flags c 0
+    pub candidates : (rs : List Record) → Frame rs t firsts sizes → past ≤ total rs → total rs ≤ length flags → CandidatesAre rs flags sets (wordsFor rs) → CandidatesAre rs flags′ sets′ (wordsFor rs)
+    pub marked : (rs : List Record) → Frame rs t firsts sizes → Room rs users → past ≤ total rs → maxBindingWords ≤ length todo → (c d : ℕ) → c < b → least ≤ c → c < past → d < total rs → In failed 0 c → Noted rs users d c → In todo′ 0 d
 
-  module _ (failed sets flags todo : List ℕ) where
-    pub dropped-none : (end r : ℕ) → FindsNext failed 0 0 end r → Dropped failed sets flags todo sets flags todo r
-    dropped-none end r n =
+  module _ (failed sets flags todo : List ℕ) (least past : ℕ) where
+    pub dropped-none : (r : ℕ) → FindsNext failed 0 least past r → Dropped failed sets flags todo least past sets flags todo r
+    dropped-none r n =
         record {
           sets-long = refl;
           flags-long = refl;
           todo-long = refl;
-          gone = λ rs f room c l h i. absurd (n .passed c (omega arith) l i);
-          others = λ rs f c d. refl;
-          candidates = λ rs f room cs. cs;
-          marked = λ rs f room c d l h k i m. absurd (n .passed c (omega arith) l i);
+          gone = λ rs f all room c l a h i. absurd (n .passed c a l i);
+          others = λ c d. refl;
+          candidates = λ rs f all room cs. cs;
+          marked = λ rs f ro all room c d l a h k i m. absurd (n .passed c a l i);
         }
 
-    module _ (sets′ flags′ todo′ : List ℕ) (b : ℕ) (w : Dropped failed sets flags todo sets′ flags′ todo′ b) where
-      pub dropped-more : b < sizes .bindings % rowLimit → In failed 0 b → (sets″ flags″ todo″ : List ℕ) → Drops t firsts users sizes b sets′ flags′ todo′ sets″ flags″ todo″ → (end r : ℕ) → FindsNext failed 0 (b + 1) end r
-          → Dropped failed sets flags todo sets″ flags″ todo″ r
-      dropped-more h here sets″ flags″ todo″ o end r n =
+    module _ (sets′ flags′ todo′ : List ℕ) (b : ℕ) (w : Dropped failed sets flags todo least past sets′ flags′ todo′ b) where
+      pub dropped-more : b < past → In failed 0 b → (sets″ flags″ todo″ : List ℕ) → Drops t firsts users sizes b sets′ flags′ todo′ sets″ flags″ todo″ → (r : ℕ) → FindsNext failed 0 (b + 1) past r
+          → Dropped failed sets flags todo least past sets″ flags″ todo″ r
+      dropped-more h here sets″ flags″ todo″ o r n =
           record {
             sets-long = o .sets-long ∙ w .sets-long;
             flags-long = o .flags-long ∙ w .flags-long;
             todo-long = o .todo-long ∙ w .todo-long;
-            gone = λ rs f room c l k i. gone-at rs f room c l k i (ℕ-discrete c b);
-            others = λ rs f c d. o .others c (λ e. d (let x = below f in omega arith) (subst (In failed 0) (sym e) here)) ∙ w .others rs f c d;
-            candidates = λ rs f room cs. o .candidates rs f (below f) (inside rs f room) (w .candidates rs f room cs);
-            marked = λ rs f room c d l k m i u. marked-at rs f room c d l k m i u (ℕ-discrete c b);
+            gone = λ rs f all room c l a k i. gone-at rs f all room c l a k i (ℕ-discrete c b);
+            others = λ c d. o .others c (λ e. d (subst (In failed 0) (sym e) here)) ∙ w .others c d;
+            candidates = λ rs f all room cs. o .candidates rs f (omega arith) (inside rs all room) (w .candidates rs f all room cs);
+            marked = λ rs f ro all room c d l a k m i u. marked-at rs f ro all room c d l a k m i u (ℕ-discrete c b);
           }
         where
-          below : {rs : List Record} → Frame rs t firsts sizes → b < total rs
-          below f = let e = total-is f in omega arith
-
-          inside : (rs : List Record) → Frame rs t firsts sizes → total rs ≤ length flags → b < length flags′
-          inside rs f room = let x = below f in let s = w .flags-long in omega arith
+          inside : (rs : List Record) → past ≤ total rs → total rs ≤ length flags → b < length flags′
+          inside rs all room = let s = w .flags-long in omega arith
 
           passed : (c : ℕ) → c < r → (c ≡ b → ⊥) → In failed 0 c → c < b
           passed c l d i = go (decLt c b)
@@ -115,22 +115,22 @@ module _ (t firsts users : List ℕ) (sizes : Sizes) where
               go (yes x) = x
               go (no x) = absurd (n .passed c (let y = d in omega arith) l i)
 
-          gone-at : (rs : List Record) → Frame rs t firsts sizes → total rs ≤ length flags → (c : ℕ) → c < r → c < total rs → In failed 0 c → Dec (c ≡ b) → getD flags″ c 0 ≡ 0
-          gone-at rs f room c l k i (yes e) = ap (λ x. getD flags″ x 0) e ∙ o .gone (inside rs f room)
-          gone-at rs f room c l k i (no d) = o .others c d ∙ w .gone rs f room c (passed c l d i) k i
+          gone-at : (rs : List Record) → Frame rs t firsts sizes → past ≤ total rs → total rs ≤ length flags → (c : ℕ) → c < r → least ≤ c → c < past → In failed 0 c → Dec (c ≡ b) → getD flags″ c 0 ≡ 0
+          gone-at rs f all room c l a k i (yes e) = ap (λ x. getD flags″ x 0) e ∙ o .gone (inside rs all room)
+          gone-at rs f all room c l a k i (no d) = o .others c d ∙ w .gone rs f all room c (passed c l d i) a k i
 
-          marked-at : (rs : List Record) → Frame rs t firsts sizes → maxBindingWords ≤ length todo → (c d : ℕ) → c < r → c < total rs → d < total rs → In failed 0 c → Noted rs users d c → Dec (c ≡ b) → In todo″ 0 d
-          marked-at rs f room c d l k m i u (yes e) = o .marked rs f (below f) (let s = w .todo-long in omega arith) d m (subst (Noted rs users d) e u)
-          marked-at rs f room c d l k m i u (no x) = grows-in todo′ todo″ 0 d (o .grows) (w .marked rs f room c d (passed c l x i) k m i u)
+          marked-at : (rs : List Record) → Frame rs t firsts sizes → Room rs users → past ≤ total rs → maxBindingWords ≤ length todo → (c d : ℕ) → c < r → least ≤ c → c < past → d < total rs → In failed 0 c → Noted rs users d c → Dec (c ≡ b) → In todo″ 0 d
+          marked-at rs f ro all room c d l a k m i u (yes e) = o .marked rs f ro (omega arith) (let s = w .todo-long in omega arith) d m (subst (Noted rs users d) e u)
+          marked-at rs f ro all room c d l a k m i u (no x) = in-more todo′ todo″ (o .grows) 0 d (w .marked rs f ro all room c d (passed c l x i) a k m i u)
 
-      pub dropped-all : sizes .bindings % rowLimit ≤ b → DropsAll t firsts users sizes failed sets flags todo sets′ flags′ todo′
+      pub dropped-all : past ≤ b → DropsAll t firsts users sizes failed sets flags todo least past sets′ flags′ todo′
       dropped-all h =
           record {
             sets-long = w .sets-long;
             flags-long = w .flags-long;
             todo-long = w .todo-long;
-            gone = λ rs f room c k i. w .gone rs f room c (let e = total-is f in omega arith) k i;
+            gone = λ rs f all room c a k i. w .gone rs f all room c (omega arith) a k i;
             others = w .others;
             candidates = w .candidates;
-            marked = λ rs f room c d k m i u. w .marked rs f room c d (let e = total-is f in omega arith) k m i u;
+            marked = λ rs f ro all room c d a k m i u. w .marked rs f ro all room c d (omega arith) a k m i u;
           }

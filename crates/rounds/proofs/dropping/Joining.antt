@@ -10,6 +10,7 @@ use lib.Seq.{getD-set-same}
 use Rattle.marks.specs.Marks.{bitOf, In}
 use Rattle.marks.proofs.Bits.{bit-small, or-bit}
 use Rattle.marks.proofs.Sets.{stored}
+use Rattle.term_check.proofs.check.Keeping.{in-more}
 use Rattle.rounds.specs.tested.Tested.{Grows}
 use Rattle.rounds.specs.dropping.Dropping.{Joins}
 
@@ -18,10 +19,6 @@ or-first k a b e = let o = or-bit k a b in let s = bit-small k b in omega arith
 
 or-second : (k a b : ℕ) → bitOf k b ≡ 1 → bitOf k (bitOr a b) ≡ 1
 or-second k a b e = let o = or-bit k a b in let s = bit-small k a in omega arith
-
--- a set that grew has what it had
-pub grows-in : (l l′ : List ℕ) (at m : ℕ) → Grows l l′ → In l at m → In l′ at m
-grows-in l l′ at m g i = g (at + m / 32) (m % 32) (omega arith) i
 
 -- the first k words are joined
 pub record Joined (words : List ℕ) (at : ℕ) (into after : List ℕ) (k : ℕ) : Type 0 where
@@ -49,7 +46,7 @@ module _ (words : List ℕ) (at : ℕ) (into : List ℕ) where
         more i b l = stored (λ j x. (c : ℕ) → bitOf c (getD now j 0) ≡ 1 → bitOf c x ≡ 1) now k v h (λ c s. or-first c (getD now k 0) word s) (λ j c s. s) i b
 
         go : (m : ℕ) → m < (k + 1) * 32 → In words at m → Dec (m < k * 32) → In (set now k v) 0 m
-        go m l i (yes b) = grows-in now (set now k v) 0 m more (w .joined m b i)
+        go m l i (yes b) = in-more now (set now k v) more 0 m (w .joined m b i)
         go m l i (no b) =
             let here : m / 32 ≡ k = omega arith in
             let place : 0 + m / 32 ≡ k = omega arith in
@@ -57,8 +54,8 @@ module _ (words : List ℕ) (at : ℕ) (into : List ℕ) where
             ap (λ x. bitOf (m % 32) (getD (set now k v) x 0)) place ∙ ap (bitOf (m % 32)) (getD-set-same now k v 0 h) ∙ or-second (m % 32) (getD now k 0) word bit
 
     pub joined-all : (n : ℕ) → n ≤ k → Joins words at n into now
-    joined-all n h = record { long = w .long; grows = w .grows; joined = λ m l room i. w .joined m (omega arith) i }
+    joined-all n h = record { long = w .long; grows = w .grows; joined = λ m l room there i. w .joined m (omega arith) i }
 
-    -- there is no room for all words
-    pub joined-not : (n : ℕ) → length now ≤ k → k < n → Joins words at n into now
-    joined-not n h l = record { long = w .long; grows = w .grows; joined = λ m b room i. absurd (let s = w .long in omega arith) }
+  -- there is no room for all words, or there are not so many
+  pub joined-not : (n : ℕ) → (n ≤ length into → at + n ≤ length words → ⊥) → Joins words at n into into
+  joined-not n h = record { long = refl; grows = λ i k l e. e; joined = λ m b room there i. absurd (h room there) }

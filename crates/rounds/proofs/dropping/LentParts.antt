@@ -1,5 +1,5 @@
 -- A binding that leaves the sets of candidates, and words joined from the users, where these are parts of what is read and written.
-use Prim.Native.Nat.{ℕ, zero, suc, _+_, _*_, _-_, _/_, _%_, _<_, _≤_}
+use Prim.Native.Nat.{ℕ, _+_, _*_, _-_, _/_, _%_, _<_, _≤_}
 use native.Mathlib.Omega.{arith}
 use native.Mathlib.Decide.{ℕ-discrete}
 use mathlib.Core.Path.{_≡_, refl, sym, ap, subst, _∙_}
@@ -67,7 +67,7 @@ pub drops-from : (r₀ r w t firsts : List ℕ) (sizes : Sizes) (b : ℕ) (sets 
 drops-from r₀ r w t firsts sizes b sets flags todo sets′ flags′ todo′ p d = moved r₀ r p (λ answers users. Drops t firsts (users w) sizes b sets flags todo sets′ flags′ todo′) d
 
 -- all that are dropped, by the users and the sets as they stood before
-pub drops-all-from : (r₀ r r₁ w t firsts : List ℕ) (sizes : Sizes) (failed flags todo sets′ flags′ todo′ : List ℕ) → Placed r₀ r → Same r r₁ → DropsAll t firsts (usersOf r₁ w) sizes failed (drop testCells r₁) flags todo sets′ flags′ todo′
-    → DropsAll t firsts (usersOf r₀ w) sizes failed (drop testCells r) flags todo sets′ flags′ todo′
-drops-all-from r₀ r r₁ w t firsts sizes failed flags todo sets′ flags′ todo′ p s d =
-    moved r₀ r₁ (placed-more p (s .placed)) (λ answers users. DropsAll t firsts (users w) sizes failed (drop testCells r) flags todo sets′ flags′ todo′) (subst (λ l. DropsAll t firsts (usersOf r₁ w) sizes failed l flags todo sets′ flags′ todo′) (s .sets) d)
+pub drops-all-from : (r₀ r r₁ w t firsts : List ℕ) (sizes : Sizes) (failed flags todo : List ℕ) (least past : ℕ) (sets′ flags′ todo′ : List ℕ) → Placed r₀ r → Same r r₁ → DropsAll t firsts (usersOf r₁ w) sizes failed (drop testCells r₁) flags todo least past sets′ flags′ todo′
+    → DropsAll t firsts (usersOf r₀ w) sizes failed (drop testCells r) flags todo least past sets′ flags′ todo′
+drops-all-from r₀ r r₁ w t firsts sizes failed flags todo least past sets′ flags′ todo′ p s d =
+    moved r₀ r₁ (placed-more p (s .placed)) (λ answers users. DropsAll t firsts (users w) sizes failed (drop testCells r) flags todo least past sets′ flags′ todo′) (subst (λ l. DropsAll t firsts (usersOf r₁ w) sizes failed l flags todo least past sets′ flags′ todo′) (s .sets) d)

@@ -1,5 +1,5 @@
 -- From a turn to a round, and from a round to the rounds: what each step leaves, for a file whose tables are there.
-use Prim.Native.Nat.{ℕ, zero, suc, _+_, _*_, _/_, _%_, _^_, _<_, _≤_}
+use Prim.Native.Nat.{ℕ, zero, suc, _+_, _/_, _%_, _^_, _<_, _≤_}
 use native.Mathlib.Omega.{arith}
 use native.Mathlib.Decide.{decLt}
 use mathlib.Core.Path.{_≡_, refl, sym, ap, ap₂, subst, _∙_}
@@ -15,15 +15,17 @@ use Rattle.casefile.specs.Records.{Record}
 use Rattle.casefile.specs.Tables.{bindingsOf}
 use Rattle.casefile.proofs.Plans.{bindings-many}
 use Rattle.index.specs.layout.Layout.{wordBits}
-use Rattle.marks.specs.Marks.{bitOf, In, FindsNext}
+use Rattle.marks.specs.Marks.{bitOf, In}
 use Rattle.marks.proofs.Bits.{bit-next, zero-bit}
 use Rattle.answers.specs.Answers.{Under}
 use Rattle.tables.specs.Facts.{bindingAt, noBinding, CandidatesAre}
 use Rattle.tables.specs.Filling.{wordsFor}
-use Rattle.rounds.specs.Resting.{total, testOf, Holds, Frame, Rests, Room}
+use Rattle.rounds.specs.Resting.{total, testOf, Holds, Frame, Noted, Rests, Room}
+use Rattle.rounds.specs.tested.Tested.{Ranged}
 use Rattle.rounds.specs.dropping.Dropping.{DropsAll}
-use Rattle.rounds.specs.shrinking.Shrinking.{Settled, Turns, KeepsAll, Counts, ShrinksByRounds}
+use Rattle.rounds.specs.shrinking.Shrinking.{Settled, Turnable, Turns, KeepsAll, Counts, ShrinksByRounds}
 use Rattle.rounds.specs.declared.tested.Sizes.{Sizes}
+use Rattle.rounds.specs.declared.tested.Course.{Course}
 use Rattle.rounds.proofs.shrinking.Flagged.{chosen-take, round-take, round-length, round-at}
 use Rattle.rounds.proofs.shrinking.Leaving.{Left, left-start, left-turn, left-same, left-rounds, left-flags, left-kept}
 use Rattle.rounds.proofs.shrinking.Turning.{in-or-not}
@@ -133,16 +135,31 @@ module _ (t firsts : List ℕ) (sizes : Sizes) (sets₀ memo₀ users₀ lent : 
         never : (rs : List Record) → Given rs → ⊥
         never rs w = let few = g .few rs w in let r = reached end is rs w in omega arith
 
-    module _ (memo′ users′ failed : List ℕ) (next : ℕ) (turn : Turns t sets firsts sizes flags todo memo users (replicate 32 0) last memo′ users′ failed next) (first : ℕ) (f : FindsNext failed 0 0 end first) where
+    module _ (memo′ users′ failed : List ℕ) (n : Course) (turn : Turns t sets firsts sizes flags todo memo users (replicate 32 0) last memo′ users′ failed n) where
       module _ (rs : List Record) (w : Given rs) where
-        room : Room rs users
-        room = let r = w .room in let l = g .users-long in omega arith
+        asks : Turnable t sets firsts sizes flags todo memo users (replicate 32 0) last rs
+        asks =
+            record {
+              frame = w .frame;
+              candidates = g .candidates rs w;
+              room = let r = w .room in let l = g .users-long in omega arith;
+              under = g .under (w .under);
+              long = omega arith;
+              none = none-in 32;
+              settled = g .settled rs w;
+            }
 
         failures : (b : ℕ) → b < total rs → In failed 0 b → (isKept (getD flags b 0) ≡ true) × (Holds rs flags b → ⊥)
-        failures = turn .failures rs (w .frame) (g .candidates rs w) room (g .under (w .under)) (omega arith) (none-in 32) (g .settled rs w)
+        failures = turn .failures rs asks
 
         resting : Settled rs flags users′ failed
-        resting = turn .settled rs (w .frame) (g .candidates rs w) room (g .under (w .under)) (omega arith) (none-in 32) (g .settled rs w)
+        resting = turn .settled rs asks
+
+        ranged : Ranged failed n
+        ranged = turn .ranged rs asks
+
+        few-failed : n .past ≤ total rs
+        few-failed = let r = reached end is rs w in let b = turn .before in omega arith
 
         enough : length (bindingsOf rs) ≤ length flags
         enough = let l = g .long in let many = bindings-many rs in let k = w .long in omega arith
@@ -153,35 +170,35 @@ module _ (t firsts : List ℕ) (sizes : Sizes) (sets₀ memo₀ users₀ lent : 
         -- flags from which those that failed are dropped are those of a round
         made : (new : List ℕ) → length new ≡ length flags → ((c : ℕ) → c < total rs → In failed 0 c → getD new c 0 ≡ 0) → ((c : ℕ) → c < total rs → (In failed 0 c → ⊥) → getD new c 0 ≡ getD flags c 0)
             → take (length (bindingsOf rs)) new ≡ roundFlags (testOf rs) (bindingsOf rs) flags
-        made new long gone others = ext-getD 0 (take n new) (roundFlags (testOf rs) (bindingsOf rs) flags) (inside ∙ sym (round-length (testOf rs) (bindingsOf rs) flags enough)) here
+        made new long gone others = ext-getD 0 (take all new) (roundFlags (testOf rs) (bindingsOf rs) flags) (inside ∙ sym (round-length (testOf rs) (bindingsOf rs) flags enough)) here
           where
-            n : ℕ
-            n = length (bindingsOf rs)
+            all : ℕ
+            all = length (bindingsOf rs)
 
-            inside : length (take n new) ≡ n
-            inside = length-take-le n new (let e = enough in omega arith)
+            inside : length (take all new) ≡ all
+            inside = length-take-le all new (let e = enough in omega arith)
 
             flag : (b : ℕ) → b < total rs → Dec (In failed 0 b) → getD new b 0 ≡ bit (isKept (getD flags b 0) && testOf rs (chosen flags (bindingsOf rs)) (bindingAt rs b))
             flag b l (yes i) = gone b l i ∙ flag-dropped (getD flags b 0) (testOf rs (chosen flags (bindingsOf rs)) (bindingAt rs b)) (failures b l i .1)
             flag b l (no i) =
                 others b l i ∙ flag-stays (getD flags b 0) (testOf rs (chosen flags (bindingsOf rs)) (bindingAt rs b)) (small b l) (λ k. resting b l k i flags (λ c m s noted. s))
 
-            here : (b : ℕ) → b < length (take n new) → getD (take n new) b 0 ≡ getD (roundFlags (testOf rs) (bindingsOf rs) flags) b 0
+            here : (b : ℕ) → b < length (take all new) → getD (take all new) b 0 ≡ getD (roundFlags (testOf rs) (bindingsOf rs) flags) b 0
             here b l =
                 let e = inside in
                 let many = bindings-many rs in
-                getD-take n new b 0 (omega arith) ∙ flag b (omega arith) (in-or-not failed 0 b) ∙ sym (round-at (testOf rs) (bindingsOf rs) flags b noBinding (omega arith) enough)
+                getD-take all new b 0 (omega arith) ∙ flag b (omega arith) (in-or-not failed 0 b) ∙ sym (round-at (testOf rs) (bindingsOf rs) flags b noBinding (omega arith) enough)
 
         kept-made : (new : List ℕ) → take (length (bindingsOf rs)) new ≡ roundFlags (testOf rs) (bindingsOf rs) flags → length (chosen new (bindingsOf rs)) ≡ length (Rounds.round (testOf rs) (chosen flags (bindingsOf rs)))
         kept-made new e = ap length (sym (chosen-take new (bindingsOf rs)) ∙ ap (λ fs. chosen fs (bindingsOf rs)) e ∙ chosen-round (testOf rs) (bindingsOf rs) flags)
 
       -- nothing failed
-      module _ (h : end ≤ first) where
+      module _ (h : n .past ≡ 0) where
         module _ (rs : List Record) (w : Given rs) where
           more : length (chosen flags (bindingsOf rs)) ≡ length (Rounds.round (testOf rs) (chosen flags (bindingsOf rs)))
           more =
               kept-made rs w flags
-              (made rs w flags refl (λ c l i. absurd (f .passed c (omega arith) (let r = reached end is rs w in omega arith) i)) (λ c l i. refl))
+              (made rs w flags refl (λ c l i. absurd (let k = ranged rs w .inside c i in omega arith)) (λ c l i. refl))
 
           kept-all : length (chosen flags (bindingsOf rs)) ≤ length (Rounds.round (testOf rs) (chosen flags (bindingsOf rs)))
           kept-all = let m = more in omega arith
@@ -212,36 +229,39 @@ module _ (t firsts : List ℕ) (sizes : Sizes) (sets₀ memo₀ users₀ lent : 
             rounds-here rs w = left-rounds (testOf rs) (bindingsOf rs) flags _ rounds (g .left rs w) (length (Rounds.round (testOf rs) (chosen flags (bindingsOf rs)))) (enough rs w) refl (kept-all rs w)
 
       -- some failed, and are dropped
-      module _ (h : first < end) (sets′ new todo′ : List ℕ) (d : DropsAll t firsts users′ sizes failed sets flags (replicate 32 0) sets′ new todo′) where
+      module _ (h : n .past ≡ 0 → ⊥) (sets′ new todo′ : List ℕ) (d : DropsAll t firsts users′ sizes failed sets flags (replicate 32 0) (n .least) (n .past) sets′ new todo′) where
         module _ (rs : List Record) (w : Given rs) where
           gone : (c : ℕ) → c < total rs → In failed 0 c → getD new c 0 ≡ 0
-          gone = d .gone rs (w .frame) (let l = g .long in let k = w .long in omega arith)
+          gone c l i = let k = ranged rs w .inside c i in d .gone rs (w .frame) (few-failed rs w) (let l = g .long in let k = w .long in omega arith) c (k .0) (k .1) i
 
-          others : (c : ℕ) → (c < total rs → In failed 0 c → ⊥) → getD new c 0 ≡ getD flags c 0
-          others = d .others rs (w .frame)
+          others : (c : ℕ) → (In failed 0 c → ⊥) → getD new c 0 ≡ getD flags c 0
+          others = d .others
 
           made-new : take (length (bindingsOf rs)) new ≡ roundFlags (testOf rs) (bindingsOf rs) flags
-          made-new = made rs w new (d .flags-long) gone (λ c l i. others c (λ m. i))
+          made-new = made rs w new (d .flags-long) gone (λ c l i. others c i)
 
           fewer : length (chosen new (bindingsOf rs)) < length (chosen flags (bindingsOf rs))
           fewer = go (decLt (length (chosen new (bindingsOf rs))) (length (chosen flags (bindingsOf rs))))
             where
-              n : ℕ
-              n = length (bindingsOf rs)
+              all : ℕ
+              all = length (bindingsOf rs)
+
+              first : ℕ
+              first = n .least
 
               in-first : In failed 0 first
-              in-first = f .found h .1
+              in-first = ranged rs w .some-failed (let k = h in omega arith)
 
               below : first < total rs
-              below = let r = reached end is rs w in omega arith
+              below = let k = ranged rs w .inside first in-first in let b = few-failed rs w in omega arith
 
               go : Dec (length (chosen new (bindingsOf rs)) < length (chosen flags (bindingsOf rs))) → length (chosen new (bindingsOf rs)) < length (chosen flags (bindingsOf rs))
               go (yes l) = l
               go (no l) =
-                  let same : take n new ≡ take n flags =
+                  let same : take all new ≡ take all flags =
                   made-new ∙ sym (round-take (testOf rs) (bindingsOf rs) flags) ∙ left-same (testOf rs) (bindingsOf rs) flags _ rounds (g .left rs w) (length (chosen new (bindingsOf rs))) (enough rs w) (kept-made rs w new made-new) (omega arith) in
                   let many = bindings-many rs in
-                  let at : getD flags first 0 ≡ 0 = sym (getD-take n flags first 0 (let b = below in omega arith)) ∙ ap (λ fs. getD fs first 0) (sym same) ∙ getD-take n new first 0 (let b = below in omega arith) ∙ gone first below in-first in
+                  let at : getD flags first 0 ≡ 0 = sym (getD-take all flags first 0 (let b = below in omega arith)) ∙ ap (λ fs. getD fs first 0) (sym same) ∙ getD-take all new first 0 (let b = below in omega arith) ∙ gone first below in-first in
                   absurd (zero-dropped (ap isKept (sym at) ∙ failures rs w first below in-first .0))
 
           settled-new : Settled rs new users′ todo′
@@ -249,11 +269,14 @@ module _ (t firsts : List ℕ) (sizes : Sizes) (sets₀ memo₀ users₀ lent : 
             where
               go : Dec (In failed 0 b) → Rests rs new users′ b
               go (yes i) = absurd (zero-dropped (ap isKept (sym (gone b l i)) ∙ k))
-              go (no i) = λ fs kept-noted. resting rs w b l (ap isKept (sym (others b (λ m. i))) ∙ k) i fs (λ c m s noted. has fs kept-noted c m s noted (in-or-not failed 0 c))
+              go (no i) = λ fs kept-noted. resting rs w b l (ap isKept (sym (others b i)) ∙ k) i fs (λ c m s noted. has fs kept-noted c m s noted (in-or-not failed 0 c))
                 where
-                  has : (fs : List ℕ) → ((c : ℕ) → c < total rs → isKept (getD new c 0) ≡ true → In users′ (c * wordsFor rs) b → isKept (getD fs c 0) ≡ true) → (c : ℕ) → c < total rs → isKept (getD flags c 0) ≡ true → In users′ (c * wordsFor rs) b → Dec (In failed 0 c) → isKept (getD fs c 0) ≡ true
-                  has fs kept-noted c m s noted (yes j) = absurd (unmarked (d .marked rs (w .frame) (omega arith) c b m l j noted))
-                  has fs kept-noted c m s noted (no j) = kept-noted c m (ap isKept (others c (λ x. j)) ∙ s) noted
+                  room : Room rs users′
+                  room = let r = w .room in let a = g .users-long in let b = turn .users-long in omega arith
+
+                  has : (fs : List ℕ) → ((c : ℕ) → c < total rs → isKept (getD new c 0) ≡ true → Noted rs users′ b c → isKept (getD fs c 0) ≡ true) → (c : ℕ) → c < total rs → isKept (getD flags c 0) ≡ true → Noted rs users′ b c → Dec (In failed 0 c) → isKept (getD fs c 0) ≡ true
+                  has fs kept-noted c m s noted (yes j) = let k = ranged rs w .inside c j in absurd (unmarked (d .marked rs (w .frame) room (few-failed rs w) (omega arith) c b (k .0) (k .1) l j noted))
+                  has fs kept-noted c m s noted (no j) = kept-noted c m (ap isKept (others c j) ∙ s) noted
 
           past : drop (total rs) new ≡ drop (total rs) flags
           past =
@@ -261,9 +284,9 @@ module _ (t firsts : List ℕ) (sizes : Sizes) (sets₀ memo₀ users₀ lent : 
               let e′ = length-drop (total rs) flags in
               let l = d .flags-long in
               ext-getD 0 (drop (total rs) new) (drop (total rs) flags) (omega arith)
-              (λ i m. getD-drop (total rs) new i 0 ∙ others (total rs + i) (λ k. absurd (omega arith)) ∙ sym (getD-drop (total rs) flags i 0))
+              (λ i m. getD-drop (total rs) new i 0 ∙ others (total rs + i) (λ k. let m = ranged rs w .inside (total rs + i) k in let b = few-failed rs w in absurd (omega arith)) ∙ sym (getD-drop (total rs) flags i 0))
 
-        pub going-more : Going sets′ memo′ users′ new todo′ (rounds + 1) next
+        pub going-more : Going sets′ memo′ users′ new todo′ (rounds + 1) (n .last)
         going-more =
             record {
               long = d .flags-long ∙ g .long;
@@ -271,7 +294,7 @@ module _ (t firsts : List ℕ) (sizes : Sizes) (sets₀ memo₀ users₀ lent : 
               marks-long = d .todo-long;
               under = λ u. turn .under (g .under u);
               stays = λ rs w. past rs w ∙ g .stays rs w;
-              candidates = λ rs w. d .candidates rs (w .frame) (let l = g .long in let k = w .long in omega arith) (g .candidates rs w);
+              candidates = λ rs w. d .candidates rs (w .frame) (few-failed rs w) (let l = g .long in let k = w .long in omega arith) (g .candidates rs w);
               settled = settled-new;
               few = λ rs w. let was = g .few rs w in let less = fewer rs w in omega arith;
               left = λ rs w. left-turn (testOf rs) (bindingsOf rs) flags _ rounds (g .left rs w) new (length (chosen new (bindingsOf rs))) (made-new rs w) (kept-made rs w new (made-new rs w)) (fewer rs w);

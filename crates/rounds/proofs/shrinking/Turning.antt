@@ -1,5 +1,5 @@
 -- One turn over the marked bindings: those that are passed are tested, and all that is not marked rests on its notes as before.
-use Prim.Native.Nat.{ℕ, _+_, _*_, _-_, _/_, _%_, _<_, _≤_}
+use Prim.Native.Nat.{ℕ, _+_, _*_, _/_, _%_, _<_, _≤_}
 use native.Mathlib.Omega.{arith}
 use native.Mathlib.Decide.{decLt, ℕ-discrete}
 use mathlib.Core.Path.{_≡_, refl, sym, subst, _∙_}
@@ -8,77 +8,77 @@ use mathlib.Core.List.{List}
 use lib.ListN.{length, getD, drop}
 use Rattle.scheme.specs.Flags.{isKept}
 use Rattle.casefile.specs.Records.{Record}
-use Rattle.index.specs.layout.Layout.{wordBits, maxBindingWords, testCells}
+use Rattle.index.specs.layout.Layout.{wordBits, rowLimit, testCells}
 use Rattle.marks.specs.Marks.{bitOf, In, FindsNext}
 use Rattle.answers.specs.Answers.{Under}
-use Rattle.tables.specs.Facts.{CandidatesAre}
 use Rattle.tables.specs.Filling.{wordsFor}
 use Rattle.term_check.specs.Worlds.{answersOf, usersOf}
-use Rattle.rounds.specs.Resting.{total, Holds, Frame, Rests, Room}
-use Rattle.rounds.specs.tested.Tested.{Placed, Grows, Retests}
-use Rattle.rounds.specs.shrinking.Shrinking.{Settled, Turns}
+use Rattle.term_check.proofs.check.Keeping.{in-more}
+use Rattle.rounds.specs.Resting.{total, Holds, Rests}
+use Rattle.rounds.specs.tested.Tested.{Placed, Grows, Ranged, Retests}
+use Rattle.rounds.specs.shrinking.Shrinking.{Turnable, Turns}
 use Rattle.rounds.specs.declared.tested.Sizes.{Sizes}
+use Rattle.rounds.specs.declared.tested.Course.{Course}
 use Rattle.rounds.proofs.tested.Placing.{moved}
 
-pub in-grows : (words words′ : List ℕ) → Grows words words′ → (at n : ℕ) → In words at n → In words′ at n
-in-grows words words′ g at n i = g (at + n / wordBits) (n % wordBits) (omega arith) i
-
 pub rests-more : (rs : List Record) (kept users users′ : List ℕ) → Grows users users′ → (b : ℕ) → Rests rs kept users b → Rests rs kept users′ b
-rests-more rs kept users users′ g b r flags h = r flags (λ c l k n. h c l k (in-grows users users′ g (c * wordsFor rs) b n))
+rests-more rs kept users users′ g b r flags h = r flags (λ c l k n. h c l k (in-more users users′ g (c * wordsFor rs) b n))
 
 pub in-or-not : (words : List ℕ) (at n : ℕ) → Dec (In words at n)
 in-or-not words at n = ℕ-discrete (bitOf (n % wordBits) (getD words (at + n / wordBits) 0)) 1
 
--- the number found is behind the last one
-pub next-less : {words : List ℕ} {at b end r : ℕ} → b < end → FindsNext words at (b + 1) end r → end - r < end - b
-next-less {b = b} {end = end} {r = r} h f = go (decLt r end)
-  where
-    go : Dec (r < end) → end - r < end - b
-    go (yes l) = let on = f .found l .0 in omega arith
-    go (no l) = omega arith
-
 module _ (t sets firsts : List ℕ) (sizes : Sizes) (kept todo memo users failed : List ℕ) (last : ℕ) where
   -- what a turn asks of a file
-  pub record Given (rs : List Record) : Type 0 where
-    pub frame : Frame rs t firsts sizes
-    pub candidates : CandidatesAre rs kept sets (wordsFor rs)
-    pub room : Room rs users
-    pub under : Under memo (last + 1)
-    pub long : maxBindingWords ≤ length failed
-    pub none : (c : ℕ) → In failed 0 c → ⊥
-    pub settled : Settled rs kept users todo
+  abbrev pub Given : List Record → Type 0
+  Given rs = Turnable t sets firsts sizes kept todo memo users failed last rs
 
   -- all marked bindings below b are tested
-  pub record Turning (memo′ users′ failed′ : List ℕ) (stamp b : ℕ) : Type 0 where
+  pub record Turning (memo′ users′ failed′ : List ℕ) (n : Course) (b : ℕ) : Type 0 where
     pub users-long : length users′ ≡ length users
     pub failed-long : length failed′ ≡ length failed
-    pub under : Under memo (last + 1) → Under memo′ (stamp + 1)
+    pub under : Under memo (last + 1) → Under memo′ (n .last + 1)
+    pub before : n .past ≤ b
+    pub ranged : (rs : List Record) → Given rs → Ranged failed′ n
     pub failures : (rs : List Record) → Given rs → (c : ℕ) → c < total rs → In failed′ 0 c → (isKept (getD kept c 0) ≡ true) × (Holds rs kept c → ⊥)
     pub settled : (rs : List Record) → Given rs → (c : ℕ) → c < total rs → isKept (getD kept c 0) ≡ true → (In failed′ 0 c → ⊥) → (In todo 0 c → c < b) → Rests rs kept users′ c
 
-  pub turn-none : (end b : ℕ) → FindsNext todo 0 0 end b → Turning memo users failed last b
+  pub turn-none : (end b : ℕ) → FindsNext todo 0 0 end b → Turning memo users failed (record { last = last; least = 0; past = 0 }) b
   turn-none end b f =
       record {
         users-long = refl;
         failed-long = refl;
         under = λ u. u;
+        before = omega arith;
+        ranged = λ rs g. record { inside = λ c i. absurd (g .none c i); some-failed = λ h. absurd (omega arith) };
         failures = λ rs g c l i. absurd (g .none c i);
         settled = λ rs g c l k n m. g .settled c l k (λ i. f .passed c (omega arith) (m i) i);
       }
 
-  module _ (memo′ users′ failed′ : List ℕ) (stamp b : ℕ) (w : Turning memo′ users′ failed′ stamp b) where
-    pub turn-more : (memo″ users″ failed″ : List ℕ) (next end b′ : ℕ) → length users″ ≡ length users′ → length failed″ ≡ length failed′
-        → Retests t sets firsts sizes kept memo′ users′ failed′ stamp b memo″ users″ failed″ next → FindsNext todo 0 (b + 1) end b′
+  module _ (memo′ users′ failed′ : List ℕ) (n : Course) (b : ℕ) (w : Turning memo′ users′ failed′ n b) (end : ℕ) (is : end ≡ sizes .bindings % rowLimit) where
+    pub turn-more : b < end → (memo″ users″ failed″ : List ℕ) (next : Course) (b′ : ℕ) → length users″ ≡ length users′ → length failed″ ≡ length failed′
+        → Retests t sets firsts sizes kept memo′ users′ failed′ n b memo″ users″ failed″ next → FindsNext todo 0 (b + 1) end b′
         → Turning memo″ users″ failed″ next b′
-    turn-more memo″ users″ failed″ next end b′ lu lf r f =
+    turn-more small memo″ users″ failed″ next b′ lu lf r f =
         record {
           users-long = lu ∙ w .users-long;
           failed-long = lf ∙ w .failed-long;
           under = λ u. r .under (w .under u);
+          before = let k = r .before (w .before) (omega arith) in let l = behind in omega arith;
+          ranged = λ rs g. let long = g .long in let fl = w .failed-long in let few = inside rs g in let most = g .frame .few-bindings in r .ranged (w .before) (omega arith) (omega arith) (w .ranged rs g);
           failures = λ rs g c l i. failing rs g c l i (ℕ-discrete c b) (in-or-not failed′ 0 c);
-          settled = λ rs g c l k n m. settling rs g c l k n m (ℕ-discrete c b);
+          settled = λ rs g c l k no′ m. settling rs g c l k no′ m (ℕ-discrete c b);
         }
       where
+        behind : b + 1 ≤ b′
+        behind = go (decLt b′ end)
+          where
+            go : Dec (b′ < end) → b + 1 ≤ b′
+            go (yes l) = f .found l .0
+            go (no l) = omega arith
+
+        inside : (rs : List Record) → Given rs → b < total rs
+        inside rs g = let few = g .frame .few-bindings in let all = g .frame .bindings-are in omega arith
+
         answer : (rs : List Record) → Given rs → b < total rs → (isKept (getD kept b 0) ≡ true → (In failed″ 0 b → ⊥) → Rests rs kept users″ b) × (In failed″ 0 b → (In failed′ 0 b → ⊥) → (isKept (getD kept b 0) ≡ true) × (Holds rs kept b → ⊥))
         answer rs g l = let ul = w .users-long in let fl = w .failed-long in let room = g .room in let long = g .long in r .answer rs (g .frame) (g .candidates) (omega arith) (w .under (g .under)) (omega arith) l
 
@@ -89,32 +89,31 @@ module _ (t sets firsts : List ℕ) (sizes : Sizes) (kept todo memo users failed
             subst (λ x. In failed″ 0 x → (In failed′ 0 x → ⊥) → x < total rs → (isKept (getD kept x 0) ≡ true) × (Holds rs kept x → ⊥)) (sym e) (λ i′ j′ l′. answer rs g l′ .1 i′ j′) i j l
 
         settling : (rs : List Record) → Given rs → (c : ℕ) → c < total rs → isKept (getD kept c 0) ≡ true → (In failed″ 0 c → ⊥) → (In todo 0 c → c < b′) → Dec (c ≡ b) → Rests rs kept users″ c
-        settling rs g c l k n m (yes e) =
-            subst (λ x. x < total rs → isKept (getD kept x 0) ≡ true → (In failed″ 0 x → ⊥) → Rests rs kept users″ x) (sym e) (λ l′ k′ n′. answer rs g l′ .0 k′ n′) l k n
-        settling rs g c l k n m (no d) =
-            rests-more rs kept users′ users″ (r .grows) c (w .settled rs g c l k (λ i. n (in-grows failed′ failed″ (r .more) 0 c i)) (λ i. below c d i (m i) (decLt c b)))
+        settling rs g c l k no′ m (yes e) =
+            subst (λ x. x < total rs → isKept (getD kept x 0) ≡ true → (In failed″ 0 x → ⊥) → Rests rs kept users″ x) (sym e) (λ l′ k′ n′. answer rs g l′ .0 k′ n′) l k no′
+        settling rs g c l k no′ m (no d) =
+            rests-more rs kept users′ users″ (r .grows) c (w .settled rs g c l k (λ i. no′ (in-more failed′ failed″ (r .more) 0 c i)) (λ i. below c d i (m i) (decLt c b)))
           where
             below : (c : ℕ) → (c ≡ b → ⊥) → In todo 0 c → c < b′ → Dec (c < b) → c < b
             below c d i h (yes s) = s
             below c d i h (no s) = absurd (f .passed c (let z = d in omega arith) h i)
 
-    pub turn-all : (end : ℕ) → end ≡ sizes .bindings % 2048 → end ≤ b → Turns t sets firsts sizes kept todo memo users failed last memo′ users′ failed′ stamp
-    turn-all end is h =
+    pub turn-all : b ≤ end → end ≤ b → Turns t sets firsts sizes kept todo memo users failed last memo′ users′ failed′ n
+    turn-all l h =
         record {
           users-long = w .users-long;
           failed-long = w .failed-long;
           under = w .under;
-          failures = λ rs fr ca ro un lo no′ se. w .failures rs (given rs fr ca ro un lo no′ se);
-          settled = λ rs fr ca ro un lo no′ se c l k n.
-              let few = fr .few-bindings in
-              let all = fr .bindings-are in
-              w .settled rs (given rs fr ca ro un lo no′ se) c l k n (λ i. omega arith);
+          before = let k = w .before in omega arith;
+          ranged = w .ranged;
+          failures = w .failures;
+          settled = λ rs g c l k no′.
+              let few = g .frame .few-bindings in
+              let all = g .frame .bindings-are in
+              w .settled rs g c l k no′ (λ i. omega arith);
         }
-      where
-        given : (rs : List Record) → Frame rs t firsts sizes → CandidatesAre rs kept sets (wordsFor rs) → Room rs users → Under memo (last + 1) → maxBindingWords ≤ length failed → ((c : ℕ) → In failed 0 c → ⊥) → Settled rs kept users todo → Given rs
-        given rs fr ca ro un lo no′ se = record { frame = fr; candidates = ca; room = ro; under = un; long = lo; none = no′; settled = se }
 
 -- the same by the places as they stood before
-pub turns-from : (r₀ r w w′ t firsts : List ℕ) (sizes : Sizes) (kept todo failed : List ℕ) (last : ℕ) (failed′ : List ℕ) (n : ℕ) → Placed r₀ r → Turns t (drop testCells r) firsts sizes kept todo (answersOf r w) (usersOf r w) failed last (answersOf r w′) (usersOf r w′) failed′ n
+pub turns-from : (r₀ r w w′ t firsts : List ℕ) (sizes : Sizes) (kept todo failed : List ℕ) (last : ℕ) (failed′ : List ℕ) (n : Course) → Placed r₀ r → Turns t (drop testCells r) firsts sizes kept todo (answersOf r w) (usersOf r w) failed last (answersOf r w′) (usersOf r w′) failed′ n
     → Turns t (drop testCells r) firsts sizes kept todo (answersOf r₀ w) (usersOf r₀ w) failed last (answersOf r₀ w′) (usersOf r₀ w′) failed′ n
 turns-from r₀ r w w′ t firsts sizes kept todo failed last failed′ n p x = moved r₀ r p (λ answers users. Turns t (drop testCells r) firsts sizes kept todo (answers w) (users w) failed last (answers w′) (users w′) failed′ n) x

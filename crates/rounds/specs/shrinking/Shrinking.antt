@@ -1,8 +1,8 @@
 -- What our own crates promise each other; nothing here has to be believed.
 -- Shrinking by rounds: each round tests the bindings whose notes the round before hit, and drops those that fail.
-use Prim.Native.Nat.{ℕ, _+_, _*_, _<_, _≤_}
+use Prim.Native.Nat.{ℕ, _+_, _%_, _<_, _≤_}
 use mathlib.Core.Path.{_≡_}
-use mathlib.Core.Bool.{Bool, true, false}
+use mathlib.Core.Bool.{true}
 use mathlib.Core.List.{List, _++_}
 use lib.ListN.{length, getD, take, drop, replicate}
 use Rattle.scheme.specs.Typing.{Binding}
@@ -10,28 +10,39 @@ use Rattle.scheme.specs.Rounds
 use Rattle.scheme.specs.Flags.{isKept, chosen, keptFlags}
 use Rattle.casefile.specs.Records.{Record}
 use Rattle.casefile.specs.Tables.{bindingsOf}
-use Rattle.index.specs.layout.Layout.{maxBindings, maxBindingWords}
+use Rattle.index.specs.layout.Layout.{maxBindingWords, rowLimit}
 use Rattle.marks.specs.Marks.{In}
 use Rattle.answers.specs.Answers.{Under}
 use Rattle.tables.specs.Facts.{CandidatesAre}
 use Rattle.tables.specs.Filling.{wordsFor}
 use Rattle.rounds.specs.Resting.{total, testOf, Holds, Frame, Rests, Room}
-use Rattle.rounds.specs.tested.Tested.{Grows}
+use Rattle.rounds.specs.tested.Tested.{Ranged}
 use Rattle.rounds.specs.declared.tested.Sizes.{Sizes}
+use Rattle.rounds.specs.declared.tested.Course.{Course}
 
 -- the bindings that are kept and not marked rest on what is noted for them
 abbrev pub Settled : List Record → List ℕ → List ℕ → List ℕ → Type 0
 Settled rs kept users todo = (b : ℕ) → b < total rs → isKept (getD kept b 0) ≡ true → (In todo 0 b → ⊥) → Rests rs kept users b
 
+-- what a turn asks of a file
+pub record Turnable (t sets firsts : List ℕ) (sizes : Sizes) (kept todo memo users failed : List ℕ) (last : ℕ) (rs : List Record) : Type 0 where
+  pub frame : Frame rs t firsts sizes
+  pub candidates : CandidatesAre rs kept sets (wordsFor rs)
+  pub room : Room rs users
+  pub under : Under memo (last + 1)
+  pub long : maxBindingWords ≤ length failed
+  pub none : (c : ℕ) → In failed 0 c → ⊥
+  pub settled : Settled rs kept users todo
+
 -- one turn over the marked bindings: those that fail are marked in a set that was empty, all others that are kept rest on their notes
-pub record Turns (t sets firsts : List ℕ) (sizes : Sizes) (kept todo memo users failed : List ℕ) (last : ℕ) (memo′ users′ failed′ : List ℕ) (r : ℕ) : Type 0 where
+pub record Turns (t sets firsts : List ℕ) (sizes : Sizes) (kept todo memo users failed : List ℕ) (last : ℕ) (memo′ users′ failed′ : List ℕ) (r : Course) : Type 0 where
   pub users-long : length users′ ≡ length users
   pub failed-long : length failed′ ≡ length failed
-  pub under : Under memo (last + 1) → Under memo′ (r + 1)
-  pub failures : (rs : List Record) → Frame rs t firsts sizes → CandidatesAre rs kept sets (wordsFor rs) → Room rs users → Under memo (last + 1) → maxBindingWords ≤ length failed → ((c : ℕ) → In failed 0 c → ⊥) → Settled rs kept users todo
-      → (b : ℕ) → b < total rs → In failed′ 0 b → (isKept (getD kept b 0) ≡ true) × (Holds rs kept b → ⊥)
-  pub settled : (rs : List Record) → Frame rs t firsts sizes → CandidatesAre rs kept sets (wordsFor rs) → Room rs users → Under memo (last + 1) → maxBindingWords ≤ length failed → ((c : ℕ) → In failed 0 c → ⊥) → Settled rs kept users todo
-      → Settled rs kept users′ failed′
+  pub under : Under memo (last + 1) → Under memo′ (r .last + 1)
+  pub before : r .past ≤ sizes .bindings % rowLimit
+  pub ranged : (rs : List Record) → Turnable t sets firsts sizes kept todo memo users failed last rs → Ranged failed′ r
+  pub failures : (rs : List Record) → Turnable t sets firsts sizes kept todo memo users failed last rs → (b : ℕ) → b < total rs → In failed′ 0 b → (isKept (getD kept b 0) ≡ true) × (Holds rs kept b → ⊥)
+  pub settled : (rs : List Record) → Turnable t sets firsts sizes kept todo memo users failed last rs → Settled rs kept users′ failed′
 
 -- the first n flags say kept
 pub record KeepsAll (n : ℕ) (flags flags′ : List ℕ) : Type 0 where

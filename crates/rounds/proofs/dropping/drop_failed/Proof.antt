@@ -15,50 +15,50 @@ use Rattle.rounds.proofs.dropping.drop_failed.Statement.{statement}
 use Rattle.rounds.proofs.dropping.drop_failed.Tie as tie
 
 abbrev Inv-loop : tie.InvT-loop
-Inv-loop t w sizes failed r₀ flags₀ todo₀ total b₀ r flags todo b = (b < total → In failed 0 b) × Placed r₀ r × ((firsts : List ℕ) → Dropped t firsts (usersOf r₀ w) sizes failed (drop testCells r₀) flags₀ todo₀ (drop testCells r) flags todo b)
+Inv-loop t w sizes failed r₀ flags₀ todo₀ n b₀ r flags todo b = (b < n .past → In failed 0 b) × Placed r₀ r × ((firsts : List ℕ) → Dropped t firsts (usersOf r₀ w) sizes failed (drop testCells r₀) flags₀ todo₀ (n .least) (n .past) (drop testCells r) flags todo b)
 
 abbrev μ-loop : tie.MeasureT-loop
-μ-loop t w sizes failed r₀ flags₀ todo₀ total b₀ r flags todo b = total - b
+μ-loop t w sizes failed r₀ flags₀ todo₀ n b₀ r flags todo b = n .past - b
 
 next-in-requires : tie.Need-next-in-requires Inv-loop μ-loop
 next-in-requires c κs = search needs
 
 loop-holds : tie.Need-loop-holds Inv-loop μ-loop
-loop-holds c = (λ l. c .next-in .ensures .found l .1, placed-none _, λ firsts. dropped-none _ _ _ _ _ _ _ _ _ _ (c .next-in .ensures))
+loop-holds c = (λ l. c .next-in .ensures .found l .1, placed-none _, λ firsts. dropped-none _ _ _ _ _ _ _ _ _ _ _ (c .next-in .ensures))
 
 drop-binding-requires : tie.Need-drop-binding-requires Inv-loop μ-loop
 drop-binding-requires c κs = search needs
 
 add-next-in : tie.Need-add-next-in Inv-loop μ-loop
-add-next-in c = omega (arith, c .before .before .before .before .before .before .before .before .before .before .loop-test .taken)
+add-next-in c = omega (arith, c .before .before .before .before .before .before .before .before .before .before .if1 .taken)
 
 next-in-requires-2 : tie.Need-next-in-requires-2 Inv-loop μ-loop
 next-in-requires-2 c κs = search needs
 
 loop-less : tie.Need-loop-less Inv-loop μ-loop
-loop-less c = finds-less (c .next-in2 .ensures) (c .before .before .before .before .before .before .before .before .before .before .before .loop-test .taken)
+loop-less c = finds-less (c .next-in2 .ensures) (c .before .before .before .before .before .before .before .before .before .before .before .if1 .taken)
 
 loop-again : tie.Need-loop-again Inv-loop μ-loop
 loop-again c =
-    let h = c .before .before .before .before .before .before .before .before .before .before .before .loop-test .taken in
-    let i = c .before .before .before .before .before .before .before .before .before .before .before .before .loop .inv in
+    let h = c .before .before .before .before .before .before .before .before .before .before .before .if1 .taken in
+    let i = c .before .before .before .before .before .before .before .before .before .before .before .before .before .loop .inv in
     let d = c .before .before .before .before .before .before .before .drop-binding .ensures in (
       λ l. c .next-in2 .ensures .found l .1,
       placed-more (i .1) (d .0),
-      λ firsts. dropped-more _ _ _ _ _ _ _ _ _ _ _ _ (i .2 firsts) h (i .0 h) _ _ _ (drops-from _ _ _ _ _ _ _ _ _ _ _ _ _ (i .1) (d .1 firsts)) _ _ (c .next-in2 .ensures),
+      λ firsts. dropped-more _ _ _ _ _ _ _ _ _ _ _ _ _ _ (i .2 firsts) h (i .0 h) _ _ _ (drops-from _ _ _ _ _ _ _ _ _ _ _ _ _ (i .1) (d .1 firsts)) _ (c .next-in2 .ensures),
     )
 
 same-length : tie.Need-same-length Inv-loop μ-loop
-same-length c = c .before .loop .inv .1 .long
+same-length c = c .before .before .loop .inv .1 .long
 
 same-length-2 : tie.Need-same-length-2 Inv-loop μ-loop
-same-length-2 c = c .before .loop .inv .2 [] .flags-long
+same-length-2 c = c .before .before .loop .inv .2 [] .flags-long
 
 same-length-3 : tie.Need-same-length-3 Inv-loop μ-loop
-same-length-3 c = c .before .loop .inv .2 [] .todo-long
+same-length-3 c = c .before .before .loop .inv .2 [] .todo-long
 
 returns : tie.Need-returns Inv-loop μ-loop
-returns c = (c .before .loop .inv .1, λ firsts. dropped-all _ _ _ _ _ _ _ _ _ _ _ _ (c .before .loop .inv .2 firsts) (omega (arith, c .loop-test .left)))
+returns c = (c .before .before .loop .inv .1, λ firsts. dropped-all _ _ _ _ _ _ _ _ _ _ _ _ _ _ (c .before .before .loop .inv .2 firsts) (omega (arith, c .if1 .left)))
 
 pub drop-failed-spec : {M : Type 1} → statement M
 drop-failed-spec =

@@ -36,26 +36,20 @@ slice-aggregate-turn-2 c = search needs
 turn-requires : tie.Need-turn-requires Inv-loop μ-loop
 turn-requires c κs = search needs
 
-slice-aggregate-next-in : tie.Need-slice-aggregate-next-in Inv-loop μ-loop
-slice-aggregate-next-in c = search needs
-
-next-in-requires : tie.Need-next-in-requires Inv-loop μ-loop
-next-in-requires c κs = search needs
-
 count-kept-requires : tie.Need-count-kept-requires Inv-loop μ-loop
 count-kept-requires c κs = search needs
 
 same-length : tie.Need-same-length Inv-loop μ-loop
-same-length c = c .before .before .before .before .before .before .before .before .before .before .turn .ensures .1 .placed .long ∙ c .before .before .before .before .before .before .before .before .before .before .before .before .before .before .before .before .before .loop .inv .2 .long
+same-length c = c .before .before .before .before .before .before .before .before .before .turn .ensures .1 .placed .long ∙ c .before .before .before .before .before .before .before .before .before .before .before .before .before .before .before .before .loop .inv .2 .long
 
 same-length-2 : tie.Need-same-length-2 Inv-loop μ-loop
-same-length-2 c = c .before .before .before .before .before .before .before .before .before .before .turn .ensures .0 ∙ c .before .before .before .before .before .before .before .before .before .before .before .before .before .before .before .before .before .loop .inv .1
+same-length-2 c = c .before .before .before .before .before .before .before .before .before .turn .ensures .0 ∙ c .before .before .before .before .before .before .before .before .before .before .before .before .before .before .before .before .loop .inv .1
 
 same-length-3 : tie.Need-same-length-3 Inv-loop μ-loop
-same-length-3 c = c .before .before .before .before .before .before .before .before .before .before .before .before .before .before .before .before .before .loop .inv .3 .long ∙ c .before .before .before .before .before .before .before .before .before .before .before .before .before .before .before .before .before .before .before .before .all-kept .ensures .long
+same-length-3 c = c .before .before .before .before .before .before .before .before .before .before .before .before .before .before .before .before .loop .inv .3 .long ∙ c .before .before .before .before .before .before .before .before .before .before .before .before .before .before .before .before .before .before .before .all-kept .ensures .long
 
 returns : tie.Need-returns Inv-loop μ-loop
-returns c = going-from _ _ _ _ _ _ _ _ _ _ _ _ (going-all _ _ _ _ _ _ _ _ _ _ _ _ _ _ (c .before .before .before .before .before .before .before .before .before .before .before .before .before .before .before .before .before .loop .inv .3) _ refl _ _ _ _ (turns-from _ _ _ _ _ _ _ _ _ _ _ _ _ (c .before .before .before .before .before .before .before .before .before .before .before .before .before .before .before .before .before .loop .inv .2) (c .before .before .before .before .before .before .before .before .before .before .turn .ensures .2)) _ (c .before .before .before .next-in .ensures) (c .before .before .if1 .taken) _ (c .count-kept .ensures .0)) refl (c .before .before .before .before .before .before .before .before .before .before .before .before .before .before .before .before .before .before .before .before .all-kept .ensures)
+returns c = going-from _ _ _ _ _ _ _ _ _ _ _ _ (going-all _ _ _ _ _ _ _ _ _ _ _ _ _ _ (c .before .before .before .before .before .before .before .before .before .before .before .before .before .before .before .before .loop .inv .3) _ refl _ _ _ _ (turns-from _ _ _ _ _ _ _ _ _ _ _ _ _ (c .before .before .before .before .before .before .before .before .before .before .before .before .before .before .before .before .loop .inv .2) (c .before .before .before .before .before .before .before .before .before .turn .ensures .2)) (c .before .before .if1 .taken) _ (c .count-kept .ensures .0)) refl (c .before .before .before .before .before .before .before .before .before .before .before .before .before .before .before .before .before .before .before .all-kept .ensures)
 
 slice-aggregate-drop-failed : tie.Need-slice-aggregate-drop-failed Inv-loop μ-loop
 slice-aggregate-drop-failed c = search needs
@@ -74,10 +68,10 @@ loop-less c = omega arith
 
 loop-again : tie.Need-loop-again Inv-loop μ-loop
 loop-again c =
-    let i = c .before .before .before .before .before .before .before .before .before .before .before .before .before .before .before .before .before .before .before .before .before .before .before .before .before .before .loop .inv in
-    let u = c .before .before .before .before .before .before .before .before .before .before .before .before .before .before .before .before .before .before .before .turn .ensures in
+    let i = c .before .before .before .before .before .before .before .before .before .before .before .before .before .before .before .before .before .before .before .before .before .before .before .before .before .loop .inv in
+    let u = c .before .before .before .before .before .before .before .before .before .before .before .before .before .before .before .before .before .before .turn .ensures in
     let d = c .before .before .before .before .before .drop-failed .ensures in
-    (omega arith, u .0 ∙ i .1, placed-more (placed-more (i .2) (u .1 .placed)) (d .0), going-more _ _ _ _ _ _ _ _ _ _ _ _ _ _ (i .3) _ refl _ _ _ _ (turns-from _ _ _ _ _ _ _ _ _ _ _ _ _ (i .2) (u .2)) _ (c .before .before .before .before .before .before .before .before .before .before .before .before .next-in .ensures) (c .before .before .before .before .before .before .before .before .before .before .before .if1 .left) _ _ _ (drops-all-from _ _ _ _ _ _ _ _ _ _ _ _ _ (i .2) (u .1) (d .1 (c .before .before .before .before .before .before .before .before .before .before .before .before .before .before .before .before .before .before .before .before .before .before .before .before .before .before .before .before .before .before .before .before .before .before .before .before .before .args .firsts .now))))
+    (omega arith, u .0 ∙ i .1, placed-more (placed-more (i .2) (u .1 .placed)) (d .0), going-more _ _ _ _ _ _ _ _ _ _ _ _ _ _ (i .3) _ refl _ _ _ _ (turns-from _ _ _ _ _ _ _ _ _ _ _ _ _ (i .2) (u .2)) (c .before .before .before .before .before .before .before .before .before .before .before .if1 .left) _ _ _ (drops-all-from _ _ _ _ _ _ _ _ _ _ _ _ _ _ _ (i .2) (u .1) (d .1 (c .before .before .before .before .before .before .before .before .before .before .before .before .before .before .before .before .before .before .before .before .before .before .before .before .before .before .before .before .before .before .before .before .before .before .before .before .args .firsts .now))))
 
 same-length-4 : tie.Need-same-length-4 Inv-loop μ-loop
 same-length-4 c = c .before .loop .inv .2 .long
@@ -102,8 +96,6 @@ shrink-spec =
     slice-aggregate-turn
     slice-aggregate-turn-2
     turn-requires
-    slice-aggregate-next-in
-    next-in-requires
     count-kept-requires
     same-length
     same-length-2

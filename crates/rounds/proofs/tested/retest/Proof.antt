@@ -30,6 +30,9 @@ returns-2 c = (c .before .before .before .before .before .holds .ensures .0 ∙ 
 put-in-requires : tie.Need-put-in-requires
 put-in-requires c κs = search needs
 
+with-failed-requires : tie.Need-with-failed-requires
+with-failed-requires c κs = search needs
+
 same-length-3 : tie.Need-same-length-3
 same-length-3 c = search needs
 
@@ -40,7 +43,7 @@ same-length-5 : tie.Need-same-length-5
 same-length-5 c = search needs
 
 returns-3 : tie.Need-returns-3
-returns-3 c = (c .before .before .before .before .before .before .before .before .before .holds .ensures .0 ∙ c .before .before .before .before .before .before .before .before .before .before .before .before .before .before .freshen .ensures .0, c .before .before .before .before .before .before .before .before .before .holds .ensures .1, c .before .before .put-in .ensures .long, retest-fails _ _ _ _ _ _ _ _ _ _ _ (c .before .before .before .before .before .before .before .before .before .before .before .before .before .before .before .before .before .before .byte-at .ensures .value) (c .before .before .before .before .before .before .before .before .before .before .before .before .before .before .before .before .before .if1 .left) _ _ (c .before .before .before .before .before .before .before .before .before .before .before .before .before .before .freshen .ensures .2) _ (c .before .before .before .before .before .before .before .before .before .before .before .before .before .before .freshen .ensures .1) _ _ _ (c .before .before .before .before .before .before .before .before .before .holds .ensures .2) (c .before .before .before .before .if2 .left) _ (c .before .before .put-in .ensures))
+returns-3 c = (c .before .before .before .before .before .before .before .before .before .before .holds .ensures .0 ∙ c .before .before .before .before .before .before .before .before .before .before .before .before .before .before .before .freshen .ensures .0, c .before .before .before .before .before .before .before .before .before .before .holds .ensures .1, c .before .before .before .put-in .ensures .long, retest-fails _ _ _ _ _ _ _ _ _ _ _ (c .before .before .before .before .before .before .before .before .before .before .before .before .before .before .before .before .before .before .before .byte-at .ensures .value) (c .before .before .before .before .before .before .before .before .before .before .before .before .before .before .before .before .before .before .if1 .left) _ _ (c .before .before .before .before .before .before .before .before .before .before .before .before .before .before .before .freshen .ensures .2) _ (c .before .before .before .before .before .before .before .before .before .before .before .before .before .before .before .freshen .ensures .1) _ _ _ (c .before .before .before .before .before .before .before .before .before .before .holds .ensures .2) (c .before .before .before .before .before .if2 .left) _ (c .before .before .before .put-in .ensures) _ (c .with-failed .ensures))
 
 pub retest-spec : {M : Type 1} → statement M
 retest-spec =
@@ -54,6 +57,7 @@ retest-spec =
     same-length-2
     returns-2
     put-in-requires
+    with-failed-requires
     same-length-3
     same-length-4
     same-length-5
