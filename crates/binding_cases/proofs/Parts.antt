@@ -1,10 +1,10 @@
 -- What is read and what is written when the bindings are judged: where users and answers begin, and the room for them.
-use Prim.Native.Nat.{ℕ, _+_, _*_, _-_, _/_, _<_, _≤_, min}
+use Prim.Native.Nat.{ℕ, _+_, _*_, _-_, _/_, _<_, _≤_}
 use native.Mathlib.Omega.{arith}
 use native.Mathlib.Nat.{mul-le-mul}
-use mathlib.Core.Path.{_≡_, refl, sym, ap, subst, _∙_}
+use mathlib.Core.Path.{_≡_, refl, sym, subst, _∙_}
 use mathlib.Core.List.{List, _++_}
-use lib.ListN.{length, getD, take, drop, set, length-set, length-drop}
+use lib.ListN.{length, getD, take, drop, set, length-set}
 use lib.Seq.{getD-drop, drop-set-lt, getD-set-same, getD-set-other}
 use Rattle.index.specs.layout.Layout.{testUsers, testAnswers, testCells}
 use Rattle.tables.specs.Filling.{FillsSets}

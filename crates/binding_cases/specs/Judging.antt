@@ -13,7 +13,7 @@ use Rattle.casefile.specs.Records.{Record}
 use Rattle.casefile.specs.Kinds.{Kind, payloads, count}
 use Rattle.casefile.specs.Tables.{planOf, automatonOf, bindingsOf}
 use Rattle.casefile.specs.Refusals.{refuseWhole}
-use Rattle.casefile.specs.Promises.{Bytes, Passed}
+use Rattle.casefile.specs.Promises.{Passed}
 use Rattle.casefile.specs.BindingCases.{Shrunk, shrunk}
 use Rattle.index.specs.layout.Layout.{maxStates, endsSize, indexSize, rowsSize, placeLimit, testUsers, testAnswers, testCells}
 use Rattle.index.specs.entries.Known.{Known}

@@ -2,11 +2,10 @@
 use Prim.Native.Nat.{ℕ, zero, suc, _+_, _*_, _/_, _<_, _≤_, max}
 use native.Mathlib.Omega.{arith}
 use native.Mathlib.Nat.{mul-le-mul, max-le}
-use mathlib.Core.Path.{_≡_, refl, sym, ap, subst, _∙_}
+use mathlib.Core.Path.{_≡_, refl}
 use mathlib.Core.Bool.{Bool, false}
 use mathlib.Core.List.{List, [], _∷_}
-use mathlib.Core.Option.{none}
-use lib.ListN.{length, getD, replicate, length-replicate}
+use lib.ListN.{length, getD, replicate}
 use Rattle.scheme.specs.Lists.{any}
 use Rattle.scheme.specs.Reduction.{Plan}
 use Rattle.scheme.specs.Typing.{Automaton, Binding}
@@ -16,15 +15,11 @@ use Rattle.scheme.specs.Acceptance.{accepts}
 use Rattle.casefile.specs.Records.{Record, recordsOf, listed}
 use Rattle.casefile.specs.Kinds.{Kind, number, payloads, count}
 use Rattle.casefile.specs.Tables.{bindingsOf}
-use Rattle.casefile.specs.Refusals.{refuseWhole}
-use Rattle.casefile.specs.Promises.{Passed}
 use Rattle.casefile.specs.BindingCases.{shrunk}
 use Rattle.casefile.proofs.Plans.{bindings-many}
 use Rattle.index.specs.layout.Layout.{maxFile, maxTypes, maxBindings, maxStates, nodeBytes, typeBytes, bindingBytes, endsSize, indexSize, rowsSize, rowsAt, rowCells, nodeCells, wordBits, cellWords, placeLimit, testCells}
-use Rattle.index.specs.entries.Known.{Known}
 use Rattle.rules.specs.reading.RuleBodies.{nodesIn}
 use Rattle.rules.proofs.rules.Room.{file-room, count-few}
-use Rattle.intake.specs.plan.PlanTests.{EndsAre}
 use Rattle.binding_cases.specs.Judging.{IsShrunk, Lent, JudgesBindings}
 use Rattle.plan_check.specs.Promises.{ofBindings, JudgesUpTo, JudgesBindingCase}
 use Rattle.plan_check.specs.declared.Verdict.{Verdict}

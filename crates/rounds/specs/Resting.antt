@@ -1,9 +1,9 @@
 -- What our own crates promise each other; nothing here has to be believed.
 -- What the tests of bindings rest on. Section "Types and shrinking" of the scope: "One round tests every binding against the set as the
 -- round began, then drops those that failed".
-use Prim.Native.Nat.{ℕ, _+_, _*_, _/_, _%_, _<_, _≤_}
+use Prim.Native.Nat.{ℕ, _+_, _*_, _<_, _≤_}
 use mathlib.Core.Path.{_≡_}
-use mathlib.Core.Bool.{Bool, true, false}
+use mathlib.Core.Bool.{Bool, true}
 use mathlib.Core.List.{List}
 use lib.Dec.{T}
 use lib.ListN.{length, getD}
@@ -13,11 +13,11 @@ use Rattle.scheme.specs.Acceptance.{holdsExactly}
 use Rattle.casefile.specs.Records.{Record}
 use Rattle.casefile.specs.Kinds.{Kind, count}
 use Rattle.casefile.specs.Tables.{planOf, automatonOf, bindingsOf}
-use Rattle.index.specs.layout.Layout.{maxStates, maxBindings, maxGoals}
+use Rattle.index.specs.layout.Layout.{maxStates, maxBindings}
 use Rattle.index.specs.Wholes.{Whole}
 use Rattle.rules.specs.reading.RuleBodies.{ruleOf, firstNode}
 use Rattle.marks.specs.Marks.{In}
-use Rattle.tables.specs.Facts.{bindingAt, CandidatesAre}
+use Rattle.tables.specs.Facts.{bindingAt}
 use Rattle.tables.specs.Filling.{nodesFrom, wordsFor, TableIs}
 use Rattle.rounds.specs.declared.tested.Sizes.{Sizes}
 

@@ -2,12 +2,11 @@
 use Prim.Native.Nat.{ℕ, suc, _+_, _<_}
 use native.Mathlib.Omega.{arith}
 use mathlib.Core.Path.{_≡_, refl, sym, ap, _∙_}
-use mathlib.Core.List.{List, _++_, append-assoc}
+use mathlib.Core.List.{List}
 use lib.ListN.{drop}
-use lib.Seq.{drop-drop, drop-append-seam}
+use lib.Seq.{drop-drop}
 use Rattle.scheme.specs.Terms.{Head, Term, node, Terms, []ᵗ, _∷ᵗ_, countᵗ, nodes}
-use Rattle.scheme.specs.Prefix.{Node, flat, flats}
-use Rattle.scheme.proofs.Prefix.{length-flat}
+use Rattle.scheme.specs.Prefix.{Node, flat}
 use Rattle.tables.specs.Facts.{At, AllAt}
 
 pub nodes-some : (t : Term) → 0 < nodes t
@@ -24,14 +23,3 @@ module _ (ns : List Node) (i : ℕ) where
   pub behind-head : (h : Head) (ts : Terms) → At ns i (node h ts) → AllAt ns (suc i) ts
   unfolding flat
   behind-head h ts (rest, e) = (rest, (let n : i + 1 ≡ suc i = omega arith in ap (λ k. drop k ns) (sym n)) ∙ sym (drop-drop 1 i ns) ∙ ap (drop 1) e)
-
-  -- the first of several terms, and the others behind it
-  module _ (t : Term) (ts : Terms) where
-    pub first-at : AllAt ns i (t ∷ᵗ ts) → At ns i t
-    unfolding flats
-    first-at (rest, e) = (flats ts ++ rest, e ∙ append-assoc (flat t) (flats ts) rest)
-
-    pub others-at : AllAt ns i (t ∷ᵗ ts) → AllAt ns (i + nodes t) ts
-    unfolding flats
-    others-at (rest, e) =
-        (rest, sym (drop-drop (nodes t) i ns) ∙ ap (drop (nodes t)) (e ∙ append-assoc (flat t) (flats ts) rest) ∙ ap (λ n. drop n (flat t ++ (flats ts ++ rest))) (sym (length-flat t)) ∙ drop-append-seam (flat t) (flats ts ++ rest))

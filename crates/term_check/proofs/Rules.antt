@@ -17,7 +17,6 @@ use Rattle.scheme.proofs.Exact.{same→≡, same-refl}
 use Rattle.scheme.proofs.Heads.{bound-out, bound-in, conTypes-out, conTypes-in}
 use Rattle.scheme.proofs.Lists.{keepIf-out, keepIf-here, keepIf-there, true→T, T→true}
 use Rattle.scheme.proofs.Substitution.{has-out, has-in, leads-argument, leads-rest, leads-in}
-use Rattle.casefile.specs.Records.{Record}
 use Rattle.casefile.specs.Tables.{automatonOf, bindingsOf, stateCount, transitionsOf, targetsAt}
 use Rattle.casefile.proofs.Plans.{bindings-many}
 use Rattle.tables.specs.Facts.{noBinding, bindingAt, off}

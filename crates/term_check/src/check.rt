@@ -30,6 +30,7 @@ use tables::reading::result_of;
 ghost use mathlib.Core.Path.{_≡_};
 ghost use Prim.Native.Nat.{_<_};
 ghost use lib.ListN.{length};
+ghost use Rattle.index.specs.layout.Layout.{maxNodes};
 ghost use Rattle.tables.specs.reading.Cells.{nodeAt};
 ghost use Rattle.term_check.specs.notes.Notes.{baseIn};
 ghost use Rattle.term_check.specs.heads.Heads.{Tries};
@@ -96,7 +97,7 @@ fn check_targets(
 // Whether a nonterminal's term has a goal: one of its kept bindings leads to it, and the arguments have what its type asks for. First
 // the binding that served last is tried, for this nonterminal and for this node, then all that lead to the goal.
 fn check_bound(t: &[u16], r: &[u32], w: &mut [u32], at: usize, goal: usize, node: Node) -> bool
-    requires { ⌜ at < 256 ⌝ }
+    requires { ⌜ at < maxNodes ⌝ }
     ensures { λ b. ⌜ (length (now (w .exit)) ≡ length (now (w .entry))) × (node ≡ nodeAt (now (t .entry)) (baseIn (now (r .entry))) at → node .tag ≡ 1 → ChecksTerm (caseOf (now (t .entry)) (now (r .entry))) (answersOf (now (r .entry)) (now (w .entry))) (usersOf (now (r .entry)) (now (w .entry))) at goal (answersOf (now (r .entry)) (now (w .exit))) (usersOf (now (r .entry)) (now (w .exit))) b) ⌝ }
 {
     let row = TEST_CELLS + goal % ROW_LIMIT * (number_in(r, TEST_WORDS) % WORDS_LIMIT);
@@ -129,7 +130,7 @@ fn try_binding(
     node: Node,
     c: usize,
 ) -> bool
-    requires { ⌜ at < 256 ⌝ }
+    requires { ⌜ at < maxNodes ⌝ }
     ensures { λ b. ⌜ (length (now (w .exit)) ≡ length (now (w .entry))) × Tries (caseOf (now (t .entry)) (now (r .entry))) (answersOf (now (r .entry)) (now (w .entry))) (usersOf (now (r .entry)) (now (w .entry))) at goal node c (answersOf (now (r .entry)) (now (w .exit))) (usersOf (now (r .entry)) (now (w .exit))) b ⌝ }
 {
     let count = node.count;
@@ -147,7 +148,7 @@ fn try_binding(
 
 // Whether a parameter's term has a goal: one of the members given for it leads to it.
 fn check_given(t: &[u16], r: &[u32], w: &mut [u32], at: usize, goal: usize, node: Node) -> bool
-    requires { ⌜ at < 256 ⌝ }
+    requires { ⌜ at < maxNodes ⌝ }
     ensures { λ b. ⌜ (length (now (w .exit)) ≡ length (now (w .entry))) × (node ≡ nodeAt (now (t .entry)) (baseIn (now (r .entry))) at → (node .tag ≡ 0 → ⊥) → (node .tag ≡ 1 → ⊥) → ChecksTerm (caseOf (now (t .entry)) (now (r .entry))) (answersOf (now (r .entry)) (now (w .entry))) (usersOf (now (r .entry)) (now (w .entry))) at goal (answersOf (now (r .entry)) (now (w .exit))) (usersOf (now (r .entry)) (now (w .exit))) b) ⌝ }
 {
     let given = off(t, number_in(r, TEST_OWN), node.number);

@@ -7,9 +7,8 @@ use mathlib.Core.List.{List, _++_}
 use lib.ListN.{length, getD, take, drop, set, length-set, length-drop, List·getD-eq-default}
 use lib.Seq.{getD-take, getD-drop, ext-getD, take-all, getD-set-same, getD-set-other}
 use Rattle.index.specs.layout.Layout.{testUsers, testAnswers, testCells}
-use Rattle.answers.specs.Answers.{Under}
 use Rattle.term_check.specs.Worlds.{splitAt, fromIn, answersOf, usersOf}
-use Rattle.term_check.proofs.parts.Parting.{split-same, users-same, length-users, after-long, after-middle, after-front}
+use Rattle.term_check.proofs.parts.Parting.{split-same, users-same, length-users, after-long, after-middle, after-front, answers-lent}
 use Rattle.rounds.specs.tested.Tested.{Placed, Same, Writes, Clears, Freshens}
 use Rattle.rounds.proofs.tested.Clearing.{fresh-first}
 
@@ -109,8 +108,7 @@ module _ (r w : List ℕ) (split : ℕ) (es : split ≡ splitAt r w) (hs : split
       ∙ after-middle w m split (length w) hs (omega arith) e
 
   lent : take (length w - split) (drop split w) ≡ answersOf r w
-  unfolding answersOf
-  lent = take-all (length w - split) (drop split w) (omega (arith, length-drop split w)) ∙ ap (λ s. drop s w) es
+  lent = answers-lent r w split es hs
 
   pub fresh-part : (last : ℕ) → (length put ≡ length w) × (usersOf r put ≡ usersOf r w) × Freshens (answersOf r w) last (answersOf r put) 1
   fresh-part last = (

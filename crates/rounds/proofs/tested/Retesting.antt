@@ -2,12 +2,13 @@
 use Prim.Native.Nat.{ℕ, zero, suc, _+_, _/_, _%_, _<_, _≤_}
 use native.Mathlib.Omega.{arith}
 use native.Mathlib.Decide.{ℕ-discrete}
-use mathlib.Core.Path.{_≡_, refl, sym, subst, _∙_}
+use mathlib.Core.Path.{_≡_, sym, subst, _∙_}
 use mathlib.Core.Logic.{_⊎_, inl, inr}
 use mathlib.Core.Bool.{Bool, true, false, true≢false}
 use mathlib.Core.List.{List}
 use lib.ListN.{length, getD, drop}
 use Rattle.scheme.specs.Flags.{isKept}
+use Rattle.scheme.proofs.Flags.{kept-byte}
 use Rattle.casefile.specs.Fields.{field}
 use Rattle.index.specs.layout.Layout.{testCells}
 use Rattle.marks.specs.Marks.{In, Puts}
@@ -24,11 +25,6 @@ kept-not : (n : ℕ) → n ≡ 0 → isKept n ≡ true → ⊥
 unfolding isKept
 kept-not zero e k = true≢false (sym k)
 kept-not (suc n) e k = omega arith
-
-kept-so : (n : ℕ) → (n ≡ 0 → ⊥) → isKept n ≡ true
-unfolding isKept
-kept-so zero d = absurd (d refl)
-kept-so (suc n) d = refl
 
 -- a flag as it is read
 flag-is : (kept : List ℕ) (b flag : ℕ) → flag ≡ field 1 kept b → flag ≡ getD kept b 0
@@ -85,7 +81,7 @@ module _ (t sets firsts : List ℕ) (sizes : Sizes) (kept memo users failed : Li
           ranged = λ h m long g. ranged h m long g (ℕ-discrete (n .past) 0);
           answer = λ rs w ca ro u long h. (
             λ k no′. absurd (no′ (p .put (let few = w .few-bindings in omega arith))),
-            λ x no′. (kept-so (getD kept b 0) (λ z. ne (flag-is kept b flag e ∙ z)), told .no y rs kept w ca ro (new .fresh u) h),
+            λ x no′. (kept-byte (getD kept b 0) (λ z. ne (flag-is kept b flag e ∙ z)), told .no y rs kept w ca ro (new .fresh u) h),
           );
         }
       where

@@ -11,7 +11,7 @@ use lib.ListN.{length, getD, drop}
 use Rattle.scheme.specs.Terms.{nt, node, []ᵗ}
 use Rattle.scheme.specs.Prefix.{flat}
 use Rattle.scheme.specs.Reduction.{body}
-use Rattle.scheme.specs.Types.{Ty, state, final}
+use Rattle.scheme.specs.Types.{Ty, final}
 use Rattle.scheme.specs.Typing.{holds}
 use Rattle.scheme.specs.Acceptance.{holdsExactly}
 use Rattle.scheme.specs.Flags.{isKept}

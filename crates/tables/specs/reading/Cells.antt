@@ -1,13 +1,11 @@
 -- What our own crates promise each other; nothing here has to be believed.
 -- The flat table of a check, cell by cell. A row is asked for by a number modulo a limit that none reaches.
 use Prim.Native.Nat.{ℕ, zero, suc, _+_, _*_, _/_, _%_}
-use mathlib.Core.Path.{_≡_}
-use mathlib.Core.Bool.{Bool}
 use mathlib.Core.List.{List}
 use lib.Dec.{eqb}
 use lib.ListN.{getD}
 use Rattle.scheme.specs.Lists.{if_then_else_}
-use Rattle.index.specs.layout.Layout.{maxStates, maxNodes, maxMembers, maxConstructors, groupsAt, rowsAt, rowLimit, rowCells, resultCell, endCell, statesCell, arrowsCell, manyCell, goalCell, symbolCell, ownCell, membersCell, presentAt, aritiesAt, targetsBase, placeLimit, nodeCells, numberCell, nextCell, noNumber}
+use Rattle.index.specs.layout.Layout.{maxStates, maxNodes, maxMembers, maxConstructors, groupsAt, rowsAt, rowLimit, rowCells, resultCell, endCell, statesCell, arrowsCell, manyCell, symbolCell, ownCell, membersCell, presentAt, aritiesAt, targetsBase, placeLimit, nodeCells, numberCell, nextCell, noNumber}
 use Rattle.tables.specs.declared.reading.Node.{Node}
 
 -- where a row begins, and a cell of it

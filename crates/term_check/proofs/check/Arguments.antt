@@ -12,7 +12,8 @@ use Rattle.tables.specs.reading.Cells.{nodeAt, resultOf}
 use Rattle.tables.specs.Facts.{Goal, At, AllAt, off, closed, closeds}
 use Rattle.term_check.specs.notes.Notes.{baseIn}
 use Rattle.term_check.specs.Worlds.{Args, Case, World, Has, Setting, Ready, Includes, ChecksMembers, ChecksArgs, shut}
-use Rattle.term_check.proofs.Places.{nodes-some, no-terms, first-at, others-at}
+use Rattle.tables.proofs.nodes.Places.{first-at, others-at}
+use Rattle.term_check.proofs.Places.{nodes-some, no-terms}
 use Rattle.term_check.proofs.check.Keeping.{includes-less, includes-part, ready-on, keeps-all, keeps-on}
 
 -- the node of a term

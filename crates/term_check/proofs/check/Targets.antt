@@ -4,7 +4,7 @@ use native.Mathlib.Omega.{arith}
 use native.Mathlib.Nat.{pow-succ', div-div-eq-div-mul}
 use mathlib.Core.Path.{_≡_, refl, sym, ap, subst, _∙_}
 use mathlib.Core.Bool.{Bool, true, false, true≢false}
-use mathlib.Core.List.{List, [], _∷_, List·Memᴰ, List·Memᴰ·head, List·Memᴰ·eq-of-singleton}
+use mathlib.Core.List.{List, [], _∷_, List·Memᴰ·head, List·Memᴰ·eq-of-singleton}
 use Rattle.scheme.specs.Terms.{Terms, _∷ᵗ_, countᵗ}
 use Rattle.scheme.specs.Types.{state, members, takes}
 use Rattle.index.specs.layout.Layout.{maxStates}
@@ -12,7 +12,8 @@ use Rattle.tables.specs.reading.Cells.{nodeAt}
 use Rattle.tables.specs.Facts.{Goal, of-state, AllAt, closed, closeds}
 use Rattle.term_check.specs.notes.Notes.{baseIn}
 use Rattle.term_check.specs.Worlds.{Args, Case, World, Has, Ready, Includes, ChecksTerm, ChecksTargets, Targets, shut}
-use Rattle.term_check.proofs.Places.{no-terms, first-at}
+use Rattle.tables.proofs.nodes.Places.{first-at}
+use Rattle.term_check.proofs.Places.{no-terms}
 use Rattle.term_check.proofs.check.Keeping.{includes-less, includes-part, ready-on, keeps-all, keeps-on}
 use Rattle.term_check.proofs.check.Arguments.{node-there, closed-first, Several, several, some-terms, next-on, stuck}
 

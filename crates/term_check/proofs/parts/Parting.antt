@@ -108,11 +108,15 @@ module _ (w m : List ℕ) (a b : ℕ) (h : a ≤ b) (k : b ≤ length w) (e : le
   pub before-middle : take (b - a) (drop a w) ≡ drop a (take b w)
   before-middle = sym (ap (λ n. drop a (take n w)) (sym up) ∙ ap (drop a) (take-add a (b - a) w) ∙ drop-at (take a w) (take (b - a) (drop a w)) a front)
 
+-- the answers as they are lent
+pub answers-lent : (r w : List ℕ) (split : ℕ) → split ≡ splitAt r w → split ≤ length w → take (length w - split) (drop split w) ≡ answersOf r w
+unfolding answersOf
+answers-lent r w split es hs = take-all (length w - split) (drop split w) (omega (arith, length-drop split w)) ∙ ap (λ s. drop s w) es
+
 -- the answers, lent
 module _ (r w : List ℕ) (split wide stamp : ℕ) (closed : Bool) (es : split ≡ splitAt r w) (hs : split ≤ length w) (ew : wide ≡ wideIn r) (et : stamp ≡ stampOf r closed) where
   lent : take (length w - split) (drop split w) ≡ answersOf r w
-  unfolding answersOf
-  lent = take-all (length w - split) (drop split w) (omega (arith, length-drop split w)) ∙ ap (λ s. drop s w) es
+  lent = answers-lent r w split es hs
 
   moved : (P : List ℕ → ℕ → ℕ → Type 0) → P (take (length w - split) (drop split w)) wide stamp → P (answersOf r w) (wideIn r) (stampOf r closed)
   moved P p = subst (λ m. P m (wideIn r) (stampOf r closed)) lent (subst (λ v. P (take (length w - split) (drop split w)) v (stampOf r closed)) ew (subst (P (take (length w - split) (drop split w)) wide) et p))

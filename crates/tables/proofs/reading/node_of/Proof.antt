@@ -3,39 +3,28 @@ use Rattle.tables.proofs.reading.Offs.{node-made}
 use borrow.Author.Needs.{needs}
 use Rattle.tables.proofs.reading.node_of.Statement.{statement}
 use Rattle.tables.proofs.reading.node_of.Tie as tie
-use Rattle.tables.proofs.reading.node_of.Reads as reads
-use Rattle.tables.proofs.reading.node_of.Lts as lts
-use Rattle.index.proofs.entries.place_at.Reads as place-at-reads
 
--- src/reading.rt:151:37
 mul-cell : tie.Need-mul-cell
 mul-cell c = search needs
 
--- src/reading.rt:151:16
 add-cell : tie.Need-add-cell
 add-cell c = search needs
 
--- src/reading.rt:152:9
 place-at-requires : tie.Need-place-at-requires
 place-at-requires c κs = search needs
 
--- src/reading.rt:153:30
 add-place-at : tie.Need-add-place-at
 add-place-at c = search needs
 
--- src/reading.rt:153:9
 place-at-requires-2 : tie.Need-place-at-requires-2
 place-at-requires-2 c κs = search needs
 
--- src/reading.rt:154:28
 add-place-at-2 : tie.Need-add-place-at-2
 add-place-at-2 c = search needs
 
--- src/reading.rt:154:9
 place-at-requires-3 : tie.Need-place-at-requires-3
 place-at-requires-3 c κs = search needs
 
--- src/reading.rt:148:1
 returns : tie.Need-returns
 returns c = node-made _ _ _ _ _ _ (c .before .before .place-at .ensures .value) (c .before .place-at2 .ensures .value) (c .place-at3 .ensures .value)
 

@@ -5,9 +5,6 @@ use borrow.Author.Needs.{needs}
 use Rattle.tables.proofs.reading.Offs.{Left, left-start, left-none, left-next, left-end}
 use Rattle.tables.proofs.reading.off.Statement.{statement}
 use Rattle.tables.proofs.reading.off.Tie as tie
-use Rattle.tables.proofs.reading.off.Reads as reads
-use Rattle.tables.proofs.reading.off.Lts as lts
-use Rattle.tables.proofs.reading.result_of.Reads as result-of-reads
 
 abbrev Inv-loop : tie.InvT-loop
 Inv-loop t goal k g₀ i₀ g i = Left t goal k g i
@@ -15,31 +12,24 @@ Inv-loop t goal k g₀ i₀ g i = Left t goal k g i
 abbrev μ-loop : tie.MeasureT-loop
 μ-loop t goal k g₀ i₀ g i = k - i
 
--- src/reading.rt:116:5
 loop-holds : tie.Need-loop-holds Inv-loop μ-loop
 loop-holds c = left-start _ _ _
 
--- src/reading.rt:118:13
 returns : tie.Need-returns Inv-loop μ-loop
 returns c = left-none _ (c .before .before .loop .inv) (c .before .loop-test .taken) (c .if1 .taken)
 
--- src/reading.rt:120:9
 result-of-requires : tie.Need-result-of-requires Inv-loop μ-loop
 result-of-requires c κs = search needs
 
--- src/reading.rt:121:13
 add-i : tie.Need-add-i Inv-loop μ-loop
 add-i c = search needs
 
--- src/reading.rt:116:5
 loop-less : tie.Need-loop-less Inv-loop μ-loop
 loop-less c = search needs
 
--- src/reading.rt:116:5
 loop-again : tie.Need-loop-again Inv-loop μ-loop
 loop-again c = left-next _ (c .before .before .before .loop .inv) _ _ (c .before .before .loop-test .taken) (c .before .if1 .left) (c .result-of .ensures .0) (omega arith)
 
--- src/reading.rt:111:1
 returns-2 : tie.Need-returns-2 Inv-loop μ-loop
 returns-2 c = left-end _ (c .before .loop .inv) (omega arith)
 

@@ -158,192 +158,80 @@ abbrev try-binding-below : ℕ → In 3 try-binding-kinds.ps
 try-binding-below t =
     and 3 try-binding-kinds.ps (falls 3 try-binding-kinds.ps _<_ μ-try-binding t) try-binding.Pre
 
+abbrev check-args-claims : ℕ → check-args-lts.Claims
+check-args-claims t =
+    (number-in-reads.Asked, number-in-reads.Learnt, node-of-reads.Asked, node-of-reads.Learnt, check-members-below t, check-members.Post, result-of-reads.Asked, result-of-reads.Learnt)
+
+abbrev check-bound-claims : ℕ → check-bound-lts.Claims
+check-bound-claims t =
+    (number-in-reads.Asked, number-in-reads.Learnt, group-of-reads.Asked, group-of-reads.Learnt, head-hint-reads.Asked, head-hint-reads.Learnt, node-hint-reads.Asked, node-hint-reads.Learnt, try-binding-below t, try-binding.Post, next-in-reads.Asked, next-in-reads.Learnt)
+
+abbrev check-given-claims : ℕ → check-given-lts.Claims
+check-given-claims t =
+    (number-in-reads.Asked, number-in-reads.Learnt, off-reads.Asked, off-reads.Learnt, many-of-reads.Asked, many-of-reads.Learnt, member-of-reads.Asked, member-of-reads.Learnt, check-args-below t, check-args.Post)
+
+abbrev check-members-claims : ℕ → check-members-lts.Claims
+check-members-claims t =
+    (decided-reads.Asked, decided-reads.Learnt, number-in-reads.Asked, number-in-reads.Learnt, node-of-reads.Asked, node-of-reads.Learnt, many-of-reads.Asked, many-of-reads.Learnt, member-of-reads.Asked, member-of-reads.Learnt, recall-in-reads.Asked, recall-in-reads.Learnt, check-term-below t, check-term.Post, learn-in-reads.Asked, learn-in-reads.Learnt)
+
+abbrev check-targets-claims : ℕ → check-targets-lts.Claims
+check-targets-claims t =
+    (number-in-reads.Asked, number-in-reads.Learnt, node-of-reads.Asked, node-of-reads.Learnt, check-term-below t, check-term.Post)
+
+abbrev check-term-claims : ℕ → check-term-lts.Claims
+check-term-claims t =
+    (number-in-reads.Asked, number-in-reads.Learnt, node-of-reads.Asked, node-of-reads.Learnt, targets-for-reads.Asked, targets-for-reads.Learnt, check-targets-below t, check-targets.Post, check-bound-below t, check-bound.Post, alone-reads.Asked, alone-reads.Learnt, check-given-below t, check-given.Post)
+
+abbrev try-binding-claims : ℕ → try-binding-lts.Claims
+try-binding-claims t =
+    (candidate-reads.Asked, candidate-reads.Learnt, check-args-below t, check-args.Post, note-in-reads.Asked, note-in-reads.Learnt, hint-in-reads.Asked, hint-in-reads.Learnt)
+
 abbrev check-args-Inv-loop : check-args-lts.InvT-loop
 check-args-Inv-loop t r w₀ at count ty base here₀ rest₀ left₀ w here rest left = (length w ≡ length w₀) × (at ≤ here) × ((memo′ users′ : List ℕ) (b : Bool) → ChecksArgs (caseOf t r) (answersOf r w) (usersOf r w) here left rest memo′ users′ b → ChecksArgs (caseOf t r) (answersOf r w₀) (usersOf r w₀) at count ty memo′ users′ b)
 
 abbrev check-args-μ-loop : check-args-lts.MeasureT-loop
 check-args-μ-loop t r w₀ at count ty base here₀ rest₀ left₀ w here rest left = left
 
--- src/check.rt:175:9
-check-args-number-in-requires : (t : ℕ) → check-args-lts.Need-number-in-requires (
-  number-in-reads.Asked,
-  number-in-reads.Learnt,
-  node-of-reads.Asked,
-  node-of-reads.Learnt,
-  check-members-below t,
-  check-members.Post,
-  result-of-reads.Asked,
-  result-of-reads.Learnt,
-) (check-args-at t) check-args.Post check-args-Inv-loop check-args-μ-loop
+check-args-number-in-requires : (t : ℕ) → check-args-lts.Need-number-in-requires (check-args-claims t) (check-args-at t) check-args.Post check-args-Inv-loop check-args-μ-loop
 check-args-number-in-requires t c κs = search needs
 
--- src/check.rt:179:5
-check-args-loop-holds : (t : ℕ) → check-args-lts.Need-loop-holds (
-  number-in-reads.Asked,
-  number-in-reads.Learnt,
-  node-of-reads.Asked,
-  node-of-reads.Learnt,
-  check-members-below t,
-  check-members.Post,
-  result-of-reads.Asked,
-  result-of-reads.Learnt,
-) (check-args-at t) check-args.Post check-args-Inv-loop check-args-μ-loop
+check-args-loop-holds : (t : ℕ) → check-args-lts.Need-loop-holds (check-args-claims t) (check-args-at t) check-args.Post check-args-Inv-loop check-args-μ-loop
 check-args-loop-holds t c = (refl, omega arith, λ _ _ _ told. told)
 
--- src/check.rt:180:20
-check-args-node-of-requires : (t : ℕ) → check-args-lts.Need-node-of-requires (
-  number-in-reads.Asked,
-  number-in-reads.Learnt,
-  node-of-reads.Asked,
-  node-of-reads.Learnt,
-  check-members-below t,
-  check-members.Post,
-  result-of-reads.Asked,
-  result-of-reads.Learnt,
-) (check-args-at t) check-args.Post check-args-Inv-loop check-args-μ-loop
+check-args-node-of-requires : (t : ℕ) → check-args-lts.Need-node-of-requires (check-args-claims t) (check-args-at t) check-args.Post check-args-Inv-loop check-args-μ-loop
 check-args-node-of-requires t c κs = search needs
 
--- src/check.rt:182:13
-check-args-same-length : (t : ℕ) → check-args-lts.Need-same-length (
-  number-in-reads.Asked,
-  number-in-reads.Learnt,
-  node-of-reads.Asked,
-  node-of-reads.Learnt,
-  check-members-below t,
-  check-members.Post,
-  result-of-reads.Asked,
-  result-of-reads.Learnt,
-) (check-args-at t) check-args.Post check-args-Inv-loop check-args-μ-loop
+check-args-same-length : (t : ℕ) → check-args-lts.Need-same-length (check-args-claims t) (check-args-at t) check-args.Post check-args-Inv-loop check-args-μ-loop
 check-args-same-length t c = c .before .before .before .loop .inv .0
 
--- src/check.rt:182:13
-check-args-returns : (t : ℕ) → check-args-lts.Need-returns (
-  number-in-reads.Asked,
-  number-in-reads.Learnt,
-  node-of-reads.Asked,
-  node-of-reads.Learnt,
-  check-members-below t,
-  check-members.Post,
-  result-of-reads.Asked,
-  result-of-reads.Learnt,
-) (check-args-at t) check-args.Post check-args-Inv-loop check-args-μ-loop
+check-args-returns : (t : ℕ) → check-args-lts.Need-returns (check-args-claims t) (check-args-at t) check-args.Post check-args-Inv-loop check-args-μ-loop
 check-args-returns t c = (c .before .before .before .loop .inv .0, c .before .before .before .loop .inv .2 _ _ _ (args-stuck _ _ _ _ _ _ (c .before .before .loop-test .taken) _ (next-by _ (now (c .before .before .before .before .before .before .before .before .args .r)) _ _ _ (c .before .before .before .before .number-in .ensures .0) (c .before .node-of .ensures)) (c .if1 .taken)))
 
--- src/check.rt:184:13
-check-args-check-members-requires : (t : ℕ) → check-args-lts.Need-check-members-requires (
-  number-in-reads.Asked,
-  number-in-reads.Learnt,
-  node-of-reads.Asked,
-  node-of-reads.Learnt,
-  check-members-below t,
-  check-members.Post,
-  result-of-reads.Asked,
-  result-of-reads.Learnt,
-) (check-args-at t) check-args.Post check-args-Inv-loop check-args-μ-loop
+check-args-check-members-requires : (t : ℕ) → check-args-lts.Need-check-members-requires (check-args-claims t) (check-args-at t) check-args.Post check-args-Inv-loop check-args-μ-loop
 check-args-check-members-requires t c κs = let p = c .before .before .before .before .before .before .before .before .before .pre .0 in let l = c .before .before .before .before .loop .inv .1 in (omega arith, Prim.tt)
 
--- src/check.rt:185:13
-check-args-same-length-2 : (t : ℕ) → check-args-lts.Need-same-length-2 (
-  number-in-reads.Asked,
-  number-in-reads.Learnt,
-  node-of-reads.Asked,
-  node-of-reads.Learnt,
-  check-members-below t,
-  check-members.Post,
-  result-of-reads.Asked,
-  result-of-reads.Learnt,
-) (check-args-at t) check-args.Post check-args-Inv-loop check-args-μ-loop
+check-args-same-length-2 : (t : ℕ) → check-args-lts.Need-same-length-2 (check-args-claims t) (check-args-at t) check-args.Post check-args-Inv-loop check-args-μ-loop
 check-args-same-length-2 t c = c .before .before .before .check-members .ensures .0 ∙ c .before .before .before .before .before .before .before .before .loop .inv .0
 
--- src/check.rt:185:13
-check-args-returns-2 : (t : ℕ) → check-args-lts.Need-returns-2 (
-  number-in-reads.Asked,
-  number-in-reads.Learnt,
-  node-of-reads.Asked,
-  node-of-reads.Learnt,
-  check-members-below t,
-  check-members.Post,
-  result-of-reads.Asked,
-  result-of-reads.Learnt,
-) (check-args-at t) check-args.Post check-args-Inv-loop check-args-μ-loop
+check-args-returns-2 : (t : ℕ) → check-args-lts.Need-returns-2 (check-args-claims t) (check-args-at t) check-args.Post check-args-Inv-loop check-args-μ-loop
 check-args-returns-2 t c = (c .before .before .before .check-members .ensures .0 ∙ c .before .before .before .before .before .before .before .before .loop .inv .0, c .before .before .before .before .before .before .before .before .loop .inv .2 _ _ _ (args-lack _ _ _ _ _ _ (c .before .before .before .before .before .before .before .loop-test .taken) _ (next-by _ (now (c .before .before .before .before .before .before .before .before .before .before .before .before .before .args .r)) _ _ _ (c .before .before .before .before .before .before .before .before .before .number-in .ensures .0) (c .before .before .before .before .before .before .node-of .ensures)) _ _ _ (c .before .before .before .check-members .ensures .1) (not-true _ (c .if2 .taken))))
 
--- src/check.rt:188:9
-check-args-result-of-requires : (t : ℕ) → check-args-lts.Need-result-of-requires (
-  number-in-reads.Asked,
-  number-in-reads.Learnt,
-  node-of-reads.Asked,
-  node-of-reads.Learnt,
-  check-members-below t,
-  check-members.Post,
-  result-of-reads.Asked,
-  result-of-reads.Learnt,
-) (check-args-at t) check-args.Post check-args-Inv-loop check-args-μ-loop
+check-args-result-of-requires : (t : ℕ) → check-args-lts.Need-result-of-requires (check-args-claims t) (check-args-at t) check-args.Post check-args-Inv-loop check-args-μ-loop
 check-args-result-of-requires t c κs = search needs
 
--- src/check.rt:189:16
-check-args-sub-left : (t : ℕ) → check-args-lts.Need-sub-left (
-  number-in-reads.Asked,
-  number-in-reads.Learnt,
-  node-of-reads.Asked,
-  node-of-reads.Learnt,
-  check-members-below t,
-  check-members.Post,
-  result-of-reads.Asked,
-  result-of-reads.Learnt,
-) (check-args-at t) check-args.Post check-args-Inv-loop check-args-μ-loop
+check-args-sub-left : (t : ℕ) → check-args-lts.Need-sub-left (check-args-claims t) (check-args-at t) check-args.Post check-args-Inv-loop check-args-μ-loop
 check-args-sub-left t c = let l = c .before .before .before .before .before .before .before .before .loop-test .taken in omega arith
 
--- src/check.rt:179:5
-check-args-loop-less : (t : ℕ) → check-args-lts.Need-loop-less (
-  number-in-reads.Asked,
-  number-in-reads.Learnt,
-  node-of-reads.Asked,
-  node-of-reads.Learnt,
-  check-members-below t,
-  check-members.Post,
-  result-of-reads.Asked,
-  result-of-reads.Learnt,
-) (check-args-at t) check-args.Post check-args-Inv-loop check-args-μ-loop
+check-args-loop-less : (t : ℕ) → check-args-lts.Need-loop-less (check-args-claims t) (check-args-at t) check-args.Post check-args-Inv-loop check-args-μ-loop
 check-args-loop-less t c = let l = c .before .before .before .before .before .before .before .before .loop-test .taken in omega arith
 
--- src/check.rt:179:5
-check-args-loop-again : (t : ℕ) → check-args-lts.Need-loop-again (
-  number-in-reads.Asked,
-  number-in-reads.Learnt,
-  node-of-reads.Asked,
-  node-of-reads.Learnt,
-  check-members-below t,
-  check-members.Post,
-  result-of-reads.Asked,
-  result-of-reads.Learnt,
-) (check-args-at t) check-args.Post check-args-Inv-loop check-args-μ-loop
+check-args-loop-again : (t : ℕ) → check-args-lts.Need-loop-again (check-args-claims t) (check-args-at t) check-args.Post check-args-Inv-loop check-args-μ-loop
 check-args-loop-again t c = (c .before .before .before .before .check-members .ensures .0 ∙ c .before .before .before .before .before .before .before .before .before .loop .inv .0, let l = c .before .before .before .before .before .before .before .before .before .loop .inv .1 in let h = c .before .before .before .before .before .before .if1 .left in omega arith, λ m u r told. c .before .before .before .before .before .before .before .before .before .loop .inv .2 m u r (args-rest _ _ _ _ _ _ (c .before .before .before .before .before .before .before .before .loop-test .taken) _ (next-by _ (now (c .before .before .before .before .before .before .before .before .before .before .before .before .before .before .args .r)) _ _ _ (c .before .before .before .before .before .before .before .before .before .before .number-in .ensures .0) (c .before .before .before .before .before .before .before .node-of .ensures)) _ _ _ (c .before .before .before .before .check-members .ensures .1) (not-false _ (c .before .if2 .left)) _ (c .result-of .ensures .0) m u r told))
 
--- src/check.rt:172:1
-check-args-same-length-3 : (t : ℕ) → check-args-lts.Need-same-length-3 (
-  number-in-reads.Asked,
-  number-in-reads.Learnt,
-  node-of-reads.Asked,
-  node-of-reads.Learnt,
-  check-members-below t,
-  check-members.Post,
-  result-of-reads.Asked,
-  result-of-reads.Learnt,
-) (check-args-at t) check-args.Post check-args-Inv-loop check-args-μ-loop
+check-args-same-length-3 : (t : ℕ) → check-args-lts.Need-same-length-3 (check-args-claims t) (check-args-at t) check-args.Post check-args-Inv-loop check-args-μ-loop
 check-args-same-length-3 t c = c .before .loop .inv .0
 
--- src/check.rt:172:1
-check-args-returns-3 : (t : ℕ) → check-args-lts.Need-returns-3 (
-  number-in-reads.Asked,
-  number-in-reads.Learnt,
-  node-of-reads.Asked,
-  node-of-reads.Learnt,
-  check-members-below t,
-  check-members.Post,
-  result-of-reads.Asked,
-  result-of-reads.Learnt,
-) (check-args-at t) check-args.Post check-args-Inv-loop check-args-μ-loop
+check-args-returns-3 : (t : ℕ) → check-args-lts.Need-returns-3 (check-args-claims t) (check-args-at t) check-args.Post check-args-Inv-loop check-args-μ-loop
 check-args-returns-3 t c = (c .before .loop .inv .0, c .before .loop .inv .2 _ _ _ (args-none _ _ _ (c .before .loop .here) _ _ (c .loop-test .left)))
 
 abbrev check-bound-Inv-loop : check-bound-lts.InvT-loop
@@ -352,344 +240,64 @@ check-bound-Inv-loop t r w₀ at goal node row high from₀ c₀ spare₀ w from
 abbrev check-bound-μ-loop : check-bound-lts.MeasureT-loop
 check-bound-μ-loop t r w₀ at goal node row high from₀ c₀ spare₀ w from c spare = trials high from spare
 
--- src/check.rt:102:48
-check-bound-number-in-requires : (t : ℕ) → check-bound-lts.Need-number-in-requires (
-  number-in-reads.Asked,
-  number-in-reads.Learnt,
-  group-of-reads.Asked,
-  group-of-reads.Learnt,
-  head-hint-reads.Asked,
-  head-hint-reads.Learnt,
-  node-hint-reads.Asked,
-  node-hint-reads.Learnt,
-  try-binding-below t,
-  try-binding.Post,
-  next-in-reads.Asked,
-  next-in-reads.Learnt,
-) (check-bound-at t) check-bound.Post check-bound-Inv-loop check-bound-μ-loop
+check-bound-number-in-requires : (t : ℕ) → check-bound-lts.Need-number-in-requires (check-bound-claims t) (check-bound-at t) check-bound.Post check-bound-Inv-loop check-bound-μ-loop
 check-bound-number-in-requires t c κs = search needs
 
--- src/check.rt:102:28
-check-bound-mul-row : (t : ℕ) → check-bound-lts.Need-mul-row (
-  number-in-reads.Asked,
-  number-in-reads.Learnt,
-  group-of-reads.Asked,
-  group-of-reads.Learnt,
-  head-hint-reads.Asked,
-  head-hint-reads.Learnt,
-  node-hint-reads.Asked,
-  node-hint-reads.Learnt,
-  try-binding-below t,
-  try-binding.Post,
-  next-in-reads.Asked,
-  next-in-reads.Learnt,
-) (check-bound-at t) check-bound.Post check-bound-Inv-loop check-bound-μ-loop
+check-bound-mul-row : (t : ℕ) → check-bound-lts.Need-mul-row (check-bound-claims t) (check-bound-at t) check-bound.Post check-bound-Inv-loop check-bound-μ-loop
 check-bound-mul-row t c = let p = row-fits (c .before .before .before .before .args .goal) (c .number-in .result) in omega arith
 
--- src/check.rt:102:15
-check-bound-add-row : (t : ℕ) → check-bound-lts.Need-add-row (
-  number-in-reads.Asked,
-  number-in-reads.Learnt,
-  group-of-reads.Asked,
-  group-of-reads.Learnt,
-  head-hint-reads.Asked,
-  head-hint-reads.Learnt,
-  node-hint-reads.Asked,
-  node-hint-reads.Learnt,
-  try-binding-below t,
-  try-binding.Post,
-  next-in-reads.Asked,
-  next-in-reads.Learnt,
-) (check-bound-at t) check-bound.Post check-bound-Inv-loop check-bound-μ-loop
+check-bound-add-row : (t : ℕ) → check-bound-lts.Need-add-row (check-bound-claims t) (check-bound-at t) check-bound.Post check-bound-Inv-loop check-bound-μ-loop
 check-bound-add-row t c = let p = row-fits (c .before .before .before .before .args .goal) (c .number-in .result) in omega arith
 
--- src/check.rt:103:28
-check-bound-add-group-of : (t : ℕ) → check-bound-lts.Need-add-group-of (
-  number-in-reads.Asked,
-  number-in-reads.Learnt,
-  group-of-reads.Asked,
-  group-of-reads.Learnt,
-  head-hint-reads.Asked,
-  head-hint-reads.Learnt,
-  node-hint-reads.Asked,
-  node-hint-reads.Learnt,
-  try-binding-below t,
-  try-binding.Post,
-  next-in-reads.Asked,
-  next-in-reads.Learnt,
-) (check-bound-at t) check-bound.Post check-bound-Inv-loop check-bound-μ-loop
+check-bound-add-group-of : (t : ℕ) → check-bound-lts.Need-add-group-of (check-bound-claims t) (check-bound-at t) check-bound.Post check-bound-Inv-loop check-bound-μ-loop
 check-bound-add-group-of t c = search needs
 
--- src/check.rt:103:9
-check-bound-group-of-requires : (t : ℕ) → check-bound-lts.Need-group-of-requires (
-  number-in-reads.Asked,
-  number-in-reads.Learnt,
-  group-of-reads.Asked,
-  group-of-reads.Learnt,
-  head-hint-reads.Asked,
-  head-hint-reads.Learnt,
-  node-hint-reads.Asked,
-  node-hint-reads.Learnt,
-  try-binding-below t,
-  try-binding.Post,
-  next-in-reads.Asked,
-  next-in-reads.Learnt,
-) (check-bound-at t) check-bound.Post check-bound-Inv-loop check-bound-μ-loop
+check-bound-group-of-requires : (t : ℕ) → check-bound-lts.Need-group-of-requires (check-bound-claims t) (check-bound-at t) check-bound.Post check-bound-Inv-loop check-bound-μ-loop
 check-bound-group-of-requires t c κs = search needs
 
--- src/check.rt:104:9
-check-bound-group-of-requires-2 : (t : ℕ) → check-bound-lts.Need-group-of-requires-2 (
-  number-in-reads.Asked,
-  number-in-reads.Learnt,
-  group-of-reads.Asked,
-  group-of-reads.Learnt,
-  head-hint-reads.Asked,
-  head-hint-reads.Learnt,
-  node-hint-reads.Asked,
-  node-hint-reads.Learnt,
-  try-binding-below t,
-  try-binding.Post,
-  next-in-reads.Asked,
-  next-in-reads.Learnt,
-) (check-bound-at t) check-bound.Post check-bound-Inv-loop check-bound-μ-loop
+check-bound-group-of-requires-2 : (t : ℕ) → check-bound-lts.Need-group-of-requires-2 (check-bound-claims t) (check-bound-at t) check-bound.Post check-bound-Inv-loop check-bound-μ-loop
 check-bound-group-of-requires-2 t c κs = search needs
 
--- src/check.rt:105:9
-check-bound-head-hint-requires : (t : ℕ) → check-bound-lts.Need-head-hint-requires (
-  number-in-reads.Asked,
-  number-in-reads.Learnt,
-  group-of-reads.Asked,
-  group-of-reads.Learnt,
-  head-hint-reads.Asked,
-  head-hint-reads.Learnt,
-  node-hint-reads.Asked,
-  node-hint-reads.Learnt,
-  try-binding-below t,
-  try-binding.Post,
-  next-in-reads.Asked,
-  next-in-reads.Learnt,
-) (check-bound-at t) check-bound.Post check-bound-Inv-loop check-bound-μ-loop
+check-bound-head-hint-requires : (t : ℕ) → check-bound-lts.Need-head-hint-requires (check-bound-claims t) (check-bound-at t) check-bound.Post check-bound-Inv-loop check-bound-μ-loop
 check-bound-head-hint-requires t c κs = search needs
 
--- src/check.rt:106:9
-check-bound-node-hint-requires : (t : ℕ) → check-bound-lts.Need-node-hint-requires (
-  number-in-reads.Asked,
-  number-in-reads.Learnt,
-  group-of-reads.Asked,
-  group-of-reads.Learnt,
-  head-hint-reads.Asked,
-  head-hint-reads.Learnt,
-  node-hint-reads.Asked,
-  node-hint-reads.Learnt,
-  try-binding-below t,
-  try-binding.Post,
-  next-in-reads.Asked,
-  next-in-reads.Learnt,
-) (check-bound-at t) check-bound.Post check-bound-Inv-loop check-bound-μ-loop
+check-bound-node-hint-requires : (t : ℕ) → check-bound-lts.Need-node-hint-requires (check-bound-claims t) (check-bound-at t) check-bound.Post check-bound-Inv-loop check-bound-μ-loop
 check-bound-node-hint-requires t c κs = search needs
 
--- src/check.rt:107:5
-check-bound-loop-holds : (t : ℕ) → check-bound-lts.Need-loop-holds (
-  number-in-reads.Asked,
-  number-in-reads.Learnt,
-  group-of-reads.Asked,
-  group-of-reads.Learnt,
-  head-hint-reads.Asked,
-  head-hint-reads.Learnt,
-  node-hint-reads.Asked,
-  node-hint-reads.Learnt,
-  try-binding-below t,
-  try-binding.Post,
-  next-in-reads.Asked,
-  next-in-reads.Learnt,
-) (check-bound-at t) check-bound.Post check-bound-Inv-loop check-bound-μ-loop
+check-bound-loop-holds : (t : ℕ) → check-bound-lts.Need-loop-holds (check-bound-claims t) (check-bound-at t) check-bound.Post check-bound-Inv-loop check-bound-μ-loop
 check-bound-loop-holds t c = (refl, (λ ea et. tried-start _ _ _ _ _ _ _ _ (c .before .before .before .before .group-of2 .ensures .0)), λ ne. c .before .before .before .before .group-of2 .ensures .0)
 
--- src/check.rt:108:12
-check-bound-try-binding-requires : (t : ℕ) → check-bound-lts.Need-try-binding-requires (
-  number-in-reads.Asked,
-  number-in-reads.Learnt,
-  group-of-reads.Asked,
-  group-of-reads.Learnt,
-  head-hint-reads.Asked,
-  head-hint-reads.Learnt,
-  node-hint-reads.Asked,
-  node-hint-reads.Learnt,
-  try-binding-below t,
-  try-binding.Post,
-  next-in-reads.Asked,
-  next-in-reads.Learnt,
-) (check-bound-at t) check-bound.Post check-bound-Inv-loop check-bound-μ-loop
+check-bound-try-binding-requires : (t : ℕ) → check-bound-lts.Need-try-binding-requires (check-bound-claims t) (check-bound-at t) check-bound.Post check-bound-Inv-loop check-bound-μ-loop
 check-bound-try-binding-requires t c κs = let p = c .before .before .before .before .before .before .before .before .before .before .before .before .before .before .pre .0 in (omega arith, c .before .before .before .before .before .before .before .before .before .before .before .before .before .before .pre .1)
 
--- src/check.rt:109:13
-check-bound-same-length : (t : ℕ) → check-bound-lts.Need-same-length (
-  number-in-reads.Asked,
-  number-in-reads.Learnt,
-  group-of-reads.Asked,
-  group-of-reads.Learnt,
-  head-hint-reads.Asked,
-  head-hint-reads.Learnt,
-  node-hint-reads.Asked,
-  node-hint-reads.Learnt,
-  try-binding-below t,
-  try-binding.Post,
-  next-in-reads.Asked,
-  next-in-reads.Learnt,
-) (check-bound-at t) check-bound.Post check-bound-Inv-loop check-bound-μ-loop
+check-bound-same-length : (t : ℕ) → check-bound-lts.Need-same-length (check-bound-claims t) (check-bound-at t) check-bound.Post check-bound-Inv-loop check-bound-μ-loop
 check-bound-same-length t c = c .before .before .before .try-binding .ensures .0 ∙ c .before .before .before .before .before .before .loop .inv .0
 
--- src/check.rt:109:13
-check-bound-returns : (t : ℕ) → check-bound-lts.Need-returns (
-  number-in-reads.Asked,
-  number-in-reads.Learnt,
-  group-of-reads.Asked,
-  group-of-reads.Learnt,
-  head-hint-reads.Asked,
-  head-hint-reads.Learnt,
-  node-hint-reads.Asked,
-  node-hint-reads.Learnt,
-  try-binding-below t,
-  try-binding.Post,
-  next-in-reads.Asked,
-  next-in-reads.Learnt,
-) (check-bound-at t) check-bound.Post check-bound-Inv-loop check-bound-μ-loop
+check-bound-returns : (t : ℕ) → check-bound-lts.Need-returns (check-bound-claims t) (check-bound-at t) check-bound.Post check-bound-Inv-loop check-bound-μ-loop
 check-bound-returns t c = (c .before .before .before .try-binding .ensures .0 ∙ c .before .before .before .before .before .before .loop .inv .0, λ ea et. tried-serves _ _ _ _ _ _ (c .before .before .before .before .before .before .loop .inv .1 ea et) _ _ _ ea et (c .before .before .before .try-binding .ensures .1) (c .if1 .taken))
 
--- src/check.rt:107:5
-check-bound-loop-less : (t : ℕ) → check-bound-lts.Need-loop-less (
-  number-in-reads.Asked,
-  number-in-reads.Learnt,
-  group-of-reads.Asked,
-  group-of-reads.Learnt,
-  head-hint-reads.Asked,
-  head-hint-reads.Learnt,
-  node-hint-reads.Asked,
-  node-hint-reads.Learnt,
-  try-binding-below t,
-  try-binding.Post,
-  next-in-reads.Asked,
-  next-in-reads.Learnt,
-) (check-bound-at t) check-bound.Post check-bound-Inv-loop check-bound-μ-loop
+check-bound-loop-less : (t : ℕ) → check-bound-lts.Need-loop-less (check-bound-claims t) (check-bound-at t) check-bound.Post check-bound-Inv-loop check-bound-μ-loop
 check-bound-loop-less t c = trials-hint _ _ _ (c .if2 .taken)
 
--- src/check.rt:107:5
-check-bound-loop-again : (t : ℕ) → check-bound-lts.Need-loop-again (
-  number-in-reads.Asked,
-  number-in-reads.Learnt,
-  group-of-reads.Asked,
-  group-of-reads.Learnt,
-  head-hint-reads.Asked,
-  head-hint-reads.Learnt,
-  node-hint-reads.Asked,
-  node-hint-reads.Learnt,
-  try-binding-below t,
-  try-binding.Post,
-  next-in-reads.Asked,
-  next-in-reads.Learnt,
-) (check-bound-at t) check-bound.Post check-bound-Inv-loop check-bound-μ-loop
+check-bound-loop-again : (t : ℕ) → check-bound-lts.Need-loop-again (check-bound-claims t) (check-bound-at t) check-bound.Post check-bound-Inv-loop check-bound-μ-loop
 check-bound-loop-again t c = (c .before .before .before .before .try-binding .ensures .0 ∙ c .before .before .before .before .before .before .before .loop .inv .0, (λ ea et. try-hint _ _ _ _ _ _ (tried-fails _ _ _ _ _ _ (c .before .before .before .before .before .before .before .loop .inv .1 ea et) _ _ _ ea et (c .before .before .before .before .try-binding .ensures .1) (c .before .if1 .left)) _ (c .before .before .before .before .before .before .before .loop .inv .2 (c .if2 .taken))), λ ne. absurd (ne refl))
 
--- src/check.rt:115:13
-check-bound-next-in-requires : (t : ℕ) → check-bound-lts.Need-next-in-requires (
-  number-in-reads.Asked,
-  number-in-reads.Learnt,
-  group-of-reads.Asked,
-  group-of-reads.Learnt,
-  head-hint-reads.Asked,
-  head-hint-reads.Learnt,
-  node-hint-reads.Asked,
-  node-hint-reads.Learnt,
-  try-binding-below t,
-  try-binding.Post,
-  next-in-reads.Asked,
-  next-in-reads.Learnt,
-) (check-bound-at t) check-bound.Post check-bound-Inv-loop check-bound-μ-loop
+check-bound-next-in-requires : (t : ℕ) → check-bound-lts.Need-next-in-requires (check-bound-claims t) (check-bound-at t) check-bound.Post check-bound-Inv-loop check-bound-μ-loop
 check-bound-next-in-requires t c κs = search needs
 
--- src/check.rt:116:20
-check-bound-add-from : (t : ℕ) → check-bound-lts.Need-add-from (
-  number-in-reads.Asked,
-  number-in-reads.Learnt,
-  group-of-reads.Asked,
-  group-of-reads.Learnt,
-  head-hint-reads.Asked,
-  head-hint-reads.Learnt,
-  node-hint-reads.Asked,
-  node-hint-reads.Learnt,
-  try-binding-below t,
-  try-binding.Post,
-  next-in-reads.Asked,
-  next-in-reads.Learnt,
-) (check-bound-at t) check-bound.Post check-bound-Inv-loop check-bound-μ-loop
+check-bound-add-from : (t : ℕ) → check-bound-lts.Need-add-from (check-bound-claims t) (check-bound-at t) check-bound.Post check-bound-Inv-loop check-bound-μ-loop
 check-bound-add-from t c = let w = c .next-in .ensures .within in let h = c .before .before .before .before .before .before .before .before .before .before .before .before .before .before .group-of .ensures .1 in omega arith
 
--- src/check.rt:107:5
-check-bound-loop-less-2 : (t : ℕ) → check-bound-lts.Need-loop-less-2 (
-  number-in-reads.Asked,
-  number-in-reads.Learnt,
-  group-of-reads.Asked,
-  group-of-reads.Learnt,
-  head-hint-reads.Asked,
-  head-hint-reads.Learnt,
-  node-hint-reads.Asked,
-  node-hint-reads.Learnt,
-  try-binding-below t,
-  try-binding.Post,
-  next-in-reads.Asked,
-  next-in-reads.Learnt,
-) (check-bound-at t) check-bound.Post check-bound-Inv-loop check-bound-μ-loop
+check-bound-loop-less-2 : (t : ℕ) → check-bound-lts.Need-loop-less-2 (check-bound-claims t) (check-bound-at t) check-bound.Post check-bound-Inv-loop check-bound-μ-loop
 check-bound-loop-less-2 t c = let h = c .before .before .before .before .before .before .before .loop-test .taken in trials-next _ _ _ _ h (let b = next-behind _ _ _ _ _ (c .next-in .ensures) h in omega arith)
 
--- src/check.rt:107:5
-check-bound-loop-again-2 : (t : ℕ) → check-bound-lts.Need-loop-again-2 (
-  number-in-reads.Asked,
-  number-in-reads.Learnt,
-  group-of-reads.Asked,
-  group-of-reads.Learnt,
-  head-hint-reads.Asked,
-  head-hint-reads.Learnt,
-  node-hint-reads.Asked,
-  node-hint-reads.Learnt,
-  try-binding-below t,
-  try-binding.Post,
-  next-in-reads.Asked,
-  next-in-reads.Learnt,
-) (check-bound-at t) check-bound.Post check-bound-Inv-loop check-bound-μ-loop
+check-bound-loop-again-2 : (t : ℕ) → check-bound-lts.Need-loop-again-2 (check-bound-claims t) (check-bound-at t) check-bound.Post check-bound-Inv-loop check-bound-μ-loop
 check-bound-loop-again-2 t c = (c .before .before .before .before .before .try-binding .ensures .0 ∙ c .before .before .before .before .before .before .before .before .loop .inv .0, (λ ea et. try-next _ _ _ _ _ _ (tried-fails _ _ _ _ _ _ (c .before .before .before .before .before .before .before .before .loop .inv .1 ea et) _ _ _ ea et (c .before .before .before .before .before .try-binding .ensures .1) (c .before .before .if1 .left)) _ _ _ _ (ap (λ k. (c .before .before .before .before .before .before .before .before .before .before .before .before .before .before .before .before .before .before .before .before .args .goal) % rowLimit * (k % wordsLimit)) (c .before .before .before .before .before .before .before .before .before .before .before .before .before .before .before .before .number-in .ensures .0)) (next-behind-sets _ testCells _ _ _ _ (c .next-in .ensures)) (omega arith)), λ ne. absurd (ne (c .before .if2 .left)))
 
--- src/check.rt:98:1
-check-bound-same-length-2 : (t : ℕ) → check-bound-lts.Need-same-length-2 (
-  number-in-reads.Asked,
-  number-in-reads.Learnt,
-  group-of-reads.Asked,
-  group-of-reads.Learnt,
-  head-hint-reads.Asked,
-  head-hint-reads.Learnt,
-  node-hint-reads.Asked,
-  node-hint-reads.Learnt,
-  try-binding-below t,
-  try-binding.Post,
-  next-in-reads.Asked,
-  next-in-reads.Learnt,
-) (check-bound-at t) check-bound.Post check-bound-Inv-loop check-bound-μ-loop
+check-bound-same-length-2 : (t : ℕ) → check-bound-lts.Need-same-length-2 (check-bound-claims t) (check-bound-at t) check-bound.Post check-bound-Inv-loop check-bound-μ-loop
 check-bound-same-length-2 t c = c .before .loop .inv .0
 
--- src/check.rt:98:1
-check-bound-returns-2 : (t : ℕ) → check-bound-lts.Need-returns-2 (
-  number-in-reads.Asked,
-  number-in-reads.Learnt,
-  group-of-reads.Asked,
-  group-of-reads.Learnt,
-  head-hint-reads.Asked,
-  head-hint-reads.Learnt,
-  node-hint-reads.Asked,
-  node-hint-reads.Learnt,
-  try-binding-below t,
-  try-binding.Post,
-  next-in-reads.Asked,
-  next-in-reads.Learnt,
-) (check-bound-at t) check-bound.Post check-bound-Inv-loop check-bound-μ-loop
+check-bound-returns-2 : (t : ℕ) → check-bound-lts.Need-returns-2 (check-bound-claims t) (check-bound-at t) check-bound.Post check-bound-Inv-loop check-bound-μ-loop
 check-bound-returns-2 t c = (c .before .loop .inv .0, λ ea et. tried-end _ _ _ _ _ _ (c .before .loop .inv .1 ea et) _ (c .before .before .before .before .before .before .before .group-of .ensures .0) (omega (arith, c .loop-test .left)) ea et)
 
 abbrev check-given-Inv-loop : check-given-lts.InvT-loop
@@ -698,274 +306,58 @@ check-given-Inv-loop t r w₀ at goal node given many j₀ w j = (length w ≡ l
 abbrev check-given-μ-loop : check-given-lts.MeasureT-loop
 check-given-μ-loop t r w₀ at goal node given many j₀ w j = many - j
 
--- src/check.rt:153:24
-check-given-number-in-requires : (t : ℕ) → check-given-lts.Need-number-in-requires (
-  number-in-reads.Asked,
-  number-in-reads.Learnt,
-  off-reads.Asked,
-  off-reads.Learnt,
-  many-of-reads.Asked,
-  many-of-reads.Learnt,
-  member-of-reads.Asked,
-  member-of-reads.Learnt,
-  check-args-below t,
-  check-args.Post,
-) (check-given-at t) check-given.Post check-given-Inv-loop check-given-μ-loop
+check-given-number-in-requires : (t : ℕ) → check-given-lts.Need-number-in-requires (check-given-claims t) (check-given-at t) check-given.Post check-given-Inv-loop check-given-μ-loop
 check-given-number-in-requires t c κs = search needs
 
--- src/check.rt:153:9
-check-given-off-requires : (t : ℕ) → check-given-lts.Need-off-requires (
-  number-in-reads.Asked,
-  number-in-reads.Learnt,
-  off-reads.Asked,
-  off-reads.Learnt,
-  many-of-reads.Asked,
-  many-of-reads.Learnt,
-  member-of-reads.Asked,
-  member-of-reads.Learnt,
-  check-args-below t,
-  check-args.Post,
-) (check-given-at t) check-given.Post check-given-Inv-loop check-given-μ-loop
+check-given-off-requires : (t : ℕ) → check-given-lts.Need-off-requires (check-given-claims t) (check-given-at t) check-given.Post check-given-Inv-loop check-given-μ-loop
 check-given-off-requires t c κs = search needs
 
--- src/check.rt:155:9
-check-given-returns : (t : ℕ) → check-given-lts.Need-returns (
-  number-in-reads.Asked,
-  number-in-reads.Learnt,
-  off-reads.Asked,
-  off-reads.Learnt,
-  many-of-reads.Asked,
-  many-of-reads.Learnt,
-  member-of-reads.Asked,
-  member-of-reads.Learnt,
-  check-args-below t,
-  check-args.Post,
-) (check-given-at t) check-given.Post check-given-Inv-loop check-given-μ-loop
+check-given-returns : (t : ℕ) → check-given-lts.Need-returns (check-given-claims t) (check-given-at t) check-given.Post check-given-Inv-loop check-given-μ-loop
 check-given-returns t c = (refl, λ ea nc nn. given-none _ _ _ _ _ _ _ (c .before .off .ensures ∙ ap (offOf _ _) (c .before .before .number-in .ensures .0)) ea nc nn (c .if1 .taken))
 
--- src/check.rt:157:9
-check-given-many-of-requires : (t : ℕ) → check-given-lts.Need-many-of-requires (
-  number-in-reads.Asked,
-  number-in-reads.Learnt,
-  off-reads.Asked,
-  off-reads.Learnt,
-  many-of-reads.Asked,
-  many-of-reads.Learnt,
-  member-of-reads.Asked,
-  member-of-reads.Learnt,
-  check-args-below t,
-  check-args.Post,
-) (check-given-at t) check-given.Post check-given-Inv-loop check-given-μ-loop
+check-given-many-of-requires : (t : ℕ) → check-given-lts.Need-many-of-requires (check-given-claims t) (check-given-at t) check-given.Post check-given-Inv-loop check-given-μ-loop
 check-given-many-of-requires t c κs = search needs
 
--- src/check.rt:159:5
-check-given-loop-holds : (t : ℕ) → check-given-lts.Need-loop-holds (
-  number-in-reads.Asked,
-  number-in-reads.Learnt,
-  off-reads.Asked,
-  off-reads.Learnt,
-  many-of-reads.Asked,
-  many-of-reads.Learnt,
-  member-of-reads.Asked,
-  member-of-reads.Learnt,
-  check-args-below t,
-  check-args.Post,
-) (check-given-at t) check-given.Post check-given-Inv-loop check-given-μ-loop
+check-given-loop-holds : (t : ℕ) → check-given-lts.Need-loop-holds (check-given-claims t) (check-given-at t) check-given.Post check-given-Inv-loop check-given-μ-loop
 check-given-loop-holds t c = (refl, given-start _ _ _ _ _ _ _)
 
--- src/check.rt:160:13
-check-given-member-of-requires : (t : ℕ) → check-given-lts.Need-member-of-requires (
-  number-in-reads.Asked,
-  number-in-reads.Learnt,
-  off-reads.Asked,
-  off-reads.Learnt,
-  many-of-reads.Asked,
-  many-of-reads.Learnt,
-  member-of-reads.Asked,
-  member-of-reads.Learnt,
-  check-args-below t,
-  check-args.Post,
-) (check-given-at t) check-given.Post check-given-Inv-loop check-given-μ-loop
+check-given-member-of-requires : (t : ℕ) → check-given-lts.Need-member-of-requires (check-given-claims t) (check-given-at t) check-given.Post check-given-Inv-loop check-given-μ-loop
 check-given-member-of-requires t c κs = search needs
 
--- src/check.rt:161:13
-check-given-add-j : (t : ℕ) → check-given-lts.Need-add-j (
-  number-in-reads.Asked,
-  number-in-reads.Learnt,
-  off-reads.Asked,
-  off-reads.Learnt,
-  many-of-reads.Asked,
-  many-of-reads.Learnt,
-  member-of-reads.Asked,
-  member-of-reads.Learnt,
-  check-args-below t,
-  check-args.Post,
-) (check-given-at t) check-given.Post check-given-Inv-loop check-given-μ-loop
+check-given-add-j : (t : ℕ) → check-given-lts.Need-add-j (check-given-claims t) (check-given-at t) check-given.Post check-given-Inv-loop check-given-μ-loop
 check-given-add-j t c = let h = c .before .loop-test .taken in let m = c .before .before .before .many-of .ensures .1 in omega arith
 
--- src/check.rt:162:12
-check-given-off-requires-2 : (t : ℕ) → check-given-lts.Need-off-requires-2 (
-  number-in-reads.Asked,
-  number-in-reads.Learnt,
-  off-reads.Asked,
-  off-reads.Learnt,
-  many-of-reads.Asked,
-  many-of-reads.Learnt,
-  member-of-reads.Asked,
-  member-of-reads.Learnt,
-  check-args-below t,
-  check-args.Post,
-) (check-given-at t) check-given.Post check-given-Inv-loop check-given-μ-loop
+check-given-off-requires-2 : (t : ℕ) → check-given-lts.Need-off-requires-2 (check-given-claims t) (check-given-at t) check-given.Post check-given-Inv-loop check-given-μ-loop
 check-given-off-requires-2 t c κs = search needs
 
--- src/check.rt:163:40
-check-given-add-check-args : (t : ℕ) → check-given-lts.Need-add-check-args (
-  number-in-reads.Asked,
-  number-in-reads.Learnt,
-  off-reads.Asked,
-  off-reads.Learnt,
-  many-of-reads.Asked,
-  many-of-reads.Learnt,
-  member-of-reads.Asked,
-  member-of-reads.Learnt,
-  check-args-below t,
-  check-args.Post,
-) (check-given-at t) check-given.Post check-given-Inv-loop check-given-μ-loop
+check-given-add-check-args : (t : ℕ) → check-given-lts.Need-add-check-args (check-given-claims t) (check-given-at t) check-given.Post check-given-Inv-loop check-given-μ-loop
 check-given-add-check-args t c = let h = c .before .before .before .before .before .before .before .before .before .before .before .before .before .pre .1 in omega arith
 
--- src/check.rt:163:16
-check-given-check-args-requires : (t : ℕ) → check-given-lts.Need-check-args-requires (
-  number-in-reads.Asked,
-  number-in-reads.Learnt,
-  off-reads.Asked,
-  off-reads.Learnt,
-  many-of-reads.Asked,
-  many-of-reads.Learnt,
-  member-of-reads.Asked,
-  member-of-reads.Learnt,
-  check-args-below t,
-  check-args.Post,
-) (check-given-at t) check-given.Post check-given-Inv-loop check-given-μ-loop
+check-given-check-args-requires : (t : ℕ) → check-given-lts.Need-check-args-requires (check-given-claims t) (check-given-at t) check-given.Post check-given-Inv-loop check-given-μ-loop
 check-given-check-args-requires t c κs = let p = c .before .before .before .before .before .before .before .before .before .before .before .before .before .pre .0 in let h = c .before .before .before .before .before .before .before .before .before .before .before .before .before .pre .1 in (omega arith, Prim.tt)
 
--- src/check.rt:164:17
-check-given-same-length : (t : ℕ) → check-given-lts.Need-same-length (
-  number-in-reads.Asked,
-  number-in-reads.Learnt,
-  off-reads.Asked,
-  off-reads.Learnt,
-  many-of-reads.Asked,
-  many-of-reads.Learnt,
-  member-of-reads.Asked,
-  member-of-reads.Learnt,
-  check-args-below t,
-  check-args.Post,
-) (check-given-at t) check-given.Post check-given-Inv-loop check-given-μ-loop
+check-given-same-length : (t : ℕ) → check-given-lts.Need-same-length (check-given-claims t) (check-given-at t) check-given.Post check-given-Inv-loop check-given-μ-loop
 check-given-same-length t c = c .before .before .before .check-args .ensures .0 ∙ c .before .before .before .before .before .before .before .before .before .loop .inv .0
 
--- src/check.rt:164:17
-check-given-returns-2 : (t : ℕ) → check-given-lts.Need-returns-2 (
-  number-in-reads.Asked,
-  number-in-reads.Learnt,
-  off-reads.Asked,
-  off-reads.Learnt,
-  many-of-reads.Asked,
-  many-of-reads.Learnt,
-  member-of-reads.Asked,
-  member-of-reads.Learnt,
-  check-args-below t,
-  check-args.Post,
-) (check-given-at t) check-given.Post check-given-Inv-loop check-given-μ-loop
+check-given-returns-2 : (t : ℕ) → check-given-lts.Need-returns-2 (check-given-claims t) (check-given-at t) check-given.Post check-given-Inv-loop check-given-μ-loop
 check-given-returns-2 t c = (c .before .before .before .check-args .ensures .0 ∙ c .before .before .before .before .before .before .before .before .before .loop .inv .0, λ ea nc nn. member-serves _ _ _ _ _ _ _ (c .before .before .before .before .before .before .before .before .before .before .before .before .off .ensures ∙ ap (offOf _ _) (c .before .before .before .before .before .before .before .before .before .before .before .before .before .number-in .ensures .0)) ea nc nn (c .before .before .before .before .before .before .before .before .before .loop .inv .1) _ (c .before .before .before .before .before .before .before .before .before .before .many-of .ensures .0) (c .before .before .before .before .before .before .before .before .loop-test .taken) (c .before .before .before .before .before .before .before .before .before .before .before .if1 .left) _ (c .before .before .before .before .before .before .before .member-of .ensures .0) _ (c .before .before .before .before .before .before .off2 .ensures) (c .before .before .before .before .before .if2 .taken) ((c .before .before .before .before .before .before .before .before .before .before .before .before .before .before .before .before .before .args .at) + 1) (omega arith) _ _ _ (c .before .before .before .check-args .ensures .1) (c .if3 .taken))
 
--- src/check.rt:159:5
-check-given-loop-less : (t : ℕ) → check-given-lts.Need-loop-less (
-  number-in-reads.Asked,
-  number-in-reads.Learnt,
-  off-reads.Asked,
-  off-reads.Learnt,
-  many-of-reads.Asked,
-  many-of-reads.Learnt,
-  member-of-reads.Asked,
-  member-of-reads.Learnt,
-  check-args-below t,
-  check-args.Post,
-) (check-given-at t) check-given.Post check-given-Inv-loop check-given-μ-loop
+check-given-loop-less : (t : ℕ) → check-given-lts.Need-loop-less (check-given-claims t) (check-given-at t) check-given.Post check-given-Inv-loop check-given-μ-loop
 check-given-loop-less t c = let h = c .before .before .before .before .before .before .before .before .loop-test .taken in omega arith
 
--- src/check.rt:159:5
-check-given-loop-again : (t : ℕ) → check-given-lts.Need-loop-again (
-  number-in-reads.Asked,
-  number-in-reads.Learnt,
-  off-reads.Asked,
-  off-reads.Learnt,
-  many-of-reads.Asked,
-  many-of-reads.Learnt,
-  member-of-reads.Asked,
-  member-of-reads.Learnt,
-  check-args-below t,
-  check-args.Post,
-) (check-given-at t) check-given.Post check-given-Inv-loop check-given-μ-loop
+check-given-loop-again : (t : ℕ) → check-given-lts.Need-loop-again (check-given-claims t) (check-given-at t) check-given.Post check-given-Inv-loop check-given-μ-loop
 check-given-loop-again t c = (c .before .before .before .check-args .ensures .0 ∙ c .before .before .before .before .before .before .before .before .before .loop .inv .0, member-fails _ _ _ _ _ _ _ (c .before .before .before .before .before .before .before .before .before .loop .inv .1) _ (c .before .before .before .before .before .before .before .member-of .ensures .0) _ (omega arith) _ (c .before .before .before .before .before .before .off2 .ensures) (c .before .before .before .before .before .if2 .taken) ((c .before .before .before .before .before .before .before .before .before .before .before .before .before .before .before .before .before .args .at) + 1) (omega arith) _ _ _ (c .before .before .before .check-args .ensures .1) (c .if3 .left))
 
--- src/check.rt:159:5
-check-given-loop-less-2 : (t : ℕ) → check-given-lts.Need-loop-less-2 (
-  number-in-reads.Asked,
-  number-in-reads.Learnt,
-  off-reads.Asked,
-  off-reads.Learnt,
-  many-of-reads.Asked,
-  many-of-reads.Learnt,
-  member-of-reads.Asked,
-  member-of-reads.Learnt,
-  check-args-below t,
-  check-args.Post,
-) (check-given-at t) check-given.Post check-given-Inv-loop check-given-μ-loop
+check-given-loop-less-2 : (t : ℕ) → check-given-lts.Need-loop-less-2 (check-given-claims t) (check-given-at t) check-given.Post check-given-Inv-loop check-given-μ-loop
 check-given-loop-less-2 t c = let h = c .before .before .before .loop-test .taken in omega arith
 
--- src/check.rt:159:5
-check-given-loop-again-2 : (t : ℕ) → check-given-lts.Need-loop-again-2 (
-  number-in-reads.Asked,
-  number-in-reads.Learnt,
-  off-reads.Asked,
-  off-reads.Learnt,
-  many-of-reads.Asked,
-  many-of-reads.Learnt,
-  member-of-reads.Asked,
-  member-of-reads.Learnt,
-  check-args-below t,
-  check-args.Post,
-) (check-given-at t) check-given.Post check-given-Inv-loop check-given-μ-loop
+check-given-loop-again-2 : (t : ℕ) → check-given-lts.Need-loop-again-2 (check-given-claims t) (check-given-at t) check-given.Post check-given-Inv-loop check-given-μ-loop
 check-given-loop-again-2 t c = (c .before .before .before .before .loop .inv .0, member-misses _ _ _ _ _ _ _ (c .before .before .before .before .loop .inv .1) _ (c .before .before .member-of .ensures .0) _ (omega arith) _ (c .before .off2 .ensures) (c .if2 .left))
 
--- src/check.rt:149:1
-check-given-same-length-2 : (t : ℕ) → check-given-lts.Need-same-length-2 (
-  number-in-reads.Asked,
-  number-in-reads.Learnt,
-  off-reads.Asked,
-  off-reads.Learnt,
-  many-of-reads.Asked,
-  many-of-reads.Learnt,
-  member-of-reads.Asked,
-  member-of-reads.Learnt,
-  check-args-below t,
-  check-args.Post,
-) (check-given-at t) check-given.Post check-given-Inv-loop check-given-μ-loop
+check-given-same-length-2 : (t : ℕ) → check-given-lts.Need-same-length-2 (check-given-claims t) (check-given-at t) check-given.Post check-given-Inv-loop check-given-μ-loop
 check-given-same-length-2 t c = c .before .loop .inv .0
 
--- src/check.rt:149:1
-check-given-returns-3 : (t : ℕ) → check-given-lts.Need-returns-3 (
-  number-in-reads.Asked,
-  number-in-reads.Learnt,
-  off-reads.Asked,
-  off-reads.Learnt,
-  many-of-reads.Asked,
-  many-of-reads.Learnt,
-  member-of-reads.Asked,
-  member-of-reads.Learnt,
-  check-args-below t,
-  check-args.Post,
-) (check-given-at t) check-given.Post check-given-Inv-loop check-given-μ-loop
+check-given-returns-3 : (t : ℕ) → check-given-lts.Need-returns-3 (check-given-claims t) (check-given-at t) check-given.Post check-given-Inv-loop check-given-μ-loop
 check-given-returns-3 t c = (c .before .loop .inv .0, λ ea nc nn. given-end _ _ _ _ _ _ _ (c .before .before .before .before .off .ensures ∙ ap (offOf _ _) (c .before .before .before .before .before .number-in .ensures .0)) ea nc nn (c .before .loop .inv .1) _ (c .before .before .many-of .ensures .0) (c .loop-test .left))
 
 abbrev check-members-Inv-loop : check-members-lts.InvT-loop
@@ -974,508 +366,76 @@ check-members-Inv-loop t r w₀ at ty known closed many j₀ w j = (length w ≡
 abbrev check-members-μ-loop : check-members-lts.MeasureT-loop
 check-members-μ-loop t r w₀ at ty known closed many j₀ w j = many - j
 
--- src/check.rt:198:9
-check-members-decided-requires : (t : ℕ) → check-members-lts.Need-decided-requires (
-  decided-reads.Asked,
-  decided-reads.Learnt,
-  number-in-reads.Asked,
-  number-in-reads.Learnt,
-  node-of-reads.Asked,
-  node-of-reads.Learnt,
-  many-of-reads.Asked,
-  many-of-reads.Learnt,
-  member-of-reads.Asked,
-  member-of-reads.Learnt,
-  recall-in-reads.Asked,
-  recall-in-reads.Learnt,
-  check-term-below t,
-  check-term.Post,
-  learn-in-reads.Asked,
-  learn-in-reads.Learnt,
-) (check-members-at t) check-members.Post check-members-Inv-loop check-members-μ-loop
+check-members-decided-requires : (t : ℕ) → check-members-lts.Need-decided-requires (check-members-claims t) (check-members-at t) check-members.Post check-members-Inv-loop check-members-μ-loop
 check-members-decided-requires t c κs = search needs
 
--- src/check.rt:200:9
-check-members-same-length : (t : ℕ) → check-members-lts.Need-same-length (
-  decided-reads.Asked,
-  decided-reads.Learnt,
-  number-in-reads.Asked,
-  number-in-reads.Learnt,
-  node-of-reads.Asked,
-  node-of-reads.Learnt,
-  many-of-reads.Asked,
-  many-of-reads.Learnt,
-  member-of-reads.Asked,
-  member-of-reads.Learnt,
-  recall-in-reads.Asked,
-  recall-in-reads.Learnt,
-  check-term-below t,
-  check-term.Post,
-  learn-in-reads.Asked,
-  learn-in-reads.Learnt,
-) (check-members-at t) check-members.Post check-members-Inv-loop check-members-μ-loop
+check-members-same-length : (t : ℕ) → check-members-lts.Need-same-length (check-members-claims t) (check-members-at t) check-members.Post check-members-Inv-loop check-members-μ-loop
 check-members-same-length t c = refl
 
--- src/check.rt:200:9
-check-members-returns : (t : ℕ) → check-members-lts.Need-returns (
-  decided-reads.Asked,
-  decided-reads.Learnt,
-  number-in-reads.Asked,
-  number-in-reads.Learnt,
-  node-of-reads.Asked,
-  node-of-reads.Learnt,
-  many-of-reads.Asked,
-  many-of-reads.Learnt,
-  member-of-reads.Asked,
-  member-of-reads.Learnt,
-  recall-in-reads.Asked,
-  recall-in-reads.Learnt,
-  check-term-below t,
-  check-term.Post,
-  learn-in-reads.Asked,
-  learn-in-reads.Learnt,
-) (check-members-at t) check-members.Post check-members-Inv-loop check-members-μ-loop
+check-members-returns : (t : ℕ) → check-members-lts.Need-returns (check-members-claims t) (check-members-at t) check-members.Post check-members-Inv-loop check-members-μ-loop
 check-members-returns t c = (refl, known-no _ _ _ _ _ _ (c .before .decided .ensures) (c .if1 .taken))
 
--- src/check.rt:203:9
-check-members-same-length-2 : (t : ℕ) → check-members-lts.Need-same-length-2 (
-  decided-reads.Asked,
-  decided-reads.Learnt,
-  number-in-reads.Asked,
-  number-in-reads.Learnt,
-  node-of-reads.Asked,
-  node-of-reads.Learnt,
-  many-of-reads.Asked,
-  many-of-reads.Learnt,
-  member-of-reads.Asked,
-  member-of-reads.Learnt,
-  recall-in-reads.Asked,
-  recall-in-reads.Learnt,
-  check-term-below t,
-  check-term.Post,
-  learn-in-reads.Asked,
-  learn-in-reads.Learnt,
-) (check-members-at t) check-members.Post check-members-Inv-loop check-members-μ-loop
+check-members-same-length-2 : (t : ℕ) → check-members-lts.Need-same-length-2 (check-members-claims t) (check-members-at t) check-members.Post check-members-Inv-loop check-members-μ-loop
 check-members-same-length-2 t c = refl
 
--- src/check.rt:203:9
-check-members-returns-2 : (t : ℕ) → check-members-lts.Need-returns-2 (
-  decided-reads.Asked,
-  decided-reads.Learnt,
-  number-in-reads.Asked,
-  number-in-reads.Learnt,
-  node-of-reads.Asked,
-  node-of-reads.Learnt,
-  many-of-reads.Asked,
-  many-of-reads.Learnt,
-  member-of-reads.Asked,
-  member-of-reads.Learnt,
-  recall-in-reads.Asked,
-  recall-in-reads.Learnt,
-  check-term-below t,
-  check-term.Post,
-  learn-in-reads.Asked,
-  learn-in-reads.Learnt,
-) (check-members-at t) check-members.Post check-members-Inv-loop check-members-μ-loop
+check-members-returns-2 : (t : ℕ) → check-members-lts.Need-returns-2 (check-members-claims t) (check-members-at t) check-members.Post check-members-Inv-loop check-members-μ-loop
 check-members-returns-2 t c = (refl, known-yes _ _ _ _ _ _ (c .before .before .decided .ensures) (c .if2 .taken))
 
--- src/check.rt:205:29
-check-members-number-in-requires : (t : ℕ) → check-members-lts.Need-number-in-requires (
-  decided-reads.Asked,
-  decided-reads.Learnt,
-  number-in-reads.Asked,
-  number-in-reads.Learnt,
-  node-of-reads.Asked,
-  node-of-reads.Learnt,
-  many-of-reads.Asked,
-  many-of-reads.Learnt,
-  member-of-reads.Asked,
-  member-of-reads.Learnt,
-  recall-in-reads.Asked,
-  recall-in-reads.Learnt,
-  check-term-below t,
-  check-term.Post,
-  learn-in-reads.Asked,
-  learn-in-reads.Learnt,
-) (check-members-at t) check-members.Post check-members-Inv-loop check-members-μ-loop
+check-members-number-in-requires : (t : ℕ) → check-members-lts.Need-number-in-requires (check-members-claims t) (check-members-at t) check-members.Post check-members-Inv-loop check-members-μ-loop
 check-members-number-in-requires t c κs = search needs
 
--- src/check.rt:205:18
-check-members-node-of-requires : (t : ℕ) → check-members-lts.Need-node-of-requires (
-  decided-reads.Asked,
-  decided-reads.Learnt,
-  number-in-reads.Asked,
-  number-in-reads.Learnt,
-  node-of-reads.Asked,
-  node-of-reads.Learnt,
-  many-of-reads.Asked,
-  many-of-reads.Learnt,
-  member-of-reads.Asked,
-  member-of-reads.Learnt,
-  recall-in-reads.Asked,
-  recall-in-reads.Learnt,
-  check-term-below t,
-  check-term.Post,
-  learn-in-reads.Asked,
-  learn-in-reads.Learnt,
-) (check-members-at t) check-members.Post check-members-Inv-loop check-members-μ-loop
+check-members-node-of-requires : (t : ℕ) → check-members-lts.Need-node-of-requires (check-members-claims t) (check-members-at t) check-members.Post check-members-Inv-loop check-members-μ-loop
 check-members-node-of-requires t c κs = search needs
 
--- src/check.rt:206:9
-check-members-many-of-requires : (t : ℕ) → check-members-lts.Need-many-of-requires (
-  decided-reads.Asked,
-  decided-reads.Learnt,
-  number-in-reads.Asked,
-  number-in-reads.Learnt,
-  node-of-reads.Asked,
-  node-of-reads.Learnt,
-  many-of-reads.Asked,
-  many-of-reads.Learnt,
-  member-of-reads.Asked,
-  member-of-reads.Learnt,
-  recall-in-reads.Asked,
-  recall-in-reads.Learnt,
-  check-term-below t,
-  check-term.Post,
-  learn-in-reads.Asked,
-  learn-in-reads.Learnt,
-) (check-members-at t) check-members.Post check-members-Inv-loop check-members-μ-loop
+check-members-many-of-requires : (t : ℕ) → check-members-lts.Need-many-of-requires (check-members-claims t) (check-members-at t) check-members.Post check-members-Inv-loop check-members-μ-loop
 check-members-many-of-requires t c κs = search needs
 
--- src/check.rt:208:5
-check-members-loop-holds : (t : ℕ) → check-members-lts.Need-loop-holds (
-  decided-reads.Asked,
-  decided-reads.Learnt,
-  number-in-reads.Asked,
-  number-in-reads.Learnt,
-  node-of-reads.Asked,
-  node-of-reads.Learnt,
-  many-of-reads.Asked,
-  many-of-reads.Learnt,
-  member-of-reads.Asked,
-  member-of-reads.Learnt,
-  recall-in-reads.Asked,
-  recall-in-reads.Learnt,
-  check-term-below t,
-  check-term.Post,
-  learn-in-reads.Asked,
-  learn-in-reads.Learnt,
-) (check-members-at t) check-members.Post check-members-Inv-loop check-members-μ-loop
+check-members-loop-holds : (t : ℕ) → check-members-lts.Need-loop-holds (check-members-claims t) (check-members-at t) check-members.Post check-members-Inv-loop check-members-μ-loop
 check-members-loop-holds t c = (refl, asked-start _ _ _ _ _)
 
--- src/check.rt:209:13
-check-members-member-of-requires : (t : ℕ) → check-members-lts.Need-member-of-requires (
-  decided-reads.Asked,
-  decided-reads.Learnt,
-  number-in-reads.Asked,
-  number-in-reads.Learnt,
-  node-of-reads.Asked,
-  node-of-reads.Learnt,
-  many-of-reads.Asked,
-  many-of-reads.Learnt,
-  member-of-reads.Asked,
-  member-of-reads.Learnt,
-  recall-in-reads.Asked,
-  recall-in-reads.Learnt,
-  check-term-below t,
-  check-term.Post,
-  learn-in-reads.Asked,
-  learn-in-reads.Learnt,
-) (check-members-at t) check-members.Post check-members-Inv-loop check-members-μ-loop
+check-members-member-of-requires : (t : ℕ) → check-members-lts.Need-member-of-requires (check-members-claims t) (check-members-at t) check-members.Post check-members-Inv-loop check-members-μ-loop
 check-members-member-of-requires t c κs = search needs
 
--- src/check.rt:210:13
-check-members-add-j : (t : ℕ) → check-members-lts.Need-add-j (
-  decided-reads.Asked,
-  decided-reads.Learnt,
-  number-in-reads.Asked,
-  number-in-reads.Learnt,
-  node-of-reads.Asked,
-  node-of-reads.Learnt,
-  many-of-reads.Asked,
-  many-of-reads.Learnt,
-  member-of-reads.Asked,
-  member-of-reads.Learnt,
-  recall-in-reads.Asked,
-  recall-in-reads.Learnt,
-  check-term-below t,
-  check-term.Post,
-  learn-in-reads.Asked,
-  learn-in-reads.Learnt,
-) (check-members-at t) check-members.Post check-members-Inv-loop check-members-μ-loop
+check-members-add-j : (t : ℕ) → check-members-lts.Need-add-j (check-members-claims t) (check-members-at t) check-members.Post check-members-Inv-loop check-members-μ-loop
 check-members-add-j t c = let h = c .before .loop-test .taken in let m = c .before .before .before .many-of .ensures .1 in omega arith
 
--- src/check.rt:211:13
-check-members-recall-in-requires : (t : ℕ) → check-members-lts.Need-recall-in-requires (
-  decided-reads.Asked,
-  decided-reads.Learnt,
-  number-in-reads.Asked,
-  number-in-reads.Learnt,
-  node-of-reads.Asked,
-  node-of-reads.Learnt,
-  many-of-reads.Asked,
-  many-of-reads.Learnt,
-  member-of-reads.Asked,
-  member-of-reads.Learnt,
-  recall-in-reads.Asked,
-  recall-in-reads.Learnt,
-  check-term-below t,
-  check-term.Post,
-  learn-in-reads.Asked,
-  learn-in-reads.Learnt,
-) (check-members-at t) check-members.Post check-members-Inv-loop check-members-μ-loop
+check-members-recall-in-requires : (t : ℕ) → check-members-lts.Need-recall-in-requires (check-members-claims t) (check-members-at t) check-members.Post check-members-Inv-loop check-members-μ-loop
 check-members-recall-in-requires t c κs = search needs
 
--- src/check.rt:213:13
-check-members-same-length-3 : (t : ℕ) → check-members-lts.Need-same-length-3 (
-  decided-reads.Asked,
-  decided-reads.Learnt,
-  number-in-reads.Asked,
-  number-in-reads.Learnt,
-  node-of-reads.Asked,
-  node-of-reads.Learnt,
-  many-of-reads.Asked,
-  many-of-reads.Learnt,
-  member-of-reads.Asked,
-  member-of-reads.Learnt,
-  recall-in-reads.Asked,
-  recall-in-reads.Learnt,
-  check-term-below t,
-  check-term.Post,
-  learn-in-reads.Asked,
-  learn-in-reads.Learnt,
-) (check-members-at t) check-members.Post check-members-Inv-loop check-members-μ-loop
+check-members-same-length-3 : (t : ℕ) → check-members-lts.Need-same-length-3 (check-members-claims t) (check-members-at t) check-members.Post check-members-Inv-loop check-members-μ-loop
 check-members-same-length-3 t c = c .before .before .before .before .before .loop .inv .0
 
--- src/check.rt:213:13
-check-members-returns-3 : (t : ℕ) → check-members-lts.Need-returns-3 (
-  decided-reads.Asked,
-  decided-reads.Learnt,
-  number-in-reads.Asked,
-  number-in-reads.Learnt,
-  node-of-reads.Asked,
-  node-of-reads.Learnt,
-  many-of-reads.Asked,
-  many-of-reads.Learnt,
-  member-of-reads.Asked,
-  member-of-reads.Learnt,
-  recall-in-reads.Asked,
-  recall-in-reads.Learnt,
-  check-term-below t,
-  check-term.Post,
-  learn-in-reads.Asked,
-  learn-in-reads.Learnt,
-) (check-members-at t) check-members.Post check-members-Inv-loop check-members-μ-loop
+check-members-returns-3 : (t : ℕ) → check-members-lts.Need-returns-3 (check-members-claims t) (check-members-at t) check-members.Post check-members-Inv-loop check-members-μ-loop
 check-members-returns-3 t c = (c .before .before .before .before .before .loop .inv .0, recalled-no _ _ _ _ _ (c .before .before .before .before .before .loop .inv .1) _ (c .before .before .before .before .before .before .many-of .ensures .0) (c .before .before .before .before .loop-test .taken) _ (c .before .before .before .member-of .ensures .0) _ _ (stamp-by _ (now (c .before .before .before .before .before .before .before .before .before .before .before .before .before .before .before .before .args .r)) _ _ _ (c .before .before .before .before .before .before .before .before .number-in .ensures .0) (c .before .before .before .before .before .before .before .node-of .ensures) _ refl) refl _ (c .before .recall-in .ensures) (c .if3 .taken))
 
--- src/check.rt:216:17
-check-members-check-term-requires : (t : ℕ) → check-members-lts.Need-check-term-requires (
-  decided-reads.Asked,
-  decided-reads.Learnt,
-  number-in-reads.Asked,
-  number-in-reads.Learnt,
-  node-of-reads.Asked,
-  node-of-reads.Learnt,
-  many-of-reads.Asked,
-  many-of-reads.Learnt,
-  member-of-reads.Asked,
-  member-of-reads.Learnt,
-  recall-in-reads.Asked,
-  recall-in-reads.Learnt,
-  check-term-below t,
-  check-term.Post,
-  learn-in-reads.Asked,
-  learn-in-reads.Learnt,
-) (check-members-at t) check-members.Post check-members-Inv-loop check-members-μ-loop
+check-members-check-term-requires : (t : ℕ) → check-members-lts.Need-check-term-requires (check-members-claims t) (check-members-at t) check-members.Post check-members-Inv-loop check-members-μ-loop
 check-members-check-term-requires t c κs = let p = c .before .before .before .before .before .before .before .before .before .before .before .before .before .before .before .before .before .before .pre .0 in (omega arith, Prim.tt)
 
--- src/check.rt:217:13
-check-members-learn-in-requires : (t : ℕ) → check-members-lts.Need-learn-in-requires (
-  decided-reads.Asked,
-  decided-reads.Learnt,
-  number-in-reads.Asked,
-  number-in-reads.Learnt,
-  node-of-reads.Asked,
-  node-of-reads.Learnt,
-  many-of-reads.Asked,
-  many-of-reads.Learnt,
-  member-of-reads.Asked,
-  member-of-reads.Learnt,
-  recall-in-reads.Asked,
-  recall-in-reads.Learnt,
-  check-term-below t,
-  check-term.Post,
-  learn-in-reads.Asked,
-  learn-in-reads.Learnt,
-) (check-members-at t) check-members.Post check-members-Inv-loop check-members-μ-loop
+check-members-learn-in-requires : (t : ℕ) → check-members-lts.Need-learn-in-requires (check-members-claims t) (check-members-at t) check-members.Post check-members-Inv-loop check-members-μ-loop
 check-members-learn-in-requires t c κs = search needs
 
--- src/check.rt:219:17
-check-members-same-length-4 : (t : ℕ) → check-members-lts.Need-same-length-4 (
-  decided-reads.Asked,
-  decided-reads.Learnt,
-  number-in-reads.Asked,
-  number-in-reads.Learnt,
-  node-of-reads.Asked,
-  node-of-reads.Learnt,
-  many-of-reads.Asked,
-  many-of-reads.Learnt,
-  member-of-reads.Asked,
-  member-of-reads.Learnt,
-  recall-in-reads.Asked,
-  recall-in-reads.Learnt,
-  check-term-below t,
-  check-term.Post,
-  learn-in-reads.Asked,
-  learn-in-reads.Learnt,
-) (check-members-at t) check-members.Post check-members-Inv-loop check-members-μ-loop
+check-members-same-length-4 : (t : ℕ) → check-members-lts.Need-same-length-4 (check-members-claims t) (check-members-at t) check-members.Post check-members-Inv-loop check-members-μ-loop
 check-members-same-length-4 t c = c .before .before .before .learn-in .ensures .0 ∙ c .before .before .before .before .before .before .before .check-term .ensures .0 ∙ c .before .before .before .before .before .before .before .before .before .before .before .before .before .before .before .loop .inv .0
 
--- src/check.rt:219:17
-check-members-returns-4 : (t : ℕ) → check-members-lts.Need-returns-4 (
-  decided-reads.Asked,
-  decided-reads.Learnt,
-  number-in-reads.Asked,
-  number-in-reads.Learnt,
-  node-of-reads.Asked,
-  node-of-reads.Learnt,
-  many-of-reads.Asked,
-  many-of-reads.Learnt,
-  member-of-reads.Asked,
-  member-of-reads.Learnt,
-  recall-in-reads.Asked,
-  recall-in-reads.Learnt,
-  check-term-below t,
-  check-term.Post,
-  learn-in-reads.Asked,
-  learn-in-reads.Learnt,
-) (check-members-at t) check-members.Post check-members-Inv-loop check-members-μ-loop
+check-members-returns-4 : (t : ℕ) → check-members-lts.Need-returns-4 (check-members-claims t) (check-members-at t) check-members.Post check-members-Inv-loop check-members-μ-loop
 check-members-returns-4 t c = (c .before .before .before .learn-in .ensures .0 ∙ c .before .before .before .before .before .before .before .check-term .ensures .0 ∙ c .before .before .before .before .before .before .before .before .before .before .before .before .before .before .before .loop .inv .0, members-moved _ _ _ _ _ _ _ _ _ (c .before .before .before .learn-in .ensures .1) (checked-no _ _ _ _ _ (c .before .before .before .before .before .before .before .before .before .before .before .before .before .before .before .loop .inv .1) _ (c .before .before .before .before .before .before .before .before .before .before .before .before .before .before .before .before .many-of .ensures .0) (c .before .before .before .before .before .before .before .before .before .before .before .before .before .before .loop-test .taken) _ (c .before .before .before .before .before .before .before .before .before .before .before .before .before .member-of .ensures .0) _ _ (stamp-by _ (now (c .before .before .before .before .before .before .before .before .before .before .before .before .before .before .before .before .before .before .before .before .before .before .before .before .before .before .args .r)) _ _ _ (c .before .before .before .before .before .before .before .before .before .before .before .before .before .before .before .before .before .before .number-in .ensures .0) (c .before .before .before .before .before .before .before .before .before .before .before .before .before .before .before .before .before .node-of .ensures) _ refl) refl _ _ _ (c .before .before .before .before .before .before .before .check-term .ensures .1) _ (c .before .before .before .learn-in .ensures .2) (not-true _ (c .if5 .taken))))
 
--- src/check.rt:208:5
-check-members-loop-less : (t : ℕ) → check-members-lts.Need-loop-less (
-  decided-reads.Asked,
-  decided-reads.Learnt,
-  number-in-reads.Asked,
-  number-in-reads.Learnt,
-  node-of-reads.Asked,
-  node-of-reads.Learnt,
-  many-of-reads.Asked,
-  many-of-reads.Learnt,
-  member-of-reads.Asked,
-  member-of-reads.Learnt,
-  recall-in-reads.Asked,
-  recall-in-reads.Learnt,
-  check-term-below t,
-  check-term.Post,
-  learn-in-reads.Asked,
-  learn-in-reads.Learnt,
-) (check-members-at t) check-members.Post check-members-Inv-loop check-members-μ-loop
+check-members-loop-less : (t : ℕ) → check-members-lts.Need-loop-less (check-members-claims t) (check-members-at t) check-members.Post check-members-Inv-loop check-members-μ-loop
 check-members-loop-less t c = let h = c .before .before .before .before .before .before .before .before .before .before .before .before .before .before .loop-test .taken in omega arith
 
--- src/check.rt:208:5
-check-members-loop-again : (t : ℕ) → check-members-lts.Need-loop-again (
-  decided-reads.Asked,
-  decided-reads.Learnt,
-  number-in-reads.Asked,
-  number-in-reads.Learnt,
-  node-of-reads.Asked,
-  node-of-reads.Learnt,
-  many-of-reads.Asked,
-  many-of-reads.Learnt,
-  member-of-reads.Asked,
-  member-of-reads.Learnt,
-  recall-in-reads.Asked,
-  recall-in-reads.Learnt,
-  check-term-below t,
-  check-term.Post,
-  learn-in-reads.Asked,
-  learn-in-reads.Learnt,
-) (check-members-at t) check-members.Post check-members-Inv-loop check-members-μ-loop
+check-members-loop-again : (t : ℕ) → check-members-lts.Need-loop-again (check-members-claims t) (check-members-at t) check-members.Post check-members-Inv-loop check-members-μ-loop
 check-members-loop-again t c = (c .before .before .before .learn-in .ensures .0 ∙ c .before .before .before .before .before .before .before .check-term .ensures .0 ∙ c .before .before .before .before .before .before .before .before .before .before .before .before .before .before .before .loop .inv .0, asked-moved _ _ _ _ _ _ _ _ _ (c .before .before .before .learn-in .ensures .1) (checked-yes _ _ _ _ _ (c .before .before .before .before .before .before .before .before .before .before .before .before .before .before .before .loop .inv .1) _ (c .before .before .before .before .before .before .before .before .before .before .before .before .before .before .before .before .many-of .ensures .0) (c .before .before .before .before .before .before .before .before .before .before .before .before .before .before .loop-test .taken) _ (c .before .before .before .before .before .before .before .before .before .before .before .before .before .member-of .ensures .0) _ _ (stamp-by _ (now (c .before .before .before .before .before .before .before .before .before .before .before .before .before .before .before .before .before .before .before .before .before .before .before .before .before .before .args .r)) _ _ _ (c .before .before .before .before .before .before .before .before .before .before .before .before .before .before .before .before .before .before .number-in .ensures .0) (c .before .before .before .before .before .before .before .before .before .before .before .before .before .before .before .before .before .node-of .ensures) _ refl) refl _ _ _ (c .before .before .before .before .before .before .before .check-term .ensures .1) _ (c .before .before .before .learn-in .ensures .2) (not-false _ (c .if5 .left)) _ (omega arith)))
 
--- src/check.rt:208:5
-check-members-loop-less-2 : (t : ℕ) → check-members-lts.Need-loop-less-2 (
-  decided-reads.Asked,
-  decided-reads.Learnt,
-  number-in-reads.Asked,
-  number-in-reads.Learnt,
-  node-of-reads.Asked,
-  node-of-reads.Learnt,
-  many-of-reads.Asked,
-  many-of-reads.Learnt,
-  member-of-reads.Asked,
-  member-of-reads.Learnt,
-  recall-in-reads.Asked,
-  recall-in-reads.Learnt,
-  check-term-below t,
-  check-term.Post,
-  learn-in-reads.Asked,
-  learn-in-reads.Learnt,
-) (check-members-at t) check-members.Post check-members-Inv-loop check-members-μ-loop
+check-members-loop-less-2 : (t : ℕ) → check-members-lts.Need-loop-less-2 (check-members-claims t) (check-members-at t) check-members.Post check-members-Inv-loop check-members-μ-loop
 check-members-loop-less-2 t c = let h = c .before .before .before .before .before .loop-test .taken in omega arith
 
--- src/check.rt:208:5
-check-members-loop-again-2 : (t : ℕ) → check-members-lts.Need-loop-again-2 (
-  decided-reads.Asked,
-  decided-reads.Learnt,
-  number-in-reads.Asked,
-  number-in-reads.Learnt,
-  node-of-reads.Asked,
-  node-of-reads.Learnt,
-  many-of-reads.Asked,
-  many-of-reads.Learnt,
-  member-of-reads.Asked,
-  member-of-reads.Learnt,
-  recall-in-reads.Asked,
-  recall-in-reads.Learnt,
-  check-term-below t,
-  check-term.Post,
-  learn-in-reads.Asked,
-  learn-in-reads.Learnt,
-) (check-members-at t) check-members.Post check-members-Inv-loop check-members-μ-loop
+check-members-loop-again-2 : (t : ℕ) → check-members-lts.Need-loop-again-2 (check-members-claims t) (check-members-at t) check-members.Post check-members-Inv-loop check-members-μ-loop
 check-members-loop-again-2 t c = (c .before .before .before .before .before .before .loop .inv .0, recalled-yes _ _ _ _ _ (c .before .before .before .before .before .before .loop .inv .1) _ (c .before .before .before .before .before .before .before .many-of .ensures .0) (c .before .before .before .before .before .loop-test .taken) _ (c .before .before .before .before .member-of .ensures .0) _ _ (stamp-by _ (now (c .before .before .before .before .before .before .before .before .before .before .before .before .before .before .before .before .before .args .r)) _ _ _ (c .before .before .before .before .before .before .before .before .before .number-in .ensures .0) (c .before .before .before .before .before .before .before .before .node-of .ensures) _ refl) refl _ (c .before .before .recall-in .ensures) (c .if4 .left) _ (omega arith))
 
--- src/check.rt:195:1
-check-members-same-length-5 : (t : ℕ) → check-members-lts.Need-same-length-5 (
-  decided-reads.Asked,
-  decided-reads.Learnt,
-  number-in-reads.Asked,
-  number-in-reads.Learnt,
-  node-of-reads.Asked,
-  node-of-reads.Learnt,
-  many-of-reads.Asked,
-  many-of-reads.Learnt,
-  member-of-reads.Asked,
-  member-of-reads.Learnt,
-  recall-in-reads.Asked,
-  recall-in-reads.Learnt,
-  check-term-below t,
-  check-term.Post,
-  learn-in-reads.Asked,
-  learn-in-reads.Learnt,
-) (check-members-at t) check-members.Post check-members-Inv-loop check-members-μ-loop
+check-members-same-length-5 : (t : ℕ) → check-members-lts.Need-same-length-5 (check-members-claims t) (check-members-at t) check-members.Post check-members-Inv-loop check-members-μ-loop
 check-members-same-length-5 t c = c .before .loop .inv .0
 
--- src/check.rt:195:1
-check-members-returns-5 : (t : ℕ) → check-members-lts.Need-returns-5 (
-  decided-reads.Asked,
-  decided-reads.Learnt,
-  number-in-reads.Asked,
-  number-in-reads.Learnt,
-  node-of-reads.Asked,
-  node-of-reads.Learnt,
-  many-of-reads.Asked,
-  many-of-reads.Learnt,
-  member-of-reads.Asked,
-  member-of-reads.Learnt,
-  recall-in-reads.Asked,
-  recall-in-reads.Learnt,
-  check-term-below t,
-  check-term.Post,
-  learn-in-reads.Asked,
-  learn-in-reads.Learnt,
-) (check-members-at t) check-members.Post check-members-Inv-loop check-members-μ-loop
+check-members-returns-5 : (t : ℕ) → check-members-lts.Need-returns-5 (check-members-claims t) (check-members-at t) check-members.Post check-members-Inv-loop check-members-μ-loop
 check-members-returns-5 t c = (c .before .loop .inv .0, asked-end _ _ _ _ _ (c .before .loop .inv .1) _ (c .before .before .many-of .ensures .0) (c .loop-test .left))
 
 abbrev check-targets-Inv-loop : check-targets-lts.InvT-loop
@@ -1484,619 +444,127 @@ check-targets-Inv-loop t r w₀ at count targets base here₀ rest₀ left₀ w 
 abbrev check-targets-μ-loop : check-targets-lts.MeasureT-loop
 check-targets-μ-loop t r w₀ at count targets base here₀ rest₀ left₀ w here rest left = left
 
--- src/check.rt:77:9
-check-targets-number-in-requires : (t : ℕ) → check-targets-lts.Need-number-in-requires (
-  number-in-reads.Asked,
-  number-in-reads.Learnt,
-  node-of-reads.Asked,
-  node-of-reads.Learnt,
-  check-term-below t,
-  check-term.Post,
-) (check-targets-at t) check-targets.Post check-targets-Inv-loop check-targets-μ-loop
+check-targets-number-in-requires : (t : ℕ) → check-targets-lts.Need-number-in-requires (check-targets-claims t) (check-targets-at t) check-targets.Post check-targets-Inv-loop check-targets-μ-loop
 check-targets-number-in-requires t c κs = search needs
 
--- src/check.rt:81:5
-check-targets-loop-holds : (t : ℕ) → check-targets-lts.Need-loop-holds (
-  number-in-reads.Asked,
-  number-in-reads.Learnt,
-  node-of-reads.Asked,
-  node-of-reads.Learnt,
-  check-term-below t,
-  check-term.Post,
-) (check-targets-at t) check-targets.Post check-targets-Inv-loop check-targets-μ-loop
+check-targets-loop-holds : (t : ℕ) → check-targets-lts.Need-loop-holds (check-targets-claims t) (check-targets-at t) check-targets.Post check-targets-Inv-loop check-targets-μ-loop
 check-targets-loop-holds t c = (refl, omega arith, λ _ _ _ told. told)
 
--- src/check.rt:82:20
-check-targets-node-of-requires : (t : ℕ) → check-targets-lts.Need-node-of-requires (
-  number-in-reads.Asked,
-  number-in-reads.Learnt,
-  node-of-reads.Asked,
-  node-of-reads.Learnt,
-  check-term-below t,
-  check-term.Post,
-) (check-targets-at t) check-targets.Post check-targets-Inv-loop check-targets-μ-loop
+check-targets-node-of-requires : (t : ℕ) → check-targets-lts.Need-node-of-requires (check-targets-claims t) (check-targets-at t) check-targets.Post check-targets-Inv-loop check-targets-μ-loop
 check-targets-node-of-requires t c κs = search needs
 
--- src/check.rt:84:13
-check-targets-same-length : (t : ℕ) → check-targets-lts.Need-same-length (
-  number-in-reads.Asked,
-  number-in-reads.Learnt,
-  node-of-reads.Asked,
-  node-of-reads.Learnt,
-  check-term-below t,
-  check-term.Post,
-) (check-targets-at t) check-targets.Post check-targets-Inv-loop check-targets-μ-loop
+check-targets-same-length : (t : ℕ) → check-targets-lts.Need-same-length (check-targets-claims t) (check-targets-at t) check-targets.Post check-targets-Inv-loop check-targets-μ-loop
 check-targets-same-length t c = c .before .before .before .loop .inv .0
 
--- src/check.rt:84:13
-check-targets-returns : (t : ℕ) → check-targets-lts.Need-returns (
-  number-in-reads.Asked,
-  number-in-reads.Learnt,
-  node-of-reads.Asked,
-  node-of-reads.Learnt,
-  check-term-below t,
-  check-term.Post,
-) (check-targets-at t) check-targets.Post check-targets-Inv-loop check-targets-μ-loop
+check-targets-returns : (t : ℕ) → check-targets-lts.Need-returns (check-targets-claims t) (check-targets-at t) check-targets.Post check-targets-Inv-loop check-targets-μ-loop
 check-targets-returns t c = (c .before .before .before .loop .inv .0, c .before .before .before .loop .inv .2 _ _ _ (targets-stuck _ _ _ _ _ _ (c .before .before .loop-test .taken) _ (next-by _ (now (c .before .before .before .before .before .before .before .before .args .r)) _ _ _ (c .before .before .before .before .number-in .ensures .0) (c .before .node-of .ensures)) (c .if1 .taken)))
 
--- src/check.rt:86:13
-check-targets-check-term-requires : (t : ℕ) → check-targets-lts.Need-check-term-requires (
-  number-in-reads.Asked,
-  number-in-reads.Learnt,
-  node-of-reads.Asked,
-  node-of-reads.Learnt,
-  check-term-below t,
-  check-term.Post,
-) (check-targets-at t) check-targets.Post check-targets-Inv-loop check-targets-μ-loop
+check-targets-check-term-requires : (t : ℕ) → check-targets-lts.Need-check-term-requires (check-targets-claims t) (check-targets-at t) check-targets.Post check-targets-Inv-loop check-targets-μ-loop
 check-targets-check-term-requires t c κs = let p = c .before .before .before .before .before .before .before .before .before .pre .0 in let l = c .before .before .before .before .loop .inv .1 in (omega arith, Prim.tt)
 
--- src/check.rt:87:13
-check-targets-same-length-2 : (t : ℕ) → check-targets-lts.Need-same-length-2 (
-  number-in-reads.Asked,
-  number-in-reads.Learnt,
-  node-of-reads.Asked,
-  node-of-reads.Learnt,
-  check-term-below t,
-  check-term.Post,
-) (check-targets-at t) check-targets.Post check-targets-Inv-loop check-targets-μ-loop
+check-targets-same-length-2 : (t : ℕ) → check-targets-lts.Need-same-length-2 (check-targets-claims t) (check-targets-at t) check-targets.Post check-targets-Inv-loop check-targets-μ-loop
 check-targets-same-length-2 t c = c .before .before .before .check-term .ensures .0 ∙ c .before .before .before .before .before .before .before .before .loop .inv .0
 
--- src/check.rt:87:13
-check-targets-returns-2 : (t : ℕ) → check-targets-lts.Need-returns-2 (
-  number-in-reads.Asked,
-  number-in-reads.Learnt,
-  node-of-reads.Asked,
-  node-of-reads.Learnt,
-  check-term-below t,
-  check-term.Post,
-) (check-targets-at t) check-targets.Post check-targets-Inv-loop check-targets-μ-loop
+check-targets-returns-2 : (t : ℕ) → check-targets-lts.Need-returns-2 (check-targets-claims t) (check-targets-at t) check-targets.Post check-targets-Inv-loop check-targets-μ-loop
 check-targets-returns-2 t c = (c .before .before .before .check-term .ensures .0 ∙ c .before .before .before .before .before .before .before .before .loop .inv .0, c .before .before .before .before .before .before .before .before .loop .inv .2 _ _ _ (targets-lack _ _ _ _ _ _ (c .before .before .before .before .before .before .before .loop-test .taken) _ (next-by _ (now (c .before .before .before .before .before .before .before .before .before .before .before .before .before .args .r)) _ _ _ (c .before .before .before .before .before .before .before .before .before .number-in .ensures .0) (c .before .before .before .before .before .before .node-of .ensures)) _ _ _ (c .before .before .before .check-term .ensures .1) (not-true _ (c .if2 .taken))))
 
--- src/check.rt:91:16
-check-targets-sub-left : (t : ℕ) → check-targets-lts.Need-sub-left (
-  number-in-reads.Asked,
-  number-in-reads.Learnt,
-  node-of-reads.Asked,
-  node-of-reads.Learnt,
-  check-term-below t,
-  check-term.Post,
-) (check-targets-at t) check-targets.Post check-targets-Inv-loop check-targets-μ-loop
+check-targets-sub-left : (t : ℕ) → check-targets-lts.Need-sub-left (check-targets-claims t) (check-targets-at t) check-targets.Post check-targets-Inv-loop check-targets-μ-loop
 check-targets-sub-left t c = let l = c .before .before .before .before .before .before .before .loop-test .taken in omega arith
 
--- src/check.rt:81:5
-check-targets-loop-less : (t : ℕ) → check-targets-lts.Need-loop-less (
-  number-in-reads.Asked,
-  number-in-reads.Learnt,
-  node-of-reads.Asked,
-  node-of-reads.Learnt,
-  check-term-below t,
-  check-term.Post,
-) (check-targets-at t) check-targets.Post check-targets-Inv-loop check-targets-μ-loop
+check-targets-loop-less : (t : ℕ) → check-targets-lts.Need-loop-less (check-targets-claims t) (check-targets-at t) check-targets.Post check-targets-Inv-loop check-targets-μ-loop
 check-targets-loop-less t c = let l = c .before .before .before .before .before .before .before .loop-test .taken in omega arith
 
--- src/check.rt:81:5
-check-targets-loop-again : (t : ℕ) → check-targets-lts.Need-loop-again (
-  number-in-reads.Asked,
-  number-in-reads.Learnt,
-  node-of-reads.Asked,
-  node-of-reads.Learnt,
-  check-term-below t,
-  check-term.Post,
-) (check-targets-at t) check-targets.Post check-targets-Inv-loop check-targets-μ-loop
+check-targets-loop-again : (t : ℕ) → check-targets-lts.Need-loop-again (check-targets-claims t) (check-targets-at t) check-targets.Post check-targets-Inv-loop check-targets-μ-loop
 check-targets-loop-again t c = (c .before .before .before .check-term .ensures .0 ∙ c .before .before .before .before .before .before .before .before .loop .inv .0, let l = c .before .before .before .before .before .before .before .before .loop .inv .1 in let h = c .before .before .before .before .before .if1 .left in omega arith, λ m u r told. c .before .before .before .before .before .before .before .before .loop .inv .2 m u r (targets-rest _ _ _ _ _ _ (c .before .before .before .before .before .before .before .loop-test .taken) _ (next-by _ (now (c .before .before .before .before .before .before .before .before .before .before .before .before .before .args .r)) _ _ _ (c .before .before .before .before .before .before .before .before .before .number-in .ensures .0) (c .before .before .before .before .before .before .node-of .ensures)) _ _ _ (c .before .before .before .check-term .ensures .1) (not-false _ (c .if2 .left)) m u r told))
 
--- src/check.rt:67:1
-check-targets-same-length-3 : (t : ℕ) → check-targets-lts.Need-same-length-3 (
-  number-in-reads.Asked,
-  number-in-reads.Learnt,
-  node-of-reads.Asked,
-  node-of-reads.Learnt,
-  check-term-below t,
-  check-term.Post,
-) (check-targets-at t) check-targets.Post check-targets-Inv-loop check-targets-μ-loop
+check-targets-same-length-3 : (t : ℕ) → check-targets-lts.Need-same-length-3 (check-targets-claims t) (check-targets-at t) check-targets.Post check-targets-Inv-loop check-targets-μ-loop
 check-targets-same-length-3 t c = c .before .loop .inv .0
 
--- src/check.rt:67:1
-check-targets-returns-3 : (t : ℕ) → check-targets-lts.Need-returns-3 (
-  number-in-reads.Asked,
-  number-in-reads.Learnt,
-  node-of-reads.Asked,
-  node-of-reads.Learnt,
-  check-term-below t,
-  check-term.Post,
-) (check-targets-at t) check-targets.Post check-targets-Inv-loop check-targets-μ-loop
+check-targets-returns-3 : (t : ℕ) → check-targets-lts.Need-returns-3 (check-targets-claims t) (check-targets-at t) check-targets.Post check-targets-Inv-loop check-targets-μ-loop
 check-targets-returns-3 t c = (c .before .loop .inv .0, c .before .loop .inv .2 _ _ _ (targets-none _ _ _ (c .before .loop .here) _ _ (c .loop-test .left)))
 
--- src/check.rt:43:9
-check-term-returns : (t : ℕ) → check-term-lts.Need-returns (
-  number-in-reads.Asked,
-  number-in-reads.Learnt,
-  node-of-reads.Asked,
-  node-of-reads.Learnt,
-  targets-for-reads.Asked,
-  targets-for-reads.Learnt,
-  check-targets-below t,
-  check-targets.Post,
-  check-bound-below t,
-  check-bound.Post,
-  alone-reads.Asked,
-  alone-reads.Learnt,
-  check-given-below t,
-  check-given.Post,
-) (check-term-at t) check-term.Post
+check-term-returns : (t : ℕ) → check-term-lts.Need-returns (check-term-claims t) (check-term-at t) check-term.Post
 check-term-returns t c = (refl, term-past _ _ _ _ _ (c .if1 .taken))
 
--- src/check.rt:45:27
-check-term-number-in-requires : (t : ℕ) → check-term-lts.Need-number-in-requires (
-  number-in-reads.Asked,
-  number-in-reads.Learnt,
-  node-of-reads.Asked,
-  node-of-reads.Learnt,
-  targets-for-reads.Asked,
-  targets-for-reads.Learnt,
-  check-targets-below t,
-  check-targets.Post,
-  check-bound-below t,
-  check-bound.Post,
-  alone-reads.Asked,
-  alone-reads.Learnt,
-  check-given-below t,
-  check-given.Post,
-) (check-term-at t) check-term.Post
+check-term-number-in-requires : (t : ℕ) → check-term-lts.Need-number-in-requires (check-term-claims t) (check-term-at t) check-term.Post
 check-term-number-in-requires t c κs = search needs
 
--- src/check.rt:45:9
-check-term-node-of-requires : (t : ℕ) → check-term-lts.Need-node-of-requires (
-  number-in-reads.Asked,
-  number-in-reads.Learnt,
-  node-of-reads.Asked,
-  node-of-reads.Learnt,
-  targets-for-reads.Asked,
-  targets-for-reads.Learnt,
-  check-targets-below t,
-  check-targets.Post,
-  check-bound-below t,
-  check-bound.Post,
-  alone-reads.Asked,
-  alone-reads.Learnt,
-  check-given-below t,
-  check-given.Post,
-) (check-term-at t) check-term.Post
+check-term-node-of-requires : (t : ℕ) → check-term-lts.Need-node-of-requires (check-term-claims t) (check-term-at t) check-term.Post
 check-term-node-of-requires t c κs = search needs
 
--- src/check.rt:47:13
-check-term-targets-for-requires : (t : ℕ) → check-term-lts.Need-targets-for-requires (
-  number-in-reads.Asked,
-  number-in-reads.Learnt,
-  node-of-reads.Asked,
-  node-of-reads.Learnt,
-  targets-for-reads.Asked,
-  targets-for-reads.Learnt,
-  check-targets-below t,
-  check-targets.Post,
-  check-bound-below t,
-  check-bound.Post,
-  alone-reads.Asked,
-  alone-reads.Learnt,
-  check-given-below t,
-  check-given.Post,
-) (check-term-at t) check-term.Post
+check-term-targets-for-requires : (t : ℕ) → check-term-lts.Need-targets-for-requires (check-term-claims t) (check-term-at t) check-term.Post
 check-term-targets-for-requires t c κs = search needs
 
--- src/check.rt:49:13
-check-term-returns-2 : (t : ℕ) → check-term-lts.Need-returns-2 (
-  number-in-reads.Asked,
-  number-in-reads.Learnt,
-  node-of-reads.Asked,
-  node-of-reads.Learnt,
-  targets-for-reads.Asked,
-  targets-for-reads.Learnt,
-  check-targets-below t,
-  check-targets.Post,
-  check-bound-below t,
-  check-bound.Post,
-  alone-reads.Asked,
-  alone-reads.Learnt,
-  check-given-below t,
-  check-given.Post,
-) (check-term-at t) check-term.Post
+check-term-returns-2 : (t : ℕ) → check-term-lts.Need-returns-2 (check-term-claims t) (check-term-at t) check-term.Post
 check-term-returns-2 t c = (refl, no-targets _ _ _ _ _ _ (node-by _ (now (c .before .before .before .before .before .before .before .before .before .before .args .r)) _ _ _ (c .before .before .before .before .before .number-in .ensures .0) (c .before .before .before .before .node-of .ensures)) (c .before .before .if2 .taken) _ (c .before .targets-for .ensures) (c .if3 .taken))
 
--- src/check.rt:51:43
-check-term-add-check-targets : (t : ℕ) → check-term-lts.Need-add-check-targets (
-  number-in-reads.Asked,
-  number-in-reads.Learnt,
-  node-of-reads.Asked,
-  node-of-reads.Learnt,
-  targets-for-reads.Asked,
-  targets-for-reads.Learnt,
-  check-targets-below t,
-  check-targets.Post,
-  check-bound-below t,
-  check-bound.Post,
-  alone-reads.Asked,
-  alone-reads.Learnt,
-  check-given-below t,
-  check-given.Post,
-) (check-term-at t) check-term.Post
+check-term-add-check-targets : (t : ℕ) → check-term-lts.Need-add-check-targets (check-term-claims t) (check-term-at t) check-term.Post
 check-term-add-check-targets t c = let h = c .before .before .before .before .before .before .before .if1 .left in omega arith
 
--- src/check.rt:51:9
-check-term-check-targets-requires : (t : ℕ) → check-term-lts.Need-check-targets-requires (
-  number-in-reads.Asked,
-  number-in-reads.Learnt,
-  node-of-reads.Asked,
-  node-of-reads.Learnt,
-  targets-for-reads.Asked,
-  targets-for-reads.Learnt,
-  check-targets-below t,
-  check-targets.Post,
-  check-bound-below t,
-  check-bound.Post,
-  alone-reads.Asked,
-  alone-reads.Learnt,
-  check-given-below t,
-  check-given.Post,
-) (check-term-at t) check-term.Post
+check-term-check-targets-requires : (t : ℕ) → check-term-lts.Need-check-targets-requires (check-term-claims t) (check-term-at t) check-term.Post
 check-term-check-targets-requires t c κs = let p = c .before .before .before .before .before .before .before .before .before .before .before .pre .0 in let h = c .before .before .before .before .before .before .before .if1 .left in (omega arith, Prim.tt)
 
--- src/check.rt:51:9
-check-term-same-length : (t : ℕ) → check-term-lts.Need-same-length (
-  number-in-reads.Asked,
-  number-in-reads.Learnt,
-  node-of-reads.Asked,
-  node-of-reads.Learnt,
-  targets-for-reads.Asked,
-  targets-for-reads.Learnt,
-  check-targets-below t,
-  check-targets.Post,
-  check-bound-below t,
-  check-bound.Post,
-  alone-reads.Asked,
-  alone-reads.Learnt,
-  check-given-below t,
-  check-given.Post,
-) (check-term-at t) check-term.Post
+check-term-same-length : (t : ℕ) → check-term-lts.Need-same-length (check-term-claims t) (check-term-at t) check-term.Post
 check-term-same-length t c = c .before .before .check-targets .ensures .0
 
--- src/check.rt:51:9
-check-term-returns-3 : (t : ℕ) → check-term-lts.Need-returns-3 (
-  number-in-reads.Asked,
-  number-in-reads.Learnt,
-  node-of-reads.Asked,
-  node-of-reads.Learnt,
-  targets-for-reads.Asked,
-  targets-for-reads.Learnt,
-  check-targets-below t,
-  check-targets.Post,
-  check-bound-below t,
-  check-bound.Post,
-  alone-reads.Asked,
-  alone-reads.Learnt,
-  check-given-below t,
-  check-given.Post,
-) (check-term-at t) check-term.Post
+check-term-returns-3 : (t : ℕ) → check-term-lts.Need-returns-3 (check-term-claims t) (check-term-at t) check-term.Post
 check-term-returns-3 t c = (c .before .before .check-targets .ensures .0, built-checked _ _ _ _ _ _ (node-by _ (now (c .before .before .before .before .before .before .before .before .before .before .before .before .before .before .args .r)) _ _ _ (c .before .before .before .before .before .before .before .before .before .number-in .ensures .0) (c .before .before .before .before .before .before .before .before .node-of .ensures)) (c .before .before .before .before .before .before .if2 .taken) _ (c .before .before .before .before .before .targets-for .ensures) (c .before .before .before .before .if3 .left) ((c .before .before .before .before .before .before .before .before .before .before .before .before .before .before .args .at) + 1) (omega arith) _ _ _ (c .before .before .check-targets .ensures .1))
 
--- src/check.rt:54:9
-check-term-check-bound-requires : (t : ℕ) → check-term-lts.Need-check-bound-requires (
-  number-in-reads.Asked,
-  number-in-reads.Learnt,
-  node-of-reads.Asked,
-  node-of-reads.Learnt,
-  targets-for-reads.Asked,
-  targets-for-reads.Learnt,
-  check-targets-below t,
-  check-targets.Post,
-  check-bound-below t,
-  check-bound.Post,
-  alone-reads.Asked,
-  alone-reads.Learnt,
-  check-given-below t,
-  check-given.Post,
-) (check-term-at t) check-term.Post
+check-term-check-bound-requires : (t : ℕ) → check-term-lts.Need-check-bound-requires (check-term-claims t) (check-term-at t) check-term.Post
 check-term-check-bound-requires t c κs = let p = c .before .before .before .before .before .before .before .before .before .before .before .pre .0 in let h = c .before .before .before .before .before .before .before .if1 .left in (omega arith, omega arith)
 
--- src/check.rt:54:9
-check-term-same-length-2 : (t : ℕ) → check-term-lts.Need-same-length-2 (
-  number-in-reads.Asked,
-  number-in-reads.Learnt,
-  node-of-reads.Asked,
-  node-of-reads.Learnt,
-  targets-for-reads.Asked,
-  targets-for-reads.Learnt,
-  check-targets-below t,
-  check-targets.Post,
-  check-bound-below t,
-  check-bound.Post,
-  alone-reads.Asked,
-  alone-reads.Learnt,
-  check-given-below t,
-  check-given.Post,
-) (check-term-at t) check-term.Post
+check-term-same-length-2 : (t : ℕ) → check-term-lts.Need-same-length-2 (check-term-claims t) (check-term-at t) check-term.Post
 check-term-same-length-2 t c = c .before .before .check-bound .ensures .0
 
--- src/check.rt:54:9
-check-term-returns-4 : (t : ℕ) → check-term-lts.Need-returns-4 (
-  number-in-reads.Asked,
-  number-in-reads.Learnt,
-  node-of-reads.Asked,
-  node-of-reads.Learnt,
-  targets-for-reads.Asked,
-  targets-for-reads.Learnt,
-  check-targets-below t,
-  check-targets.Post,
-  check-bound-below t,
-  check-bound.Post,
-  alone-reads.Asked,
-  alone-reads.Learnt,
-  check-given-below t,
-  check-given.Post,
-) (check-term-at t) check-term.Post
+check-term-returns-4 : (t : ℕ) → check-term-lts.Need-returns-4 (check-term-claims t) (check-term-at t) check-term.Post
 check-term-returns-4 t c = (c .before .before .check-bound .ensures .0, c .before .before .check-bound .ensures .1 (node-by _ (now (c .before .before .before .before .before .before .before .before .before .before .before .before .before .before .args .r)) _ _ _ (c .before .before .before .before .before .before .before .before .before .number-in .ensures .0) (c .before .before .before .before .before .before .before .before .node-of .ensures)) (c .before .before .before .before .if4 .taken))
 
--- src/check.rt:56:9
-check-term-alone-requires : (t : ℕ) → check-term-lts.Need-alone-requires (
-  number-in-reads.Asked,
-  number-in-reads.Learnt,
-  node-of-reads.Asked,
-  node-of-reads.Learnt,
-  targets-for-reads.Asked,
-  targets-for-reads.Learnt,
-  check-targets-below t,
-  check-targets.Post,
-  check-bound-below t,
-  check-bound.Post,
-  alone-reads.Asked,
-  alone-reads.Learnt,
-  check-given-below t,
-  check-given.Post,
-) (check-term-at t) check-term.Post
+check-term-alone-requires : (t : ℕ) → check-term-lts.Need-alone-requires (check-term-claims t) (check-term-at t) check-term.Post
 check-term-alone-requires t c κs = search needs
 
--- src/check.rt:58:9
-check-term-returns-5 : (t : ℕ) → check-term-lts.Need-returns-5 (
-  number-in-reads.Asked,
-  number-in-reads.Learnt,
-  node-of-reads.Asked,
-  node-of-reads.Learnt,
-  targets-for-reads.Asked,
-  targets-for-reads.Learnt,
-  check-targets-below t,
-  check-targets.Post,
-  check-bound-below t,
-  check-bound.Post,
-  alone-reads.Asked,
-  alone-reads.Learnt,
-  check-given-below t,
-  check-given.Post,
-) (check-term-at t) check-term.Post
+check-term-returns-5 : (t : ℕ) → check-term-lts.Need-returns-5 (check-term-claims t) (check-term-at t) check-term.Post
 check-term-returns-5 t c = (refl, alone-no _ _ _ _ _ _ _ (c .before .alone .ensures) (node-by _ (now (c .before .before .before .before .before .before .before .before .before .before .before .before .args .r)) _ _ _ (c .before .before .before .before .before .before .before .number-in .ensures .0) (c .before .before .before .before .before .before .node-of .ensures)) (c .if5 .taken))
 
--- src/check.rt:61:9
-check-term-returns-6 : (t : ℕ) → check-term-lts.Need-returns-6 (
-  number-in-reads.Asked,
-  number-in-reads.Learnt,
-  node-of-reads.Asked,
-  node-of-reads.Learnt,
-  targets-for-reads.Asked,
-  targets-for-reads.Learnt,
-  check-targets-below t,
-  check-targets.Post,
-  check-bound-below t,
-  check-bound.Post,
-  alone-reads.Asked,
-  alone-reads.Learnt,
-  check-given-below t,
-  check-given.Post,
-) (check-term-at t) check-term.Post
+check-term-returns-6 : (t : ℕ) → check-term-lts.Need-returns-6 (check-term-claims t) (check-term-at t) check-term.Post
 check-term-returns-6 t c = (refl, alone-yes _ _ _ _ _ _ _ (c .before .before .alone .ensures) (node-by _ (now (c .before .before .before .before .before .before .before .before .before .before .before .before .before .args .r)) _ _ _ (c .before .before .before .before .before .before .before .before .number-in .ensures .0) (c .before .before .before .before .before .before .before .node-of .ensures)) (c .if6 .taken))
 
--- src/check.rt:63:5
-check-term-check-given-requires : (t : ℕ) → check-term-lts.Need-check-given-requires (
-  number-in-reads.Asked,
-  number-in-reads.Learnt,
-  node-of-reads.Asked,
-  node-of-reads.Learnt,
-  targets-for-reads.Asked,
-  targets-for-reads.Learnt,
-  check-targets-below t,
-  check-targets.Post,
-  check-bound-below t,
-  check-bound.Post,
-  alone-reads.Asked,
-  alone-reads.Learnt,
-  check-given-below t,
-  check-given.Post,
-) (check-term-at t) check-term.Post
+check-term-check-given-requires : (t : ℕ) → check-term-lts.Need-check-given-requires (check-term-claims t) (check-term-at t) check-term.Post
 check-term-check-given-requires t c κs = let p = c .before .before .before .before .before .before .before .before .before .before .before .before .before .before .pre .0 in let h = c .before .before .before .before .before .before .before .before .before .before .if1 .left in (omega arith, omega arith)
 
--- src/check.rt:39:1
-check-term-same-length-3 : (t : ℕ) → check-term-lts.Need-same-length-3 (
-  number-in-reads.Asked,
-  number-in-reads.Learnt,
-  node-of-reads.Asked,
-  node-of-reads.Learnt,
-  targets-for-reads.Asked,
-  targets-for-reads.Learnt,
-  check-targets-below t,
-  check-targets.Post,
-  check-bound-below t,
-  check-bound.Post,
-  alone-reads.Asked,
-  alone-reads.Learnt,
-  check-given-below t,
-  check-given.Post,
-) (check-term-at t) check-term.Post
+check-term-same-length-3 : (t : ℕ) → check-term-lts.Need-same-length-3 (check-term-claims t) (check-term-at t) check-term.Post
 check-term-same-length-3 t c = c .before .before .check-given .ensures .0
 
--- src/check.rt:39:1
-check-term-returns-7 : (t : ℕ) → check-term-lts.Need-returns-7 (
-  number-in-reads.Asked,
-  number-in-reads.Learnt,
-  node-of-reads.Asked,
-  node-of-reads.Learnt,
-  targets-for-reads.Asked,
-  targets-for-reads.Learnt,
-  check-targets-below t,
-  check-targets.Post,
-  check-bound-below t,
-  check-bound.Post,
-  alone-reads.Asked,
-  alone-reads.Learnt,
-  check-given-below t,
-  check-given.Post,
-) (check-term-at t) check-term.Post
+check-term-returns-7 : (t : ℕ) → check-term-lts.Need-returns-7 (check-term-claims t) (check-term-at t) check-term.Post
 check-term-returns-7 t c = (c .before .before .check-given .ensures .0, c .before .before .check-given .ensures .1 (node-by _ (now (c .before .before .before .before .before .before .before .before .before .before .before .before .before .before .before .before .before .args .r)) _ _ _ (c .before .before .before .before .before .before .before .before .before .before .before .before .number-in .ensures .0) (c .before .before .before .before .before .before .before .before .before .before .before .node-of .ensures)) (c .before .before .before .before .before .before .before .before .before .if2 .left) (c .before .before .before .before .before .before .before .if4 .left))
 
--- src/check.rt:136:9
-try-binding-candidate-requires : (t : ℕ) → try-binding-lts.Need-candidate-requires (
-  candidate-reads.Asked,
-  candidate-reads.Learnt,
-  check-args-below t,
-  check-args.Post,
-  note-in-reads.Asked,
-  note-in-reads.Learnt,
-  hint-in-reads.Asked,
-  hint-in-reads.Learnt,
-) (try-binding-at t) try-binding.Post
+try-binding-candidate-requires : (t : ℕ) → try-binding-lts.Need-candidate-requires (try-binding-claims t) (try-binding-at t) try-binding.Post
 try-binding-candidate-requires t c κs = search needs
 
--- src/check.rt:138:9
-try-binding-returns : (t : ℕ) → try-binding-lts.Need-returns (
-  candidate-reads.Asked,
-  candidate-reads.Learnt,
-  check-args-below t,
-  check-args.Post,
-  note-in-reads.Asked,
-  note-in-reads.Learnt,
-  hint-in-reads.Asked,
-  hint-in-reads.Learnt,
-) (try-binding-at t) try-binding.Post
+try-binding-returns : (t : ℕ) → try-binding-lts.Need-returns (try-binding-claims t) (try-binding-at t) try-binding.Post
 try-binding-returns t c = (refl, try-misses _ _ _ _ _ _ _ _ (c .before .candidate .ensures) (c .if1 .taken))
 
--- src/check.rt:140:33
-try-binding-add-check-args : (t : ℕ) → try-binding-lts.Need-add-check-args (
-  candidate-reads.Asked,
-  candidate-reads.Learnt,
-  check-args-below t,
-  check-args.Post,
-  note-in-reads.Asked,
-  note-in-reads.Learnt,
-  hint-in-reads.Asked,
-  hint-in-reads.Learnt,
-) (try-binding-at t) try-binding.Post
+try-binding-add-check-args : (t : ℕ) → try-binding-lts.Need-add-check-args (try-binding-claims t) (try-binding-at t) try-binding.Post
 try-binding-add-check-args t c = let h = c .before .before .before .before .before .before .pre .1 in omega arith
 
--- src/check.rt:140:9
-try-binding-check-args-requires : (t : ℕ) → try-binding-lts.Need-check-args-requires (
-  candidate-reads.Asked,
-  candidate-reads.Learnt,
-  check-args-below t,
-  check-args.Post,
-  note-in-reads.Asked,
-  note-in-reads.Learnt,
-  hint-in-reads.Asked,
-  hint-in-reads.Learnt,
-) (try-binding-at t) try-binding.Post
+try-binding-check-args-requires : (t : ℕ) → try-binding-lts.Need-check-args-requires (try-binding-claims t) (try-binding-at t) try-binding.Post
 try-binding-check-args-requires t c κs = let p = c .before .before .before .before .before .before .pre .0 in let h = c .before .before .before .before .before .before .pre .1 in (omega arith, Prim.tt)
 
--- src/check.rt:141:9
-try-binding-same-length : (t : ℕ) → try-binding-lts.Need-same-length (
-  candidate-reads.Asked,
-  candidate-reads.Learnt,
-  check-args-below t,
-  check-args.Post,
-  note-in-reads.Asked,
-  note-in-reads.Learnt,
-  hint-in-reads.Asked,
-  hint-in-reads.Learnt,
-) (try-binding-at t) try-binding.Post
+try-binding-same-length : (t : ℕ) → try-binding-lts.Need-same-length (try-binding-claims t) (try-binding-at t) try-binding.Post
 try-binding-same-length t c = c .before .before .before .check-args .ensures .0
 
--- src/check.rt:141:9
-try-binding-returns-2 : (t : ℕ) → try-binding-lts.Need-returns-2 (
-  candidate-reads.Asked,
-  candidate-reads.Learnt,
-  check-args-below t,
-  check-args.Post,
-  note-in-reads.Asked,
-  note-in-reads.Learnt,
-  hint-in-reads.Asked,
-  hint-in-reads.Learnt,
-) (try-binding-at t) try-binding.Post
+try-binding-returns-2 : (t : ℕ) → try-binding-lts.Need-returns-2 (try-binding-claims t) (try-binding-at t) try-binding.Post
 try-binding-returns-2 t c = (c .before .before .before .check-args .ensures .0, try-lacks _ _ _ _ _ _ _ _ (c .before .before .before .before .before .before .candidate .ensures) (c .before .before .before .before .before .if1 .left) ((c .before .before .before .before .before .before .before .before .before .before .args .at) + 1) (omega arith) _ _ _ (c .before .before .before .check-args .ensures .1) (not-true _ (c .if2 .taken)))
 
--- src/check.rt:143:5
-try-binding-note-in-requires : (t : ℕ) → try-binding-lts.Need-note-in-requires (
-  candidate-reads.Asked,
-  candidate-reads.Learnt,
-  check-args-below t,
-  check-args.Post,
-  note-in-reads.Asked,
-  note-in-reads.Learnt,
-  hint-in-reads.Asked,
-  hint-in-reads.Learnt,
-) (try-binding-at t) try-binding.Post
+try-binding-note-in-requires : (t : ℕ) → try-binding-lts.Need-note-in-requires (try-binding-claims t) (try-binding-at t) try-binding.Post
 try-binding-note-in-requires t c κs = search needs
 
--- src/check.rt:144:5
-try-binding-hint-in-requires : (t : ℕ) → try-binding-lts.Need-hint-in-requires (
-  candidate-reads.Asked,
-  candidate-reads.Learnt,
-  check-args-below t,
-  check-args.Post,
-  note-in-reads.Asked,
-  note-in-reads.Learnt,
-  hint-in-reads.Asked,
-  hint-in-reads.Learnt,
-) (try-binding-at t) try-binding.Post
+try-binding-hint-in-requires : (t : ℕ) → try-binding-lts.Need-hint-in-requires (try-binding-claims t) (try-binding-at t) try-binding.Post
 try-binding-hint-in-requires t c κs = search needs
 
--- src/check.rt:123:1
-try-binding-same-length-2 : (t : ℕ) → try-binding-lts.Need-same-length-2 (
-  candidate-reads.Asked,
-  candidate-reads.Learnt,
-  check-args-below t,
-  check-args.Post,
-  note-in-reads.Asked,
-  note-in-reads.Learnt,
-  hint-in-reads.Asked,
-  hint-in-reads.Learnt,
-) (try-binding-at t) try-binding.Post
+try-binding-same-length-2 : (t : ℕ) → try-binding-lts.Need-same-length-2 (try-binding-claims t) (try-binding-at t) try-binding.Post
 try-binding-same-length-2 t c = c .before .before .hint-in .ensures .0 ∙ c .before .before .before .before .before .before .note-in .ensures .0 ∙ c .before .before .before .before .before .before .before .before .before .before .before .check-args .ensures .0
 
--- src/check.rt:123:1
-try-binding-returns-3 : (t : ℕ) → try-binding-lts.Need-returns-3 (
-  candidate-reads.Asked,
-  candidate-reads.Learnt,
-  check-args-below t,
-  check-args.Post,
-  note-in-reads.Asked,
-  note-in-reads.Learnt,
-  hint-in-reads.Asked,
-  hint-in-reads.Learnt,
-) (try-binding-at t) try-binding.Post
+try-binding-returns-3 : (t : ℕ) → try-binding-lts.Need-returns-3 (try-binding-claims t) (try-binding-at t) try-binding.Post
 try-binding-returns-3 t c = (c .before .before .hint-in .ensures .0 ∙ c .before .before .before .before .before .before .note-in .ensures .0 ∙ c .before .before .before .before .before .before .before .before .before .before .before .check-args .ensures .0, tries-moved _ _ _ _ _ _ _ _ _ _ _ _ (c .before .before .hint-in .ensures .1 ∙ c .before .before .before .before .before .before .note-in .ensures .1) (c .before .before .hint-in .ensures .2) (try-serves _ _ _ _ _ _ _ _ (c .before .before .before .before .before .before .before .before .before .before .before .before .before .before .candidate .ensures) (c .before .before .before .before .before .before .before .before .before .before .before .before .before .if1 .left) ((c .before .before .before .before .before .before .before .before .before .before .before .before .before .before .before .before .before .before .args .at) + 1) (omega arith) _ _ _ (c .before .before .before .before .before .before .before .before .before .before .before .check-args .ensures .1) (not-false _ (c .before .before .before .before .before .before .before .before .if2 .left)) _ (c .before .before .before .before .before .before .note-in .ensures .2)))
 
 pub +check-args+check-bound+check-given+check-members+check-targets+check-term+try-binding-spec :
@@ -2110,16 +578,7 @@ pub +check-args+check-bound+check-given+check-members+check-targets+check-term+t
     μ-check-targets
     μ-check-term
     μ-try-binding
-    (λ t. check-args-lts.spec (
-      number-in-reads.Asked,
-      number-in-reads.Learnt,
-      node-of-reads.Asked,
-      node-of-reads.Learnt,
-      check-members-below t,
-      check-members.Post,
-      result-of-reads.Asked,
-      result-of-reads.Learnt,
-    )
+    (λ t. check-args-lts.spec (check-args-claims t)
     (check-args-at t)
     check-args.Post
     check-args-Inv-loop
@@ -2138,20 +597,7 @@ pub +check-args+check-bound+check-given+check-members+check-targets+check-term+t
     (check-args-loop-again t)
     (check-args-same-length-3 t)
     (check-args-returns-3 t))
-    (λ t. check-bound-lts.spec (
-      number-in-reads.Asked,
-      number-in-reads.Learnt,
-      group-of-reads.Asked,
-      group-of-reads.Learnt,
-      head-hint-reads.Asked,
-      head-hint-reads.Learnt,
-      node-hint-reads.Asked,
-      node-hint-reads.Learnt,
-      try-binding-below t,
-      try-binding.Post,
-      next-in-reads.Asked,
-      next-in-reads.Learnt,
-    )
+    (λ t. check-bound-lts.spec (check-bound-claims t)
     (check-bound-at t)
     check-bound.Post
     check-bound-Inv-loop
@@ -2176,18 +622,7 @@ pub +check-args+check-bound+check-given+check-members+check-targets+check-term+t
     (check-bound-loop-again-2 t)
     (check-bound-same-length-2 t)
     (check-bound-returns-2 t))
-    (λ t. check-given-lts.spec (
-      number-in-reads.Asked,
-      number-in-reads.Learnt,
-      off-reads.Asked,
-      off-reads.Learnt,
-      many-of-reads.Asked,
-      many-of-reads.Learnt,
-      member-of-reads.Asked,
-      member-of-reads.Learnt,
-      check-args-below t,
-      check-args.Post,
-    )
+    (λ t. check-given-lts.spec (check-given-claims t)
     (check-given-at t)
     check-given.Post
     check-given-Inv-loop
@@ -2210,24 +645,7 @@ pub +check-args+check-bound+check-given+check-members+check-targets+check-term+t
     (check-given-loop-again-2 t)
     (check-given-same-length-2 t)
     (check-given-returns-3 t))
-    (λ t. check-members-lts.spec (
-      decided-reads.Asked,
-      decided-reads.Learnt,
-      number-in-reads.Asked,
-      number-in-reads.Learnt,
-      node-of-reads.Asked,
-      node-of-reads.Learnt,
-      many-of-reads.Asked,
-      many-of-reads.Learnt,
-      member-of-reads.Asked,
-      member-of-reads.Learnt,
-      recall-in-reads.Asked,
-      recall-in-reads.Learnt,
-      check-term-below t,
-      check-term.Post,
-      learn-in-reads.Asked,
-      learn-in-reads.Learnt,
-    )
+    (λ t. check-members-lts.spec (check-members-claims t)
     (check-members-at t)
     check-members.Post
     check-members-Inv-loop
@@ -2256,14 +674,7 @@ pub +check-args+check-bound+check-given+check-members+check-targets+check-term+t
     (check-members-loop-again-2 t)
     (check-members-same-length-5 t)
     (check-members-returns-5 t))
-    (λ t. check-targets-lts.spec (
-      number-in-reads.Asked,
-      number-in-reads.Learnt,
-      node-of-reads.Asked,
-      node-of-reads.Learnt,
-      check-term-below t,
-      check-term.Post,
-    )
+    (λ t. check-targets-lts.spec (check-targets-claims t)
     (check-targets-at t)
     check-targets.Post
     check-targets-Inv-loop
@@ -2281,22 +692,7 @@ pub +check-args+check-bound+check-given+check-members+check-targets+check-term+t
     (check-targets-loop-again t)
     (check-targets-same-length-3 t)
     (check-targets-returns-3 t))
-    (λ t. check-term-lts.spec (
-      number-in-reads.Asked,
-      number-in-reads.Learnt,
-      node-of-reads.Asked,
-      node-of-reads.Learnt,
-      targets-for-reads.Asked,
-      targets-for-reads.Learnt,
-      check-targets-below t,
-      check-targets.Post,
-      check-bound-below t,
-      check-bound.Post,
-      alone-reads.Asked,
-      alone-reads.Learnt,
-      check-given-below t,
-      check-given.Post,
-    )
+    (λ t. check-term-lts.spec (check-term-claims t)
     (check-term-at t)
     check-term.Post
     (check-term-returns t)
@@ -2317,16 +713,7 @@ pub +check-args+check-bound+check-given+check-members+check-targets+check-term+t
     (check-term-check-given-requires t)
     (check-term-same-length-3 t)
     (check-term-returns-7 t))
-    λ t. try-binding-lts.spec (
-      candidate-reads.Asked,
-      candidate-reads.Learnt,
-      check-args-below t,
-      check-args.Post,
-      note-in-reads.Asked,
-      note-in-reads.Learnt,
-      hint-in-reads.Asked,
-      hint-in-reads.Learnt,
-    )
+    λ t. try-binding-lts.spec (try-binding-claims t)
     (try-binding-at t)
     try-binding.Post
     (try-binding-candidate-requires t)

@@ -4,53 +4,37 @@ use Rattle.term_check.proofs.heads.Looking.{alone-other, alone-lacks, a
 use borrow.Author.Needs.{needs}
 use Rattle.term_check.proofs.heads.alone.Statement.{statement}
 use Rattle.term_check.proofs.heads.alone.Tie as tie
-use Rattle.term_check.proofs.heads.alone.Reads as reads
-use Rattle.term_check.proofs.heads.alone.Lts as lts
-use Rattle.tables.proofs.reading.off.Reads as off-reads
-use Rattle.tables.proofs.reading.states_of.Reads as states-of-reads
-use Rattle.term_check.proofs.notes.number_in.Reads as number-in-reads
 
--- src/heads.rt:131:9
 returns : tie.Need-returns
 returns c = alone-other _ _ _ _ refl
 
--- src/heads.rt:134:9
 returns-2 : tie.Need-returns-2
 returns-2 c = alone-other _ _ _ _ refl
 
--- src/heads.rt:137:9
 returns-3 : tie.Need-returns-3
 returns-3 c = alone-other _ _ _ _ refl
 
--- src/heads.rt:139:24
 number-in-requires : tie.Need-number-in-requires
 number-in-requires c κs = search needs
 
--- src/heads.rt:139:9
 off-requires : tie.Need-off-requires
 off-requires c κs = search needs
 
--- src/heads.rt:141:9
 returns-4 : tie.Need-returns-4
 returns-4 c = alone-other _ _ _ _ refl
 
--- src/heads.rt:144:9
 returns-5 : tie.Need-returns-5
 returns-5 c = alone-other _ _ _ _ refl
 
--- src/heads.rt:146:9
 states-of-requires : tie.Need-states-of-requires
 states-of-requires c κs = search needs
 
--- src/heads.rt:147:9
 shr-if6 : tie.Need-shr-if6
 shr-if6 c = search needs
 
--- src/heads.rt:148:9
 returns-6 : tie.Need-returns-6
 returns-6 c = alone-lacks _ _ _ _ _ _ (c .before .before .before .before .before .before .before .before .before .if1 .left) (c .before .before .before .before .before .before .before .if2 .left) (c .before .before .before .before .before .before .if3 .left) (c .before .before .before .before .before .number-in .ensures .0) (c .before .before .before .before .off .ensures) (c .before .before .before .if4 .left) (c .before .before .if5 .left) (c .before .states-of .ensures .0) (c .if6 .taken)
 
--- src/heads.rt:127:1
 returns-7 : tie.Need-returns-7
 returns-7 c = alone-has _ _ _ _ _ _ (c .before .before .before .before .before .before .before .before .before .if1 .left) (c .before .before .before .before .before .before .before .if2 .left) (c .before .before .before .before .before .before .if3 .left) (c .before .before .before .before .before .number-in .ensures .0) (c .before .before .before .before .off .ensures) (c .before .before .before .if4 .left) (c .before .before .if5 .left) (c .before .states-of .ensures .0) (c .if6 .left)
 

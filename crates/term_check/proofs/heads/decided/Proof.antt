@@ -5,45 +5,31 @@ use Rattle.term_check.proofs.heads.Deciding.{decides-nothing, decides-n
 use borrow.Author.Needs.{needs}
 use Rattle.term_check.proofs.heads.decided.Statement.{statement}
 use Rattle.term_check.proofs.heads.decided.Tie as tie
-use Rattle.term_check.proofs.heads.decided.Reads as reads
-use Rattle.term_check.proofs.heads.decided.Lts as lts
-use Rattle.tables.proofs.reading.arrows_of.Reads as arrows-of-reads
-use Rattle.tables.proofs.reading.states_of.Reads as states-of-reads
-use Rattle.term_check.proofs.heads.look.Reads as look-reads
 
--- src/heads.rt:181:18
 states-of-requires : tie.Need-states-of-requires
 states-of-requires c κs = search needs
 
--- src/heads.rt:181:18
 cast-states : tie.Need-cast-states
 cast-states c = search needs
 
--- src/heads.rt:182:9
 look-requires : tie.Need-look-requires
 look-requires c κs = search needs
 
--- src/heads.rt:184:9
 returns : tie.Need-returns
 returns c = decides-no _ _ _ _ _ _ (c .before .before .before .states-of .ensures .0) (c .before .before .look .ensures) (c .before .before .before .states-of .ensures .1) (c .if1 .taken)
 
--- src/heads.rt:186:8
 arrows-of-requires : tie.Need-arrows-of-requires
 arrows-of-requires c κs = search needs
 
--- src/heads.rt:187:9
 returns-2 : tie.Need-returns-2
 returns-2 c = decides-nothing _ _ _ _
 
--- src/heads.rt:189:8
 sub-if3 : tie.Need-sub-if3
 sub-if3 c = and-le-l _ _
 
--- src/heads.rt:190:9
 returns-3 : tie.Need-returns-3
 returns-3 c = decides-nothing _ _ _ _
 
--- src/heads.rt:178:1
 returns-4 : tie.Need-returns-4
 returns-4 c = decides-yes _ _ _ _ _ _ (c .before .before .before .before .before .before .before .states-of .ensures .0) (c .before .before .before .before .before .before .look .ensures) (sym (c .before .before .before .arrows-of .ensures .0) ∙ c .before .before .if2 .left) (c .if3 .left)
 

@@ -6,11 +6,6 @@ use Rattle.term_check.specs.heads.Heads.{Matches}
 use Rattle.term_check.proofs.heads.Matching.{match-end, match-many, match-member, match-next}
 use Rattle.term_check.proofs.heads.matches.Statement.{statement}
 use Rattle.term_check.proofs.heads.matches.Tie as tie
-use Rattle.term_check.proofs.heads.matches.Reads as reads
-use Rattle.term_check.proofs.heads.matches.Lts as lts
-use Rattle.tables.proofs.reading.many_of.Reads as many-of-reads
-use Rattle.tables.proofs.reading.member_of.Reads as member-of-reads
-use Rattle.tables.proofs.reading.result_of.Reads as result-of-reads
 
 abbrev Inv-loop : tie.InvT-loop
 Inv-loop t goal targets left g₀ rest₀ i₀ g rest i = (r : Bool) → Matches t g rest i r → Matches t goal targets left r
@@ -18,43 +13,33 @@ Inv-loop t goal targets left g₀ rest₀ i₀ g rest i = (r : Bool) → Matches
 abbrev μ-loop : tie.MeasureT-loop
 μ-loop t goal targets left g₀ rest₀ i₀ g rest i = i
 
--- src/heads.rt:64:5
 loop-holds : tie.Need-loop-holds Inv-loop μ-loop
 loop-holds c r m = m
 
--- src/heads.rt:65:12
 many-of-requires : tie.Need-many-of-requires Inv-loop μ-loop
 many-of-requires c κs = search needs
 
--- src/heads.rt:66:13
 returns : tie.Need-returns Inv-loop μ-loop
 returns c = c .before .before .before .loop .inv false (match-many _ _ _ _ _ (c .before .before .loop-test .taken) (c .before .many-of .ensures .0) (c .if1 .taken))
 
--- src/heads.rt:68:12
 member-of-requires : tie.Need-member-of-requires Inv-loop μ-loop
 member-of-requires c κs = search needs
 
--- src/heads.rt:69:13
 returns-2 : tie.Need-returns-2 Inv-loop μ-loop
 returns-2 c = c .before .before .before .before .before .loop .inv false (match-member _ _ _ _ _ (c .before .before .before .before .loop-test .taken) (c .before .member-of .ensures .0) (c .if2 .taken))
 
--- src/heads.rt:71:9
 result-of-requires : tie.Need-result-of-requires Inv-loop μ-loop
 result-of-requires c κs = search needs
 
--- src/heads.rt:73:13
 sub-i : tie.Need-sub-i Inv-loop μ-loop
 sub-i c = search needs
 
--- src/heads.rt:64:5
 loop-less : tie.Need-loop-less Inv-loop μ-loop
 loop-less c = search needs
 
--- src/heads.rt:64:5
 loop-again : tie.Need-loop-again Inv-loop μ-loop
 loop-again c r m = c .before .before .before .before .before .before .loop .inv r (match-next _ _ _ _ _ _ _ r (c .before .before .before .before .before .loop-test .taken) (c .before .before .before .before .many-of .ensures .0) (c .before .before .before .if1 .left) (c .before .before .member-of .ensures .0) (c .before .if2 .left) (c .result-of .ensures .0) m)
 
--- src/heads.rt:58:1
 returns-3 : tie.Need-returns-3 Inv-loop μ-loop
 returns-3 c = c .before .loop .inv _ (match-end _ _ _ _ (omega arith))
 

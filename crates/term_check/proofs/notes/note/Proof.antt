@@ -7,33 +7,22 @@ use Rattle.term_check.proofs.notes.Noting.{product-fits, noted}
 use borrow.Author.Needs.{needs}
 use Rattle.term_check.proofs.notes.note.Statement.{statement}
 use Rattle.term_check.proofs.notes.note.Tie as tie
-use Rattle.term_check.proofs.notes.note.Reads as reads
-use Rattle.term_check.proofs.notes.note.Lts as lts
-use Rattle.marks.proofs.put_in.Reads as put-in-reads
-use Rattle.term_check.proofs.notes.number_in.Reads as number-in-reads
-use Rattle.term_check.proofs.notes.owner_of.Reads as owner-of-reads
 
--- src/notes.rt:50:18
 number-in-requires : tie.Need-number-in-requires
 number-in-requires c κs = search needs
 
--- src/notes.rt:51:9
 owner-of-requires : tie.Need-owner-of-requires
 owner-of-requires c κs = search needs
 
--- src/notes.rt:52:19
 mul-put-in : tie.Need-mul-put-in
 mul-put-in c = omega (arith, product-fits (c .before .before .before .before .before .args .c) (c .before .before .number-in .result))
 
--- src/notes.rt:52:5
 put-in-requires : tie.Need-put-in-requires
 put-in-requires c κs = search needs
 
--- src/notes.rt:47:1
 same-length : tie.Need-same-length
 same-length c = search needs
 
--- src/notes.rt:47:1
 returns : tie.Need-returns
 returns c = noted _ _ _ _ _ _ _ (ap (λ k. (c .before .before .before .before .before .before .before .before .args .c) % maxBindings * (k % wordsLimit)) (c .before .before .before .before .before .number-in .ensures .0)) (c .before .before .before .before .owner-of .ensures) (c .before .before .put-in .ensures)
 

@@ -6,26 +6,19 @@ use lib.ListN.{List·getD-eq-default}
 use borrow.Author.Needs.{needs}
 use Rattle.term_check.proofs.notes.number_in.Statement.{statement}
 use Rattle.term_check.proofs.notes.number_in.Tie as tie
-use Rattle.term_check.proofs.notes.number_in.Reads as reads
-use Rattle.term_check.proofs.notes.number_in.Lts as lts
 
--- src/notes.rt:21:16
 mul-result : tie.Need-mul-result
 mul-result c = search needs
 
--- src/notes.rt:21:16
 shared-slice-read-result : tie.Need-shared-slice-read-result
 shared-slice-read-result c = search needs
 
--- src/notes.rt:21:16
 cast-result : tie.Need-cast-result
 cast-result c = omega (arith, c .shared-slice-known .given (c .before .before .args .k))
 
--- src/notes.rt:21:9
 returns : tie.Need-returns
 returns c = (refl, omega (arith, c .shared-slice-known .given (c .before .before .args .k)))
 
--- src/notes.rt:17:1
 returns-2 : tie.Need-returns-2
 returns-2 c = (sym (List·getD-eq-default (now (c .before .args .test)) 0 (c .if1 .left)), omega arith)
 

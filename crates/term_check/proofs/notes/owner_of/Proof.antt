@@ -3,23 +3,16 @@ use Rattle.term_check.proofs.notes.Noting.{owner-body, owner-binding}
 use borrow.Author.Needs.{needs}
 use Rattle.term_check.proofs.notes.owner_of.Statement.{statement}
 use Rattle.term_check.proofs.notes.owner_of.Tie as tie
-use Rattle.term_check.proofs.notes.owner_of.Reads as reads
-use Rattle.term_check.proofs.notes.owner_of.Lts as lts
-use Rattle.term_check.proofs.notes.number_in.Reads as number-in-reads
 
--- src/notes.rt:41:9
 number-in-requires : tie.Need-number-in-requires
 number-in-requires c κs = search needs
 
--- src/notes.rt:41:9
 returns : tie.Need-returns
 returns c = owner-body _ _ _ (c .before .if1 .taken) (c .number-in .ensures .0)
 
--- src/notes.rt:43:5
 number-in-requires-2 : tie.Need-number-in-requires-2
 number-in-requires-2 c κs = search needs
 
--- src/notes.rt:37:1
 returns-2 : tie.Need-returns-2
 returns-2 c = owner-binding _ _ _ (c .before .if1 .left) (c .number-in2 .ensures .0)
 

@@ -3,23 +3,16 @@ use Rattle.term_check.proofs.notes.Noting.{stamp-shared, stamp-own}
 use borrow.Author.Needs.{needs}
 use Rattle.term_check.proofs.notes.stamp_of.Statement.{statement}
 use Rattle.term_check.proofs.notes.stamp_of.Tie as tie
-use Rattle.term_check.proofs.notes.stamp_of.Reads as reads
-use Rattle.term_check.proofs.notes.stamp_of.Lts as lts
-use Rattle.marks.proofs.word_in.Reads as word-in-reads
 
--- src/notes.rt:31:9
 word-in-requires : tie.Need-word-in-requires
 word-in-requires c κs = search needs
 
--- src/notes.rt:31:9
 returns : tie.Need-returns
 returns c = stamp-shared _ _ _ (c .before .if1 .taken) (c .word-in .ensures)
 
--- src/notes.rt:33:5
 word-in-requires-2 : tie.Need-word-in-requires-2
 word-in-requires-2 c κs = search needs
 
--- src/notes.rt:27:1
 returns-2 : tie.Need-returns-2
 returns-2 c = stamp-own _ _ _ (c .before .if1 .left) (c .word-in2 .ensures)
 

@@ -3,24 +3,16 @@ use Rattle.term_check.proofs.parts.Parting.{from-short, from-here}
 use borrow.Author.Needs.{needs}
 use Rattle.term_check.proofs.parts.from_of.Statement.{statement}
 use Rattle.term_check.proofs.parts.from_of.Tie as tie
-use Rattle.term_check.proofs.parts.from_of.Reads as reads
-use Rattle.term_check.proofs.parts.from_of.Lts as lts
-use Rattle.term_check.proofs.notes.number_in.Reads as number-in-reads
-use Rattle.term_check.proofs.parts.split_of.Reads as split-of-reads
 
--- src/parts.rt:34:9
 split-of-requires : tie.Need-split-of-requires
 split-of-requires c κs = search needs
 
--- src/parts.rt:35:9
 number-in-requires : tie.Need-number-in-requires
 number-in-requires c κs = search needs
 
--- src/parts.rt:37:9
 returns : tie.Need-returns
 returns c = from-short _ _ _ _ (c .before .before .split-of .ensures .0) (c .before .before .split-of .ensures .1) (c .before .number-in .ensures .0) (c .if1 .taken)
 
--- src/parts.rt:31:1
 returns-2 : tie.Need-returns-2
 returns-2 c = from-here _ _ _ _ (c .before .before .split-of .ensures .0) (c .before .before .split-of .ensures .1) (c .before .number-in .ensures .0) (c .if1 .left)
 

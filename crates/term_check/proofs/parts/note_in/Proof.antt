@@ -3,45 +3,31 @@ use Rattle.term_check.proofs.parts.Parting.{from-below, note-part}
 use borrow.Author.Needs.{needs}
 use Rattle.term_check.proofs.parts.note_in.Statement.{statement}
 use Rattle.term_check.proofs.parts.note_in.Tie as tie
-use Rattle.term_check.proofs.parts.note_in.Reads as reads
-use Rattle.term_check.proofs.parts.note_in.Lts as lts
-use Rattle.term_check.proofs.notes.note.Reads as note-reads
-use Rattle.term_check.proofs.parts.from_of.Reads as from-of-reads
-use Rattle.term_check.proofs.parts.split_of.Reads as split-of-reads
 
--- src/parts.rt:76:9
 split-of-requires : tie.Need-split-of-requires
 split-of-requires c κs = search needs
 
--- src/parts.rt:77:9
 from-of-requires : tie.Need-from-of-requires
 from-of-requires c κs = search needs
 
--- src/parts.rt:78:10
 mul-note : tie.Need-mul-note
 mul-note c = search needs
 
--- src/parts.rt:78:10
 sub-note : tie.Need-sub-note
 sub-note c = from-below _ _ _ _ (c .before .before .split-of .ensures .0) (c .before .before .split-of .ensures .1) (c .from-of .ensures .0)
 
--- src/parts.rt:78:10
 part-note-start : tie.Need-part-note-start
 part-note-start c = from-below _ _ _ _ (c .before .before .split-of .ensures .0) (c .before .before .split-of .ensures .1) (c .from-of .ensures .0)
 
--- src/parts.rt:78:10
 part-note-end : tie.Need-part-note-end
 part-note-end c = search needs
 
--- src/parts.rt:78:5
 note-requires : tie.Need-note-requires
 note-requires c κs = search needs
 
--- src/parts.rt:73:1
 same-length : tie.Need-same-length
 same-length c = search needs
 
--- src/parts.rt:73:1
 returns : tie.Need-returns
 returns c = note-part _ _ _ _ (c .before .before .before .before .before .before .split-of .ensures .0) (c .before .before .before .before .before .before .split-of .ensures .1) (c .before .before .before .before .from-of .ensures .0) _ _ _ (c .before .before .note .ensures)
 

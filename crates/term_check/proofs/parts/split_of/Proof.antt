@@ -3,19 +3,13 @@ use Rattle.term_check.proofs.parts.Parting.{split-short, split-here}
 use borrow.Author.Needs.{needs}
 use Rattle.term_check.proofs.parts.split_of.Statement.{statement}
 use Rattle.term_check.proofs.parts.split_of.Tie as tie
-use Rattle.term_check.proofs.parts.split_of.Reads as reads
-use Rattle.term_check.proofs.parts.split_of.Lts as lts
-use Rattle.term_check.proofs.notes.number_in.Reads as number-in-reads
 
--- src/parts.rt:23:9
 number-in-requires : tie.Need-number-in-requires
 number-in-requires c κs = search needs
 
--- src/parts.rt:25:9
 returns : tie.Need-returns
 returns c = split-short _ _ _ (c .before .number-in .ensures .0) (c .if1 .taken)
 
--- src/parts.rt:20:1
 returns-2 : tie.Need-returns-2
 returns-2 c = split-here _ _ _ (c .before .number-in .ensures .0) (c .if1 .left)
 
