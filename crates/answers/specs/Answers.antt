@@ -7,7 +7,7 @@ use mathlib.Core.Bool.{Bool, true, false}
 use mathlib.Core.List.{List}
 use lib.ListN.{length, getD}
 use Rattle.scheme.specs.Flags.{bit}
-use Rattle.index.specs.layout.Layout.{maxStates, maxNodes, wordBits, cellWords, maxCells}
+use Rattle.index.specs.layout.Layout.{maxNodes, wordBits, cellWords, maxCells}
 use Rattle.marks.specs.Marks.{bitOf}
 use Rattle.answers.specs.declared.Outlook.{Outlook}
 
@@ -39,22 +39,17 @@ pub record Says (memo : List ℕ) (wide stamp at goal : ℕ) (b : Bool) : Type 0
   pub known : bitOf (goal % wordBits) (getD memo (cellAt wide at goal + 1) 0) ≡ 1
   pub answer : bitOf (goal % wordBits) (getD memo (cellAt wide at goal + 2) 0) ≡ bit b
 
--- r is an answer of the memo: 1 no, 2 yes; any other number says nothing
-pub record Recalls (memo : List ℕ) (wide stamp at goal r : ℕ) : Type 0 where
-  pub yes : r ≡ 2 → Says memo wide stamp at goal true
-  pub no : r ≡ 1 → Says memo wide stamp at goal false
-
--- the bits of r are answers of the memo for the states
-pub record Looks (memo : List ℕ) (wide stamp at : ℕ) (r : Outlook) : Type 0 where
-  pub yes : (q : ℕ) → q < maxStates → bitOf q (r .had) ≡ 1 → Says memo wide stamp at q true
-  pub no : (q : ℕ) → q < maxStates → bitOf q (r .lacked) ≡ 1 → Says memo wide stamp at q false
+-- the bits of r are answers of the memo for the goals that stand in one cell with a goal
+pub record Looks (memo : List ℕ) (wide stamp at goal : ℕ) (r : Outlook) : Type 0 where
+  pub yes : (h : ℕ) → h / wordBits ≡ goal / wordBits → bitOf (h % wordBits) (r .had) ≡ 1 → Says memo wide stamp at h true
+  pub no : (h : ℕ) → h / wordBits ≡ goal / wordBits → bitOf (h % wordBits) (r .lacked) ≡ 1 → Says memo wide stamp at h false
 
 -- the tests that have answers in the memo have numbers below a bound
 abbrev pub Under : List ℕ → ℕ → Type 0
 Under memo bound = (i : ℕ) → getD memo (i * cellWords) 0 < bound
 
--- an answer is entered: what the memo has then it had before, or it is that answer
-pub record Learns (memo : List ℕ) (wide stamp at goal : ℕ) (b : Bool) (after : List ℕ) : Type 0 where
+-- answers are entered for goals that stand in one cell with a goal: what the memo has then it had before, or it is one of them
+pub record Learns (memo : List ℕ) (wide stamp at goal known had : ℕ) (after : List ℕ) : Type 0 where
   pub long : length after ≡ length memo
-  pub told : (s j h : ℕ) (c : Bool) → Says after wide s j h c → Says memo wide s j h c ⊎ ((s ≡ stamp) × (j ≡ at) × (h ≡ goal) × (c ≡ b))
+  pub told : (s j h : ℕ) (c : Bool) → Says after wide s j h c → Says memo wide s j h c ⊎ ((s ≡ stamp) × (j ≡ at) × (h / wordBits ≡ goal / wordBits) × (bitOf (h % wordBits) known ≡ 1) × (bitOf (h % wordBits) had ≡ bit c))
   pub under : (bound : ℕ) → stamp < bound → Under memo bound → Under after bound

@@ -5,9 +5,9 @@ use index::layout::CELL;
 use index::layout::MAX_CELLS;
 use index::layout::MAX_NODES;
 use index::layout::WORD;
-ghost use Rattle.answers.specs.Answers.{IsCell, Stamped, Recalls, Looks, Learns};
+ghost use Rattle.answers.specs.Answers.{IsCell, Stamped, Looks, Learns};
 
-// What a node is remembered to have of the states, and what it is remembered to lack, as bits.
+// What a node is remembered to have of 32 goals, and what it is remembered to lack, as bits.
 pub struct Outlook {
     pub had: u32,
     pub lacked: u32,
@@ -42,29 +42,11 @@ fn is_stamped(memo: &[u32], cell: usize, stamp: u32) -> bool
     memo[cell] == stamp
 }
 
-// What test number `stamp` remembers of a node and a goal: 0 nothing, 1 that it lacks it, 2 that it has it.
-pub fn recall(memo: &[u32], wide: usize, stamp: u32, at: usize, goal: usize) -> usize
-    ensures { λ r. ⌜ Recalls (now (memo .entry)) wide stamp at goal r ⌝ }
+// What test number `stamp` remembers of a node and the goals that stand in one cell with a goal.
+pub fn outlook_of(memo: &[u32], wide: usize, stamp: u32, at: usize, goal: usize) -> Outlook
+    ensures { λ r. ⌜ Looks (now (memo .entry)) wide stamp at goal r ⌝ }
 {
     let cell = cell_of(wide, at, goal);
-    if !is_stamped(memo, cell, stamp) {
-        return 0;
-    }
-    let k = (goal % WORD) as u32;
-    if (memo[cell + 1] >> k) % 2 == 0 {
-        return 0;
-    }
-    if (memo[cell + 2] >> k) % 2 == 0 {
-        return 1;
-    }
-    2
-}
-
-// What it remembers of a node and the states, which are the first goals.
-pub fn outlook_of(memo: &[u32], wide: usize, stamp: u32, at: usize) -> Outlook
-    ensures { λ r. ⌜ Looks (now (memo .entry)) wide stamp at r ⌝ }
-{
-    let cell = cell_of(wide, at, 0);
     if !is_stamped(memo, cell, stamp) {
         return Outlook { had: 0, lacked: 0 };
     }
@@ -76,9 +58,18 @@ pub fn outlook_of(memo: &[u32], wide: usize, stamp: u32, at: usize) -> Outlook
     }
 }
 
-// Remembers an answer of test number `stamp`; where there is no cell, nothing changes.
-pub fn learn(memo: &mut [u32], wide: usize, stamp: u32, at: usize, goal: usize, yes: bool)
-    ensures { λ _. ⌜ Learns (now (memo .entry)) wide stamp at goal yes (now (memo .exit)) ⌝ }
+// Remembers answers of test number `stamp` for goals that stand in one cell with a goal: those that are known, and which of these are
+// had. Where there is no cell, nothing changes.
+pub fn learn(
+    memo: &mut [u32],
+    wide: usize,
+    stamp: u32,
+    at: usize,
+    goal: usize,
+    known: u32,
+    had: u32,
+)
+    ensures { λ _. ⌜ Learns (now (memo .entry)) wide stamp at goal known had (now (memo .exit)) ⌝ }
 {
     let cell = cell_of(wide, at, goal);
     if ANSWERS <= cell {
@@ -87,18 +78,13 @@ pub fn learn(memo: &mut [u32], wide: usize, stamp: u32, at: usize, goal: usize, 
     if memo.len() < cell + CELL {
         return;
     }
-    let mut known: u32 = 0;
-    let mut had: u32 = 0;
+    let mut old: u32 = 0;
+    let mut said: u32 = 0;
     if memo[cell] == stamp {
-        known = memo[cell + 1];
-        had = memo[cell + 2];
+        old = memo[cell + 1];
+        said = memo[cell + 2];
     }
-    let bit = 1u32 << ((goal % WORD) as u32);
     memo[cell] = stamp;
-    memo[cell + 1] = known | bit;
-    if yes {
-        memo[cell + 2] = had | bit;
-        return;
-    }
-    memo[cell + 2] = had - (had & bit);
+    memo[cell + 1] = old | known;
+    memo[cell + 2] = (said - (said & known)) | (had & known);
 }

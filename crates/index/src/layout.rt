@@ -302,6 +302,9 @@ pub const HEAD_HINTS_AT: usize = HINTS / 2;
 
 pub const HINT_STRIDE: usize = 61;
 
+// A nonterminal of no more bindings is gone through without a hint.
+pub const FEW: usize = 8;
+
 // Shorter files have no hints.
 pub const NO_HINTS: usize = 0;
 

@@ -3,6 +3,7 @@ pub mod Arguments
 pub mod Targets
 pub mod Bound
 pub mod Members
+pub mod States
 pub mod Given
 pub mod Terms
 pub mod Moved

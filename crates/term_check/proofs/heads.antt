@@ -3,4 +3,3 @@ pub mod Candidates
 pub mod Matching
 pub mod Building
 pub mod Looking
-pub mod Deciding

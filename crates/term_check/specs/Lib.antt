@@ -1,3 +1,4 @@
 pub mod Worlds
 pub mod notes
 pub mod heads
+pub mod masks

@@ -19,7 +19,8 @@ use Rattle.casefile.specs.Kinds.{Kind, count}
 use Rattle.casefile.specs.Tables.{automatonOf, bindingsOf}
 use Rattle.index.specs.layout.Layout.{maxBindings, wordBits, testUsers, testAnswers, testCells}
 use Rattle.marks.specs.Marks.{bitOf, In}
-use Rattle.answers.specs.Answers.{Says, Under}
+use Rattle.answers.specs.Answers.{Says, Looks, Under}
+use Rattle.answers.specs.declared.Outlook.{Outlook}
 use Rattle.tables.specs.reading.Cells.{nodeAt}
 use Rattle.tables.specs.Facts.{Goal, TypesAre, BindingsAre, AutomatonIs, CandidatesAre, NodesAre, At, AllAt, off, closeds}
 use Rattle.term_check.specs.notes.Notes.{ownIn, baseIn, wideIn, wordsIn, totalIn, stampOf, ownerOf, columnOf}
@@ -141,6 +142,19 @@ MembersNo x w i g = (a : Tys) (r : Ty) → Goal (w .rs) g (arrow a r) → (u : T
 
 abbrev pub ChecksMembers : Case → List ℕ → List ℕ → ℕ → ℕ → List ℕ → List ℕ → Bool → Type 0
 ChecksMembers x memo users i g memo′ users′ r = Tells x memo users memo′ users′ (λ w. MembersYes x w users′ i g) (λ w. MembersNo x w i g) r
+
+-- the question for the term at a node and all goals of a set, as bits
+abbrev pub ChecksAll : Case → List ℕ → List ℕ → ℕ → ℕ → List ℕ → List ℕ → Bool → Type 0
+ChecksAll x memo users i mask memo′ users′ r = Tells x memo users memo′ users′ (λ w. (q : ℕ) → bitOf q mask ≡ 1 → Yes x w users′ i q) (λ w. (q : ℕ) × (bitOf q mask ≡ 1) × No x w i q) r
+
+-- the bits of m are goals that the term at a node has
+pub record Finds (x : Case) (memo users : List ℕ) (i : ℕ) (memo′ users′ : List ℕ) (m : ℕ) : Type 0 where
+  pub keeps : Keeps x memo users memo′ users′
+  pub found : (w : World) → Ready x w memo users → (q : ℕ) → bitOf q m ≡ 1 → Yes x w users′ i q
+
+-- r is what was known of the goals of a word, where the goal is one of them, or else what is remembered
+abbrev pub LooksOn : List ℕ → ℕ → ℕ → ℕ → ℕ → ℕ → Outlook → Outlook → Type 0
+LooksOn memo wide stamp at goal word known r = ((goal / wordBits ≡ word) × (r ≡ known)) ⊎ Looks memo wide stamp at goal r
 
 -- the question for the arguments from a node on, and a type that has an arrow for each
 abbrev pub ArgsYes : Case → World → List ℕ → ℕ → ℕ → ℕ → Type 0

@@ -1,15 +1,24 @@
 // The check of a term and the check of its arguments, which call each other.
 use crate::heads::alone;
 use crate::heads::candidate;
-use crate::heads::decided;
+use crate::heads::goes_down;
+use crate::heads::look;
 use crate::heads::targets_for;
+use crate::heads::wanted;
 use crate::hints::head_hint;
 use crate::hints::hint_in;
 use crate::hints::node_hint;
+use crate::masks::has_bit;
+use crate::masks::left_of;
+use crate::masks::lowest;
+use crate::masks::with_bit;
+use crate::masks::without_bit;
 use crate::notes::number_in;
 use crate::parts::learn_in;
 use crate::parts::note_in;
-use crate::parts::recall_in;
+use crate::parts::outlook_on;
+use answers::Outlook;
+use index::layout::FEW;
 use index::layout::MAX_NODES;
 use index::layout::NO_TARGETS;
 use index::layout::NONE;
@@ -18,23 +27,27 @@ use index::layout::TEST_BASE;
 use index::layout::TEST_CELLS;
 use index::layout::TEST_OWN;
 use index::layout::TEST_WORDS;
+use index::layout::WORD;
 use index::layout::WORDS_LIMIT;
 use marks::next_in;
 use tables::reading::Node;
+use tables::reading::arrows_of;
 use tables::reading::group_of;
 use tables::reading::many_of;
 use tables::reading::member_of;
 use tables::reading::node_of;
 use tables::reading::off;
 use tables::reading::result_of;
+use tables::reading::states_of;
 ghost use mathlib.Core.Path.{_≡_};
-ghost use Prim.Native.Nat.{_<_};
+ghost use Prim.Native.Nat.{ℕ, _<_};
+ghost use mathlib.Core.List.{List};
 ghost use lib.ListN.{length};
 ghost use Rattle.index.specs.layout.Layout.{maxNodes};
 ghost use Rattle.tables.specs.reading.Cells.{nodeAt};
 ghost use Rattle.term_check.specs.notes.Notes.{baseIn};
 ghost use Rattle.term_check.specs.heads.Heads.{Tries};
-ghost use Rattle.term_check.specs.Worlds.{caseOf, answersOf, usersOf, ChecksTerm, ChecksMembers, ChecksArgs, ChecksTargets};
+ghost use Rattle.term_check.specs.Worlds.{caseOf, answersOf, usersOf, ChecksTerm, ChecksMembers, ChecksAll, Finds, ChecksArgs, ChecksTargets};
 
 // Whether the term at a node has a goal. What its yes rests on is noted.
 pub fn check_term(t: &[u16], r: &[u32], w: &mut [u32], at: usize, goal: usize) -> bool
@@ -45,7 +58,7 @@ pub fn check_term(t: &[u16], r: &[u32], w: &mut [u32], at: usize, goal: usize) -
     }
     let node = node_of(t, number_in(r, TEST_BASE), at);
     if node.tag == 0 {
-        let targets = targets_for(t, node.number, node.count, goal);
+        let targets = targets_for(&*t, node.number, node.count, goal);
         if targets == NO_TARGETS {
             return false;
         }
@@ -64,7 +77,8 @@ pub fn check_term(t: &[u16], r: &[u32], w: &mut [u32], at: usize, goal: usize) -
     check_given(&*t, &*r, w, at, goal, node)
 }
 
-// Whether the `count` arguments from node `at` on have their targets, four bits each.
+// Whether the `count` arguments from node `at` on have their targets, four bits each. Where the last one is a constructor, its own
+// arguments take its place.
 fn check_targets(
     t: &[u16],
     r: &[u32],
@@ -80,22 +94,46 @@ fn check_targets(
     let mut rest = targets;
     let mut left = count;
     while 0 < left {
-        let next = node_of(t, base, here).next;
-        if next <= here {
+        let node = node_of(t, base, here);
+        if node.next <= here {
             return false;
         }
-        if !check_term(&*t, &*r, w, here, rest % 16) {
-            return false;
+        if goes_down(left, node.tag) {
+            rest = targets_for(&*t, node.number, node.count, rest % 16);
+            if rest == NO_TARGETS {
+                return false;
+            }
+            here = here + 1;
+            left = node.count;
+        } else {
+            if !check_target(&*t, &*r, w, here, rest % 16) {
+                return false;
+            }
+            here = node.next;
+            rest = rest / 16;
+            left = left - 1;
         }
-        here = next;
-        rest = rest / 16;
-        left = left - 1;
     }
     true
 }
 
-// Whether a nonterminal's term has a goal: one of its kept bindings leads to it, and the arguments have what its type asks for. First
-// the binding that served last is tried, for this nonterminal and for this node, then all that lead to the goal.
+// Whether the argument at a node has its target. Of a parameter that stands alone it is known.
+fn check_target(t: &[u16], r: &[u32], w: &mut [u32], at: usize, goal: usize) -> bool
+    ensures { λ b. ⌜ (length (now (w .exit)) ≡ length (now (w .entry))) × ChecksTerm (caseOf (now (t .entry)) (now (r .entry))) (answersOf (now (r .entry)) (now (w .entry))) (usersOf (now (r .entry)) (now (w .entry))) at goal (answersOf (now (r .entry)) (now (w .exit))) (usersOf (now (r .entry)) (now (w .exit))) b ⌝ }
+{
+    let node = node_of(t, number_in(r, TEST_BASE), at);
+    let known = alone(&*t, &*r, node, goal);
+    if known == 1 {
+        return false;
+    }
+    if known == 2 {
+        return true;
+    }
+    check_term(&*t, &*r, w, at, goal)
+}
+
+// Whether a nonterminal's term has a goal: one of its kept bindings leads to it, and the arguments have what its type asks for. All that
+// lead to the goal are tried; where there are many, first the one that served last for this nonterminal.
 fn check_bound(t: &[u16], r: &[u32], w: &mut [u32], at: usize, goal: usize, node: Node) -> bool
     requires { ⌜ at < maxNodes ⌝ }
     ensures { λ b. ⌜ (length (now (w .exit)) ≡ length (now (w .entry))) × (node ≡ nodeAt (now (t .entry)) (baseIn (now (r .entry))) at → node .tag ≡ 1 → ChecksTerm (caseOf (now (t .entry)) (now (r .entry))) (answersOf (now (r .entry)) (now (w .entry))) (usersOf (now (r .entry)) (now (w .entry))) at goal (answersOf (now (r .entry)) (now (w .exit))) (usersOf (now (r .entry)) (now (w .exit))) b) ⌝ }
@@ -103,19 +141,16 @@ fn check_bound(t: &[u16], r: &[u32], w: &mut [u32], at: usize, goal: usize, node
     let row = TEST_CELLS + goal % ROW_LIMIT * (number_in(r, TEST_WORDS) % WORDS_LIMIT);
     let high = group_of(t, node.number % ROW_LIMIT + 1);
     let mut from = group_of(t, node.number);
-    let mut c = head_hint(r, w, node.number, goal);
-    let mut spare = node_hint(r, w, at, goal);
+    let mut c = NONE;
+    if from + FEW < high {
+        c = head_hint(r, w, node.number, goal);
+    }
     while from <= high {
         if try_binding(&*t, &*r, w, at, goal, node, c) {
             return true;
         }
-        if spare != NONE {
-            c = spare;
-            spare = NONE;
-        } else {
-            c = next_in(r, row, from, high);
-            from = c + 1;
-        }
+        c = next_in(r, row, from, high);
+        from = c + 1;
     }
     false
 }
@@ -196,30 +231,171 @@ fn check_args(t: &[u16], r: &[u32], w: &mut [u32], at: usize, count: usize, ty: 
 fn check_members(t: &[u16], r: &[u32], w: &mut [u32], at: usize, ty: usize) -> bool
     ensures { λ b. ⌜ (length (now (w .exit)) ≡ length (now (w .entry))) × ChecksMembers (caseOf (now (t .entry)) (now (r .entry))) (answersOf (now (r .entry)) (now (w .entry))) (usersOf (now (r .entry)) (now (w .entry))) at ty (answersOf (now (r .entry)) (now (w .exit))) (usersOf (now (r .entry)) (now (w .exit))) b ⌝ }
 {
-    let known = decided(t, r, w, at, ty);
-    if known == 1 {
+    let states = states_of(t, ty) as u32;
+    let known = look(t, r, w, at);
+    if states & known.lacked != 0 {
         return false;
     }
-    if known == 2 {
+    let arrows = arrows_of(t, ty);
+    let missing = left_of(states, known.had);
+    if missing == 0 {
+        if arrows == 0 {
+            return true;
+        }
+        return check_each(&*t, &*r, w, at, ty);
+    }
+    if !check_states(&*t, &*r, w, at, missing) {
+        return false;
+    }
+    if arrows == 0 {
         return true;
     }
+    check_each(&*t, &*r, w, at, ty)
+}
+
+// Whether the term at a node has all goals of a set of states: first those that are found at once, then the others.
+fn check_states(t: &[u16], r: &[u32], w: &mut [u32], at: usize, asked: u32) -> bool
+    ensures { λ b. ⌜ (length (now (w .exit)) ≡ length (now (w .entry))) × ChecksAll (caseOf (now (t .entry)) (now (r .entry))) (answersOf (now (r .entry)) (now (w .entry))) (usersOf (now (r .entry)) (now (w .entry))) at asked (answersOf (now (r .entry)) (now (w .exit))) (usersOf (now (r .entry)) (now (w .exit))) b ⌝ }
+{
+    let found = find_states(&*t, &*r, w, at, asked);
+    check_left(&*t, &*r, w, at, asked, found)
+}
+
+// Whether the term at a node has those of a set of states that were not found, one by one. What is found is remembered.
+fn check_left(t: &[u16], r: &[u32], w: &mut [u32], at: usize, asked: u32, found: u32) -> bool
+    ensures { λ b. ⌜ (length (now (w .exit)) ≡ length (now (w .entry))) × ((memo users : List ℕ) → Finds (caseOf (now (t .entry)) (now (r .entry))) memo users at (answersOf (now (r .entry)) (now (w .entry))) (usersOf (now (r .entry)) (now (w .entry))) found → ChecksAll (caseOf (now (t .entry)) (now (r .entry))) memo users at asked (answersOf (now (r .entry)) (now (w .exit))) (usersOf (now (r .entry)) (now (w .exit))) b) ⌝ }
+{
+    let closed = node_of(t, number_in(r, TEST_BASE), at).closed;
+    let mut had = found;
+    let mut left = left_of(asked, found);
+    while left != 0 {
+        let q = lowest(left);
+        if !check_term(&*t, &*r, w, at, q) {
+            learn_in(r, w, closed, at, 0, with_bit(had, q), had);
+            return false;
+        }
+        had = with_bit(had, q);
+        left = without_bit(left, q);
+    }
+    learn_in(r, w, closed, at, 0, had, had);
+    true
+}
+
+// Some states that the term at a node has, of a set: the ones found before something fails.
+fn find_states(t: &[u16], r: &[u32], w: &mut [u32], at: usize, asked: u32) -> u32
+    ensures { λ m. ⌜ (length (now (w .exit)) ≡ length (now (w .entry))) × Finds (caseOf (now (t .entry)) (now (r .entry))) (answersOf (now (r .entry)) (now (w .entry))) (usersOf (now (r .entry)) (now (w .entry))) at (answersOf (now (r .entry)) (now (w .exit))) (usersOf (now (r .entry)) (now (w .exit))) m ⌝ }
+{
+    if MAX_NODES <= at {
+        return 0;
+    }
+    let node = node_of(t, number_in(r, TEST_BASE), at);
+    if node.tag == 1 {
+        return find_bound(&*t, &*r, w, at, asked, node);
+    }
+    if node.tag == 2 {
+        return find_given(&*t, &*r, w, at, asked, node);
+    }
+    0
+}
+
+// States of a set that a nonterminal's term has by the bindings that served last for this node.
+fn find_bound(t: &[u16], r: &[u32], w: &mut [u32], at: usize, asked: u32, node: Node) -> u32
+    requires { ⌜ at < maxNodes ⌝ }
+    ensures { λ m. ⌜ (length (now (w .exit)) ≡ length (now (w .entry))) × (node ≡ nodeAt (now (t .entry)) (baseIn (now (r .entry))) at → node .tag ≡ 1 → Finds (caseOf (now (t .entry)) (now (r .entry))) (answersOf (now (r .entry)) (now (w .entry))) (usersOf (now (r .entry)) (now (w .entry))) at (answersOf (now (r .entry)) (now (w .exit))) (usersOf (now (r .entry)) (now (w .exit))) m) ⌝ }
+{
+    let mut had: u32 = 0;
+    let mut left = asked;
+    while left != 0 {
+        let q = lowest(left);
+        let c = node_hint(r, w, at, q);
+        let ty = candidate(t, r, node.number, node.count, q, c);
+        if ty == NONE {
+            return had;
+        }
+        if !check_args(&*t, &*r, w, at + 1, node.count, ty) {
+            return had;
+        }
+        note_in(r, w, node.closed, c);
+        had = with_bit(had, q);
+        left = without_bit(left, q);
+    }
+    had
+}
+
+// States of a set that a parameter's term has by the members given for it, one after another.
+fn find_given(t: &[u16], r: &[u32], w: &mut [u32], at: usize, asked: u32, node: Node) -> u32
+    requires { ⌜ at < maxNodes ⌝ }
+    ensures { λ m. ⌜ (length (now (w .exit)) ≡ length (now (w .entry))) × (node ≡ nodeAt (now (t .entry)) (baseIn (now (r .entry))) at → (node .tag ≡ 0 → ⊥) → (node .tag ≡ 1 → ⊥) → Finds (caseOf (now (t .entry)) (now (r .entry))) (answersOf (now (r .entry)) (now (w .entry))) (usersOf (now (r .entry)) (now (w .entry))) at (answersOf (now (r .entry)) (now (w .exit))) (usersOf (now (r .entry)) (now (w .exit))) m) ⌝ }
+{
+    let given = off(t, number_in(r, TEST_OWN), node.number);
+    if given == NONE {
+        return 0;
+    }
+    let many = many_of(t, given);
+    let mut had: u32 = 0;
+    let mut j: usize = 0;
+    while j < many {
+        let ty = member_of(t, given, j);
+        j = j + 1;
+        let q = wanted(t, left_of(asked, had), ty, node.count);
+        if q != NONE {
+            if !check_args(&*t, &*r, w, at + 1, node.count, ty) {
+                return had;
+            }
+            had = with_bit(had, q);
+        }
+    }
+    had
+}
+
+// Whether the term at a node has each member of an arrow. What is found is remembered.
+fn check_each(t: &[u16], r: &[u32], w: &mut [u32], at: usize, ty: usize) -> bool
+    ensures { λ b. ⌜ (length (now (w .exit)) ≡ length (now (w .entry))) × ChecksMembers (caseOf (now (t .entry)) (now (r .entry))) (answersOf (now (r .entry)) (now (w .entry))) (usersOf (now (r .entry)) (now (w .entry))) at ty (answersOf (now (r .entry)) (now (w .exit))) (usersOf (now (r .entry)) (now (w .exit))) b ⌝ }
+{
     let closed = node_of(t, number_in(r, TEST_BASE), at).closed;
     let many = many_of(t, ty);
+    let mut known = Outlook { had: 0, lacked: 0 };
+    let mut word = NONE;
     let mut j: usize = 0;
     while j < many {
         let goal = member_of(t, ty, j);
         j = j + 1;
-        let old = recall_in(r, w, closed, at, goal);
-        if old == 1 {
+        known = outlook_on(r, w, closed, at, goal, word, known);
+        word = goal / WORD;
+        if has_bit(known.lacked, goal) {
             return false;
         }
-        if old != 2 {
-            let yes = check_term(&*t, &*r, w, at, goal);
-            learn_in(r, w, closed, at, goal, yes);
-            if !yes {
+        if !has_bit(known.had, goal) {
+            let bit = with_bit(0, goal % WORD);
+            if !check_member(&*t, &*r, w, at, goal) {
+                learn_in(r, w, closed, at, goal, bit, 0);
                 return false;
             }
+            learn_in(r, w, closed, at, goal, bit, bit);
         }
     }
+    true
+}
+
+// Whether the term at a node has a goal: of a nonterminal's term the binding is tried first that served last.
+fn check_member(t: &[u16], r: &[u32], w: &mut [u32], at: usize, goal: usize) -> bool
+    ensures { λ b. ⌜ (length (now (w .exit)) ≡ length (now (w .entry))) × ChecksTerm (caseOf (now (t .entry)) (now (r .entry))) (answersOf (now (r .entry)) (now (w .entry))) (usersOf (now (r .entry)) (now (w .entry))) at goal (answersOf (now (r .entry)) (now (w .exit))) (usersOf (now (r .entry)) (now (w .exit))) b ⌝ }
+{
+    if MAX_NODES <= at {
+        return false;
+    }
+    let node = node_of(t, number_in(r, TEST_BASE), at);
+    if node.tag != 1 {
+        return check_term(&*t, &*r, w, at, goal);
+    }
+    let c = head_hint(r, w, node.number, goal);
+    let ty = candidate(t, r, node.number, node.count, goal, c);
+    if ty == NONE {
+        return check_term(&*t, &*r, w, at, goal);
+    }
+    if !check_args(&*t, &*r, w, at + 1, node.count, ty) {
+        return check_term(&*t, &*r, w, at, goal);
+    }
+    note_in(r, w, node.closed, c);
     true
 }

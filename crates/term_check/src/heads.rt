@@ -1,4 +1,5 @@
 // The types of a head against a goal, and what is known of an argument without a check.
+use crate::masks::has_bit;
 use crate::notes::number_in;
 use crate::parts::outlook_in;
 use answers::Outlook;
@@ -16,7 +17,6 @@ use index::layout::WORDS_LIMIT;
 use marks::is_in;
 use tables::reading::Node;
 use tables::reading::arity_of;
-use tables::reading::arrows_of;
 use tables::reading::end_of;
 use tables::reading::many_of;
 use tables::reading::member_of;
@@ -29,9 +29,12 @@ use tables::reading::states_of;
 use tables::reading::symbol_of;
 use tables::reading::targets_of;
 ghost use mathlib.Core.Path.{_≡_};
-ghost use Prim.Native.Nat.{_/_, _^_, _≤_};
+ghost use Prim.Native.Nat.{_/_, _^_, _≤_, _<_};
+ghost use mathlib.Core.Bool.{true};
+ghost use Rattle.index.specs.layout.Layout.{maxStates, noNumber};
+ghost use Rattle.tables.specs.reading.Cells.{offOf};
 ghost use Rattle.term_check.specs.Worlds.{caseOf, answersOf};
-ghost use Rattle.term_check.specs.heads.Heads.{IsCandidate, Matches, IsTargets, Alone, Seen, Decides};
+ghost use Rattle.term_check.specs.heads.Heads.{IsCandidate, Matches, IsTargets, Alone, Seen};
 
 // The type of binding c, where it is a kept one of a nonterminal whose type with arrows off is the goal; else NONE.
 pub fn candidate(t: &[u16], r: &[u32], number: usize, count: usize, goal: usize, c: usize) -> usize
@@ -151,7 +154,7 @@ pub fn alone(t: &[u16], r: &[u32], node: Node, goal: usize) -> usize
 }
 
 // The states that the term at a node is known to have, and those that it is known to lack: of a parameter that stands alone all are known.
-fn look(t: &[u16], r: &[u32], w: &[u32], at: usize) -> Outlook
+pub fn look(t: &[u16], r: &[u32], w: &[u32], at: usize) -> Outlook
     ensures { λ s. ⌜ Seen (caseOf (now (t .entry)) (now (r .entry))) (answersOf (now (r .entry)) (now (w .entry))) at s ⌝ }
 {
     let node = node_of(t, number_in(r, TEST_BASE), at);
@@ -171,23 +174,32 @@ fn look(t: &[u16], r: &[u32], w: &[u32], at: usize) -> Outlook
             };
         }
     }
-    outlook_in(r, w, node.closed, at)
+    outlook_in(r, w, node.closed, at, 0)
 }
 
-// What is known of the term at a node and the members of an arrow: 2 that it has them all, 1 that it lacks one, else 0.
-pub fn decided(t: &[u16], r: &[u32], w: &[u32], at: usize, ty: usize) -> usize
-    ensures { λ s. ⌜ Decides (caseOf (now (t .entry)) (now (r .entry))) (answersOf (now (r .entry)) (now (w .entry))) at ty s ⌝ }
+// The state that a type becomes with so many arrows off, where it is one of a set; else NONE.
+pub fn wanted(t: &[u16], states: u32, ty: usize, count: usize) -> usize
+    ensures { λ s. ⌜ ((s ≡ noNumber → ⊥) → (s < maxStates) × (s ≡ offOf (now (t .entry)) count ty)) ⌝ }
 {
-    let states = states_of(t, ty) as u32;
-    let known = look(t, r, w, at);
-    if states & known.lacked != 0 {
-        return 1;
+    let q = end_of(t, ty);
+    if MAX_STATES <= q {
+        return NONE;
     }
-    if arrows_of(t, ty) != 0 {
-        return 0;
+    if !has_bit(states, q) {
+        return NONE;
     }
-    if states - (states & known.had) != 0 {
-        return 0;
+    if off(t, ty, count) != q {
+        return NONE;
     }
-    2
+    q
+}
+
+// Whether there is one argument left, and it has a constructor in front.
+pub fn goes_down(left: usize, tag: usize) -> bool
+    ensures { λ s. ⌜ (s ≡ true → (left ≡ 1) × (tag ≡ 0)) ⌝ }
+{
+    if left != 1 {
+        return false;
+    }
+    tag == 0
 }

@@ -7,11 +7,11 @@ use index::layout::HINTS;
 use index::layout::MAX_BINDINGS;
 use index::layout::MAX_NODES;
 use index::layout::MAX_STATES;
-use index::layout::NODE_CELLS;
 use index::layout::NONE;
 use index::layout::PLACE_LIMIT;
 use index::layout::ROW_LIMIT;
 use index::layout::TEST_BASE;
+use index::layout::TEST_USERS;
 ghost use mathlib.Core.Path.{_≡_};
 ghost use Prim.Native.Nat.{_<_};
 ghost use lib.ListN.{length};
@@ -22,8 +22,8 @@ ghost use Rattle.term_check.specs.Worlds.{answersOf, usersOf};
 fn node_place(r: &[u32], at: usize, goal: usize) -> usize
     ensures { λ i. ⌜ i < hintCells ⌝ }
 {
-    let node = (number_in(r, TEST_BASE) + at % MAX_NODES * NODE_CELLS) % PLACE_LIMIT;
-    (node * MAX_STATES + goal % ROW_LIMIT) % HEAD_HINTS_AT
+    let body = number_in(r, TEST_BASE) % PLACE_LIMIT;
+    (body + at % MAX_NODES * MAX_STATES + goal % ROW_LIMIT) % HEAD_HINTS_AT
 }
 
 // The hint for a nonterminal and a goal: in the upper half.
@@ -35,7 +35,7 @@ fn head_place(number: usize, goal: usize) -> usize
 
 // The binding that served last for a node and a goal; NONE where there is no table of hints.
 pub fn node_hint(r: &[u32], w: &[u32], at: usize, goal: usize) -> usize {
-    if from_of(r, w) < HINTS {
+    if number_in(r, TEST_USERS) < HINTS {
         return NONE;
     }
     number_in(w, node_place(r, at, goal))
@@ -43,7 +43,7 @@ pub fn node_hint(r: &[u32], w: &[u32], at: usize, goal: usize) -> usize {
 
 // The binding that served last for a nonterminal and a goal, at any node.
 pub fn head_hint(r: &[u32], w: &[u32], number: usize, goal: usize) -> usize {
-    if from_of(r, w) < HINTS {
+    if number_in(r, TEST_USERS) < HINTS {
         return NONE;
     }
     number_in(w, head_place(number, goal))

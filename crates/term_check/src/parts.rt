@@ -5,16 +5,16 @@ use crate::notes::stamp_of;
 use answers::Outlook;
 use answers::learn;
 use answers::outlook_of;
-use answers::recall;
 use index::layout::TEST_ANSWERS;
 use index::layout::TEST_USERS;
 use index::layout::TEST_WIDE;
+use index::layout::WORD;
 ghost use mathlib.Core.Path.{_≡_};
 ghost use Prim.Native.Nat.{_≤_};
 ghost use lib.ListN.{length};
-ghost use Rattle.answers.specs.Answers.{Recalls, Looks, Learns};
+ghost use Rattle.answers.specs.Answers.{Looks, Learns};
 ghost use Rattle.term_check.specs.notes.Notes.{wideIn, stampOf, Notes};
-ghost use Rattle.term_check.specs.Worlds.{splitAt, fromIn, answersOf, usersOf};
+ghost use Rattle.term_check.specs.Worlds.{splitAt, fromIn, answersOf, usersOf, LooksOn};
 
 // Where the answers begin.
 pub fn split_of(r: &[u32], w: &[u32]) -> usize
@@ -39,34 +39,50 @@ pub fn from_of(r: &[u32], w: &[u32]) -> usize
     from
 }
 
-// What is remembered of a node and a goal: 0 nothing, 1 that it lacks it, 2 that it has it.
-pub fn recall_in(r: &[u32], w: &[u32], closed: bool, at: usize, goal: usize) -> usize
-    ensures { λ s. ⌜ Recalls (answersOf (now (r .entry)) (now (w .entry))) (wideIn (now (r .entry))) (stampOf (now (r .entry)) closed) at goal s ⌝ }
+// What is remembered of a node and the goals that stand in one cell with a goal.
+pub fn outlook_in(r: &[u32], w: &[u32], closed: bool, at: usize, goal: usize) -> Outlook
+    ensures { λ s. ⌜ Looks (answersOf (now (r .entry)) (now (w .entry))) (wideIn (now (r .entry))) (stampOf (now (r .entry)) closed) at goal s ⌝ }
 {
     let split = split_of(r, w);
     let wide = number_in(r, TEST_WIDE);
     let stamp = stamp_of(r, closed);
-    recall(&w[split..], wide, stamp, at, goal)
+    outlook_of(&w[split..], wide, stamp, at, goal)
 }
 
-// What is remembered of a node and the states.
-pub fn outlook_in(r: &[u32], w: &[u32], closed: bool, at: usize) -> Outlook
-    ensures { λ s. ⌜ Looks (answersOf (now (r .entry)) (now (w .entry))) (wideIn (now (r .entry))) (stampOf (now (r .entry)) closed) at s ⌝ }
+// The same, where it was looked up last for the goals of a word: once for each word.
+pub fn outlook_on(
+    r: &[u32],
+    w: &[u32],
+    closed: bool,
+    at: usize,
+    goal: usize,
+    word: usize,
+    known: Outlook,
+) -> Outlook
+    ensures { λ s. ⌜ LooksOn (answersOf (now (r .entry)) (now (w .entry))) (wideIn (now (r .entry))) (stampOf (now (r .entry)) closed) at goal word known s ⌝ }
 {
-    let split = split_of(r, w);
-    let wide = number_in(r, TEST_WIDE);
-    let stamp = stamp_of(r, closed);
-    outlook_of(&w[split..], wide, stamp, at)
+    if goal / WORD == word {
+        return known;
+    }
+    outlook_in(r, w, closed, at, goal)
 }
 
-// Remembers an answer.
-pub fn learn_in(r: &[u32], w: &mut [u32], closed: bool, at: usize, goal: usize, yes: bool)
-    ensures { λ _. ⌜ (length (now (w .exit)) ≡ length (now (w .entry))) × (usersOf (now (r .entry)) (now (w .exit)) ≡ usersOf (now (r .entry)) (now (w .entry))) × Learns (answersOf (now (r .entry)) (now (w .entry))) (wideIn (now (r .entry))) (stampOf (now (r .entry)) closed) at goal yes (answersOf (now (r .entry)) (now (w .exit))) ⌝ }
+// Remembers answers for goals that stand in one cell with a goal: those that are known, and which of these are had.
+pub fn learn_in(
+    r: &[u32],
+    w: &mut [u32],
+    closed: bool,
+    at: usize,
+    goal: usize,
+    known: u32,
+    had: u32,
+)
+    ensures { λ _. ⌜ (length (now (w .exit)) ≡ length (now (w .entry))) × (usersOf (now (r .entry)) (now (w .exit)) ≡ usersOf (now (r .entry)) (now (w .entry))) × Learns (answersOf (now (r .entry)) (now (w .entry))) (wideIn (now (r .entry))) (stampOf (now (r .entry)) closed) at goal known had (answersOf (now (r .entry)) (now (w .exit))) ⌝ }
 {
     let split = split_of(r, w);
     let wide = number_in(r, TEST_WIDE);
     let stamp = stamp_of(r, closed);
-    learn(&mut w[split..], wide, stamp, at, goal, yes);
+    learn(&mut w[split..], wide, stamp, at, goal, known, had);
 }
 
 // Notes that a kept binding served at a node.

@@ -15,7 +15,7 @@ is-stamped-requires : tie.Need-is-stamped-requires
 is-stamped-requires c κs = search needs
 
 returns : tie.Need-returns
-returns c = looks-nothing _ _ _ _ _ refl refl
+returns c = looks-nothing _ _ _ _ _ _ refl refl
 
 add-known : tie.Need-add-known
 add-known c = search needs
@@ -35,11 +35,11 @@ mul-both c = search needs
 shared-slice-read-both : tie.Need-shared-slice-read-both
 shared-slice-read-both c = omega (arith, c .before .before .before .is-stamped .ensures .room (not-false _ (c .before .before .if1 .left)))
 
-sub-t13 : tie.Need-sub-t13
-sub-t13 c = and-le-l _ _
+sub-t14 : tie.Need-sub-t14
+sub-t14 c = and-le-l _ _
 
 returns-2 : tie.Need-returns-2
-returns-2 c = looks _ _ _ _ _ (c .before .before .before .before .cell-of .ensures) _ (not-false _ (c .before .before .if1 .left)) (c .before .before .before .is-stamped .ensures) _ refl refl
+returns-2 c = looks _ _ _ _ _ _ (c .before .before .before .before .cell-of .ensures) _ (not-false _ (c .before .before .if1 .left)) (c .before .before .before .is-stamped .ensures) _ refl refl
 
 pub outlook-of-spec : {M : Type 1} → statement M
 outlook-of-spec =
@@ -54,5 +54,5 @@ outlook-of-spec =
     add-both
     mul-both
     shared-slice-read-both
-    sub-t13
+    sub-t14
     returns-2)

@@ -7,9 +7,6 @@ use mathlib.Core.Logic.{_⊎_, inl, inr}
 use mathlib.Core.Bool.{Bool, true, false, true≢false}
 use mathlib.Core.List.{List}
 use mathlib.Core.Option.{some}
-use borrow.Author.Tests.{ne-eqb}
-use lib.Dec.{eqb}
-use Rattle.scheme.specs.Lists.{if_then_else_}
 use Rattle.scheme.specs.Terms.{nt, Term, node, Terms, countᵗ}
 use Rattle.scheme.specs.Types.{Ty}
 use Rattle.index.specs.layout.Layout.{noNumber, rowLimit}
@@ -149,10 +146,7 @@ module _ (x : Case) (memo users : List ℕ) (at goal : ℕ) (a : Node) where
             other d low h e (inr f) = omega arith
 
   module _ {memo′ users′ : List ℕ} {from : ℕ} (f : Failed memo′ users′ from) where
-    -- the next hint; where there is none, all that lead to the goal
-    pub try-hint : (c : ℕ) → from ≡ groupOf (x .t) (a .number) → Tried memo′ users′ from c
-    try-hint c e = record { keeps = f .keeps; last = inr e; fails = λ w r d l h ne. f .fails w r d l h }
-
+    -- the next one that leads to the goal
     pub try-next : (c high from′ row : ℕ) → row ≡ goal % rowLimit * wordsIn (x .test) → FindsNext (x .sets) row from high c → from′ ≡ suc c → Tried memo′ users′ from′ c
     try-next c high from′ row er next ef =
         record { keeps = f .keeps; last = inl ef; fails = λ w r d l h ne. by w r d l (omega arith) ne (decLt d from) }
@@ -164,17 +158,9 @@ module _ (x : Case) (memo users : List ℕ) (at goal : ℕ) (a : Node) where
             let e : row ≡ goal * wordsIn (x .test) = er ∙ ap (λ k. k * wordsIn (x .test)) (let m : goal % rowLimit ≡ goal = omega arith in m) in
             next .passed d (omega arith) (omega arith) (subst (λ k. In (x .sets) k d) (sym e) (r .setting .candidates .all-in d (leads .inside) (leads .is-kept) (a .count) goal σ few (leads .rest) g))
 
--- how many trials are left: the hint that is not tried yet, and the bindings
-unfoldable pub trials : ℕ → ℕ → ℕ → ℕ
-trials high from spare = (suc high - from) * 2 + (if eqb spare noNumber then 0 else 1)
-
-pub trials-hint : (high from spare : ℕ) → (spare ≡ noNumber → ⊥) → trials high from noNumber < trials high from spare
-unfolding trials
-trials-hint high from spare ne = rw (ne-eqb spare noNumber ne) (omega arith)
-
-pub trials-next : (high from from′ spare : ℕ) → from ≤ high → from < from′ → trials high from′ spare < trials high from spare
-unfolding trials
-trials-next high from from′ spare l h = omega arith
+-- a binding that serves decides
+pub served : {x : Case} {memo users memo′ users′ : List ℕ} (at : ℕ) {goal : ℕ} {a : Node} {c : ℕ} → a ≡ nodeAt (x .t) (baseIn (x .test)) at → a .tag ≡ 1 → Tries x memo users at goal a c memo′ users′ true → ChecksTerm x memo users at goal memo′ users′ true
+served at ea et told = record { keeps = told ea et .keeps; yes = λ y. told ea et .yes y; no = λ y. absurd (true≢false y) }
 
 -- what is found stands behind where the search began
 pub next-behind : (words : List ℕ) (row from high c : ℕ) → FindsNext words row from high c → from ≤ high → from ≤ c

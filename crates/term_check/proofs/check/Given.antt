@@ -113,40 +113,40 @@ module _ (x : Case) (memo users : List ℕ) (at goal : ℕ) (a : Node) (given : 
               let (k, l, e) = mem-index (state 0) (members b) υ m in
               t .fails w r k (omega arith) b s σ gb l g ts al count (subst (λ z. off z (getD (members b) k (state 0)) ≡ some σ) count (subst (λ z. off (countᵗ ts) z ≡ some σ) (sym e) rest)) (subst (Args (Has w (w .kept)) ts) (sym e) args)
 
-      -- one of them serves
-      module _ (l : j < many) (ne : given ≡ noNumber → ⊥) (ty : ℕ) (is-ty : ty ≡ memberOf (x .t) given j) (rest : ℕ) (is-rest : rest ≡ offOf (x .t) (a .count) ty) (leads : rest ≡ goal) (first : ℕ) (is-first : first ≡ suc at) (memo″ users″ : List ℕ) (d : Bool) (told : ChecksArgs x memo′ users′ first (a .count) ty memo″ users″ d) where
-        pub member-serves : d ≡ true → ChecksTerm x memo users at goal memo″ users″ true
-        member-serves e =
-            record {
-              keeps = keeps-on (t .keeps) (told .keeps);
-              yes = λ y w r flags inc u here σ g. serves w r flags inc u σ g (split-term x w (r .setting) a at ea u here);
-              no = λ y. absurd (true≢false y);
-            }
-          where
-            arrow-here : (w : World) → Setting x w → (υ : Ty) → Goal (w .rs) given υ → IsArrow w (x .t) given j υ
-            arrow-here w s υ (of-state q h eg eυ) =
-                let row = s .types .state-row q h in
-                let z : manyOf (x .t) given ≡ 0 = ap (manyOf (x .t)) eg ∙ row .no-members in
-                absurd (omega arith)
-            arrow-here w s υ (of-arrow m b r h eg et eυ) =
-                let gb : Goal (w .rs) given (arrow b r) = of-arrow m b r h eg et refl in
-                let row = s .types .arrow-row given b r gb in
-                let n = row .many in
-                is-arrow b r eυ gb (omega arith) (row .member j (omega arith))
+    -- a member that serves
+    module _ (j many : ℕ) (is-many : many ≡ manyOf (x .t) given) (l : j < many) (ne : given ≡ noNumber → ⊥) (ty : ℕ) (is-ty : ty ≡ memberOf (x .t) given j) (rest : ℕ) (is-rest : rest ≡ offOf (x .t) (a .count) ty) (leads : rest ≡ goal) (first : ℕ) (is-first : first ≡ suc at) (memo″ users″ : List ℕ) (d : Bool) (told : ChecksArgs x memo users first (a .count) ty memo″ users″ d) where
+      pub member-has : d ≡ true → ChecksTerm x memo users at goal memo″ users″ true
+      member-has e =
+          record {
+            keeps = told .keeps;
+            yes = λ y w r flags inc u here σ g. serves w r flags inc u σ g (split-term x w (r .setting) a at ea u here);
+            no = λ y. absurd (true≢false y);
+          }
+        where
+          arrow-here : (w : World) → Setting x w → (υ : Ty) → Goal (w .rs) given υ → IsArrow w (x .t) given j υ
+          arrow-here w s υ (of-state q h eg eυ) =
+              let row = s .types .state-row q h in
+              let z : manyOf (x .t) given ≡ 0 = ap (manyOf (x .t)) eg ∙ row .no-members in
+              absurd (omega arith)
+          arrow-here w s υ (of-arrow m b r h eg et eυ) =
+              let gb : Goal (w .rs) given (arrow b r) = of-arrow m b r h eg et refl in
+              let row = s .types .arrow-row given b r gb in
+              let n = row .many in
+              is-arrow b r eυ gb (omega arith) (row .member j (omega arith))
 
-            serves : (w : World) → Ready x w memo users → (flags : List ℕ) → Includes x w users″ (shut x at) flags → (u : Term) (σ : Ty) → Goal (w .rs) goal σ → Split x w a at u → Has w flags u σ
-            serves w r flags inc u σ g (split ts eu al count few ec) =
-                let s = r .setting in
-                let (υ, o, gυ) = off-some (s .types) (a .number) (ownIn (x .test)) (w .τ) (s .own) (λ k. ne (is-given ∙ k)) in
-                by υ o (arrow-here w s υ (subst (λ k. Goal (w .rs) k υ) (sym is-given) gυ))
-              where
-                opened : shut x at ≡ true → closeds ts ≡ true
-                opened k = absurd (true≢false (sym k ∙ ap (λ (z : Node). z .closed) (sym ea) ∙ ec ∙ ap closed (to-par u ts eu) ∙ closed-given (a .number) ts))
+          serves : (w : World) → Ready x w memo users → (flags : List ℕ) → Includes x w users″ (shut x at) flags → (u : Term) (σ : Ty) → Goal (w .rs) goal σ → Split x w a at u → Has w flags u σ
+          serves w r flags inc u σ g (split ts eu al count few ec) =
+              let s = r .setting in
+              let (υ, o, gυ) = off-some (s .types) (a .number) (ownIn (x .test)) (w .τ) (s .own) (λ k. ne (is-given ∙ k)) in
+              by υ o (arrow-here w s υ (subst (λ k. Goal (w .rs) k υ) (sym is-given) gυ))
+            where
+              opened : shut x at ≡ true → closeds ts ≡ true
+              opened k = absurd (true≢false (sym k ∙ ap (λ (z : Node). z .closed) (sym ea) ∙ ec ∙ ap closed (to-par u ts eu) ∙ closed-given (a .number) ts))
 
-                by : (υ : Ty) → off (a .number) (w .τ) ≡ some υ → IsArrow w (x .t) given j υ → Has w flags u σ
-                by υ o (is-arrow b ρ eυ gb h gm) =
-                    let m = getD (members b) j (state 0) in
-                    let gm′ : Goal (w .rs) ty m = subst (λ k. Goal (w .rs) k m) (sym is-ty) gm in
-                    let o′ : off (a .count) m ≡ some σ = off-is (r .setting .types) (a .count) ty goal m σ gm′ g (sym is-rest ∙ leads) in
-                    let args = told .yes e w (ready-on (t .keeps) r) (shut x at) flags inc ts (subst (λ k. AllAt (w .ns) k ts) (sym is-first) al) count opened m σ gm′ o′ in
-                    subst (λ z. Has w flags z σ) (sym (to-par u ts eu)) (given-has w flags ts σ (a .number) b ρ m (o ∙ ap some eυ) (getD-mem (members b) j (state 0) h) (subst (λ z. off z m ≡ some σ) (sym count) o′) args)
+              by : (υ : Ty) → off (a .number) (w .τ) ≡ some υ → IsArrow w (x .t) given j υ → Has w flags u σ
+              by υ o (is-arrow b ρ eυ gb h gm) =
+                  let m = getD (members b) j (state 0) in
+                  let gm′ : Goal (w .rs) ty m = subst (λ k. Goal (w .rs) k m) (sym is-ty) gm in
+                  let o′ : off (a .count) m ≡ some σ = off-is (r .setting .types) (a .count) ty goal m σ gm′ g (sym is-rest ∙ leads) in
+                  let args = told .yes e w (r) (shut x at) flags inc ts (subst (λ k. AllAt (w .ns) k ts) (sym is-first) al) count opened m σ gm′ o′ in
+                  subst (λ z. Has w flags z σ) (sym (to-par u ts eu)) (given-has w flags ts σ (a .number) b ρ m (o ∙ ap some eυ) (getD-mem (members b) j (state 0) h) (subst (λ z. off z m ≡ some σ) (sym count) o′) args)

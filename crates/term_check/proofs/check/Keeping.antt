@@ -7,11 +7,13 @@ use mathlib.Core.Bool.{Bool, true, false, true≢false}
 use mathlib.Core.List.{List}
 use lib.ListN.{length, getD}
 use Rattle.index.specs.layout.Layout.{wordBits}
+use Rattle.scheme.specs.Flags.{bit}
 use Rattle.marks.specs.Marks.{bitOf, In}
+use Rattle.answers.specs.Answers.{Says, Learns}
 use Rattle.tables.specs.reading.Cells.{nodeAt}
 use Rattle.tables.specs.declared.reading.Node.{Node}
-use Rattle.term_check.specs.notes.Notes.{baseIn, stampOf, ownerOf, columnOf, Notes}
-use Rattle.term_check.specs.Worlds.{Case, World, Room, Includes, Yes, Right, Ready, Keeps, shut}
+use Rattle.term_check.specs.notes.Notes.{baseIn, wideIn, stampOf, ownerOf, columnOf, Notes}
+use Rattle.term_check.specs.Worlds.{Case, World, Room, Includes, Yes, No, Right, Ready, Keeps, Tells, shut}
 
 -- notes that grew
 abbrev pub Grows : List ℕ → List ℕ → Type 0
@@ -74,6 +76,42 @@ keeps-on k l =
 pub keeps-note : (x : Case) (memo users users′ : List ℕ) (closed : Bool) (c : ℕ) → Notes users (x .test) closed c users′ → Keeps x memo users memo users′
 keeps-note x memo users users′ closed c n = record { long = n .long; grows = n .grows; under = λ bound s o u. u; right = λ w r. right-more x w memo users users′ (n .grows) (r .right) }
 
+-- an answer after what keeps all is an answer
+pub tells-on : {x : Case} {memo users memo′ users′ memo″ users″ : List ℕ} {Y N : World → Type 0} {r : Bool} → Keeps x memo users memo′ users′ → Tells x memo′ users′ memo″ users″ Y N r → Tells x memo users memo″ users″ Y N r
+tells-on k told = record { keeps = keeps-on k (told .keeps); yes = λ e w r. told .yes e w (ready-on k r); no = λ e w r. told .no e w (ready-on k r) }
+
+-- answers that are right are remembered
+module _ {x : Case} {memo users memo′ users′ : List ℕ} (k : Keeps x memo users memo′ users′) (at goal known had : ℕ) (closed : Bool) (is-closed : closed ≡ shut x at) (memo″ : List ℕ) (learns : Learns memo′ (wideIn (x .test)) (stampOf (x .test) closed) at goal known had memo″) where
+  -- what the goals of one cell that are known are
+  pub record Known : Type 0 where
+    pub yes : (w : World) → Ready x w memo users → (h : ℕ) → h / wordBits ≡ goal / wordBits → bitOf (h % wordBits) known ≡ 1 → bitOf (h % wordBits) had ≡ 1 → Yes x w users′ at h
+    pub no : (w : World) → Ready x w memo users → (h : ℕ) → h / wordBits ≡ goal / wordBits → bitOf (h % wordBits) known ≡ 1 → bitOf (h % wordBits) had ≡ 0 → No x w at h
+
+  pub keeps-learn : Known → Keeps x memo users memo″ users′
+  unfolding bit
+  keeps-learn are =
+      record {
+        long = k .long;
+        grows = k .grows;
+        under = λ bound s o u. learns .under bound (below closed bound s o) (k .under bound s o u);
+        right = λ w r. record { yes = λ i h s. yes-there w r i h (learns .told _ i h true s); no = λ i h s. no-there w r i h (learns .told _ i h false s) };
+      }
+    where
+      below : (c : Bool) (bound : ℕ) → stampOf (x .test) true < bound → stampOf (x .test) false < bound → stampOf (x .test) c < bound
+      below true bound s o = s
+      below false bound s o = o
+
+      Told : Bool → ℕ → ℕ → Type 0
+      Told c i h = Says memo′ (wideIn (x .test)) (stampOf (x .test) (shut x i)) i h c ⊎ ((stampOf (x .test) (shut x i) ≡ stampOf (x .test) closed) × (i ≡ at) × (h / wordBits ≡ goal / wordBits) × (bitOf (h % wordBits) known ≡ 1) × (bitOf (h % wordBits) had ≡ bit c))
+
+      yes-there : (w : World) → Ready x w memo users → (i h : ℕ) → Told true i h → Yes x w users′ i h
+      yes-there w r i h (inl s) = k .right w r .yes i h s
+      yes-there w r i h (inr (e, p, q, a, b)) = subst (λ j. Yes x w users′ j h) (sym p) (are .yes w r h q a b)
+
+      no-there : (w : World) → Ready x w memo users → (i h : ℕ) → Told false i h → No x w i h
+      no-there w r i h (inl s) = k .right w r .no i h s
+      no-there w r i h (inr (e, p, q, a, b)) = subst (λ j. No x w j h) (sym p) (are .no w r h q a b)
+
 -- a node by the numbers of the test
 module _ (t test : List ℕ) (base at : ℕ) (r : Node) (eb : base ≡ baseIn test) (er : r ≡ nodeAt t base at) where
   pub node-by : r ≡ nodeAt t (baseIn test) at
@@ -82,5 +120,5 @@ module _ (t test : List ℕ) (base at : ℕ) (r : Node) (eb : base ≡ baseIn te
   pub next-by : r .next ≡ nodeAt t (baseIn test) at .next
   next-by = ap (λ (z : Node). z .next) node-by
 
-  pub stamp-by : (stamp : ℕ) → stamp ≡ stampOf test (r .closed) → stamp ≡ stampOf test (nodeAt t (baseIn test) at .closed)
-  stamp-by stamp e = e ∙ ap (λ (z : Node). stampOf test (z .closed)) node-by
+  pub closed-by : r .closed ≡ nodeAt t (baseIn test) at .closed
+  closed-by = ap (λ (z : Node). z .closed) node-by

@@ -7,14 +7,17 @@ use mathlib.Core.Bool.{Bool, true, false, true≢false}
 use mathlib.Core.List.{List, [], _∷_, List·Memᴰ·head, List·Memᴰ·eq-of-singleton}
 use Rattle.scheme.specs.Terms.{Terms, _∷ᵗ_, countᵗ}
 use Rattle.scheme.specs.Types.{state, members, takes}
-use Rattle.index.specs.layout.Layout.{maxStates}
+use Rattle.index.specs.layout.Layout.{maxStates, noTargets}
 use Rattle.tables.specs.reading.Cells.{nodeAt}
+use Rattle.tables.specs.declared.reading.Node.{Node}
 use Rattle.tables.specs.Facts.{Goal, of-state, AllAt, closed, closeds}
 use Rattle.term_check.specs.notes.Notes.{baseIn}
+use Rattle.term_check.specs.heads.Heads.{IsTargets}
 use Rattle.term_check.specs.Worlds.{Args, Case, World, Has, Ready, Includes, ChecksTerm, ChecksTargets, Targets, shut}
 use Rattle.tables.proofs.nodes.Places.{first-at}
 use Rattle.term_check.proofs.Places.{no-terms}
 use Rattle.term_check.proofs.check.Keeping.{includes-less, includes-part, ready-on, keeps-all, keeps-on}
+use Rattle.term_check.proofs.check.Terms.{no-targets, built-checked}
 use Rattle.term_check.proofs.check.Arguments.{node-there, closed-first, Several, several, some-terms, next-on, stuck}
 
 -- the first target, and the others
@@ -97,3 +100,18 @@ module _ (x : Case) (memo users : List ℕ) (at n targets : ℕ) where
                 let al′ = subst (AllAt (w .ns) at) e al in
                 let k : Args (Has w (w .kept)) (t ∷ᵗ rest) (takes (p ∷ ps) q) = subst (λ z. Args (Has w (w .kept)) (t ∷ᵗ rest) (takes z q)) i (subst (λ z. Args (Has w (w .kept)) z (takes qs q)) e h) in
                 rest-told .no y w (ready-on (told .keeps) r) rest (next-on x w s at next is-next t rest al′) f ps q are (k .1)
+
+-- one target is left, and the argument has a constructor in front: its own arguments decide
+module _ (x : Case) (memo users : List ℕ) (at n targets : ℕ) (a : Node) (ea : a ≡ nodeAt (x .t) (baseIn (x .test)) at) (one : n ≡ 1) (et : a .tag ≡ 0) (r : ℕ) (is : IsTargets (x .t) (a .number) (a .count) (targets % 16) r) where
+  is-next : a .next ≡ nodeAt (x .t) (baseIn (x .test)) at .next
+  is-next = ap (λ (z : Node). z .next) ea
+
+  pub down-none : r ≡ noTargets → ChecksTargets x memo users at n targets memo users false
+  down-none e = targets-lack x memo users at n targets (omega arith) (a .next) is-next memo users false (no-targets x memo users at (targets % 16) a ea et r is e) refl
+
+  pub down : (r ≡ noTargets → ⊥) → (first : ℕ) → first ≡ suc at → (memo′ users′ : List ℕ) (b : Bool) → ChecksTargets x memo users first (a .count) r memo′ users′ b → ChecksTargets x memo users at n targets memo′ users′ b
+  down ne first is-first memo′ users′ b told = go b (built-checked x memo users at (targets % 16) a ea et r is ne first is-first memo′ users′ b told)
+    where
+      go : (d : Bool) → ChecksTerm x memo users at (targets % 16) memo′ users′ d → ChecksTargets x memo users at n targets memo′ users′ d
+      go false term = targets-lack x memo users at n targets (omega arith) (a .next) is-next memo′ users′ false term refl
+      go true term = targets-rest x memo users at n targets (omega arith) (a .next) is-next memo′ users′ true term refl memo′ users′ true (targets-none x memo′ users′ (a .next) (n - 1) (targets / 16) (omega arith))

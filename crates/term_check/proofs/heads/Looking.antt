@@ -44,13 +44,16 @@ module _ (x : Case) (memo : List ℕ) (i : ℕ) (r : Outlook) where
   node-is : (base : ℕ) (nd : Node) → base ≡ baseIn (x .test) → nd ≡ nodeAt (x .t) base i → nd ≡ nodeAt (x .t) (baseIn (x .test)) i
   node-is base nd e f = f ∙ ap (λ b. nodeAt (x .t) b i) e
 
-  pub seen-memo : (base wide stamp : ℕ) (nd : Node) → base ≡ baseIn (x .test) → nd ≡ nodeAt (x .t) base i → wide ≡ wideIn (x .test) → stamp ≡ stampOf (x .test) (nd .closed) → Looks memo wide stamp i r → Seen x memo i r
+  pub seen-memo : (base wide stamp : ℕ) (nd : Node) → base ≡ baseIn (x .test) → nd ≡ nodeAt (x .t) base i → wide ≡ wideIn (x .test) → stamp ≡ stampOf (x .test) (nd .closed) → Looks memo wide stamp i 0 r → Seen x memo i r
   seen-memo base wide stamp nd e f ew es l =
       record {
-        yes = λ w users ready q h b. ready .right .yes i q (says q true (l .yes q h b));
-        no = λ w users ready q h b. ready .right .no i q (says q false (l .no q h b));
+        yes = λ w users ready q h b. ready .right .yes i q (says q true (l .yes q (omega arith) (at-bit q h (r .had) b)));
+        no = λ w users ready q h b. ready .right .no i q (says q false (l .no q (omega arith) (at-bit q h (r .lacked) b)));
       }
     where
+      at-bit : (q : ℕ) → q < maxStates → (n : ℕ) → bitOf q n ≡ 1 → bitOf (q % 32) n ≡ 1
+      at-bit q h n b = subst (λ k. bitOf k n ≡ 1) (let e : q ≡ q % 32 = omega arith in e) b
+
       stamps : stamp ≡ stampOf (x .test) (shut x i)
       stamps = es ∙ ap (λ (z : Node). stampOf (x .test) (z .closed)) (node-is base nd e f)
 

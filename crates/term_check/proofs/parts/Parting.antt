@@ -7,7 +7,7 @@ use mathlib.Core.List.{List, _++_, append-assoc}
 use lib.ListN.{length, getD, take, drop, set, length-append, length-drop, length-set}
 use lib.Seq.{length-take-le, take-all, take-at, drop-at, take-add, drop-drop, drop-set-lt, take-set-lt}
 use Rattle.index.specs.layout.Layout.{testUsers, testAnswers}
-use Rattle.answers.specs.Answers.{Recalls, Looks, Learns}
+use Rattle.answers.specs.Answers.{Looks, Learns}
 use Rattle.answers.specs.declared.Outlook.{Outlook}
 use Rattle.term_check.specs.notes.Notes.{wideIn, stampOf, Notes}
 use Rattle.term_check.specs.Worlds.{splitAt, fromIn, answersOf, usersOf}
@@ -121,13 +121,10 @@ module _ (r w : List ℕ) (split wide stamp : ℕ) (closed : Bool) (es : split �
   moved : (P : List ℕ → ℕ → ℕ → Type 0) → P (take (length w - split) (drop split w)) wide stamp → P (answersOf r w) (wideIn r) (stampOf r closed)
   moved P p = subst (λ m. P m (wideIn r) (stampOf r closed)) lent (subst (λ v. P (take (length w - split) (drop split w)) v (stampOf r closed)) ew (subst (P (take (length w - split) (drop split w)) wide) et p))
 
-  pub recall-part : (at goal s : ℕ) → Recalls (take (length w - split) (drop split w)) wide stamp at goal s → Recalls (answersOf r w) (wideIn r) (stampOf r closed) at goal s
-  recall-part at goal s = moved (λ m v k. Recalls m v k at goal s)
+  pub outlook-part : (at goal : ℕ) (s : Outlook) → Looks (take (length w - split) (drop split w)) wide stamp at goal s → Looks (answersOf r w) (wideIn r) (stampOf r closed) at goal s
+  outlook-part at goal s = moved (λ m v k. Looks m v k at goal s)
 
-  pub outlook-part : (at : ℕ) (s : Outlook) → Looks (take (length w - split) (drop split w)) wide stamp at s → Looks (answersOf r w) (wideIn r) (stampOf r closed) at s
-  outlook-part at s = moved (λ m v k. Looks m v k at s)
-
-  module _ (m : List ℕ) (at goal : ℕ) (yes : Bool) (l : Learns (take (length w - split) (drop split w)) wide stamp at goal yes m) where
+  module _ (m : List ℕ) (at goal known had : ℕ) (l : Learns (take (length w - split) (drop split w)) wide stamp at goal known had m) where
     abbrev put : List ℕ
     put = take split w ++ (m ++ drop (length w - split) (drop split w))
 
@@ -141,9 +138,9 @@ module _ (r w : List ℕ) (split wide stamp : ℕ) (closed : Bool) (es : split �
         ∙ ap (drop split) (sym (take-all (length w) put (omega (arith, learn-long))))
         ∙ after-middle w m split (length w) hs (omega arith) (l .long)
 
-    pub learn-part : (length put ≡ length w) × (usersOf r put ≡ usersOf r w) × Learns (answersOf r w) (wideIn r) (stampOf r closed) at goal yes (answersOf r put)
+    pub learn-part : (length put ≡ length w) × (usersOf r put ≡ usersOf r w) × Learns (answersOf r w) (wideIn r) (stampOf r closed) at goal known had (answersOf r put)
     learn-part =
-        (learn-long, users-same r w put learn-long (subst (λ s. take s put ≡ take s w) es (after-front w m split (length w) hs (omega arith) (l .long))), subst (Learns (answersOf r w) (wideIn r) (stampOf r closed) at goal yes) (sym learnt) (moved (λ n v k. Learns n v k at goal yes m) l))
+        (learn-long, users-same r w put learn-long (subst (λ s. take s put ≡ take s w) es (after-front w m split (length w) hs (omega arith) (l .long))), subst (Learns (answersOf r w) (wideIn r) (stampOf r closed) at goal known had) (sym learnt) (moved (λ n v k. Learns n v k at goal known had m) l))
 
 -- the users, lent
 module _ (r w : List ℕ) (from split : ℕ) (es : split ≡ splitAt r w) (hs : split ≤ length w) (ef : from ≡ fromIn r w) where

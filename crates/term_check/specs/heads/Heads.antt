@@ -17,7 +17,7 @@ use Rattle.tables.specs.declared.reading.Node.{Node}
 use Rattle.tables.specs.Facts.{Goal, AllAt, TypesAre, bindingAt, off}
 use Rattle.answers.specs.declared.Outlook.{Outlook}
 use Rattle.term_check.specs.notes.Notes.{baseIn}
-use Rattle.term_check.specs.Worlds.{Args, Case, World, Has, Setting, Ready, Tells, Yes, No, MembersYes, MembersNo, Targets, total}
+use Rattle.term_check.specs.Worlds.{Args, Case, World, Has, Setting, Ready, Tells, Yes, No, Targets, total}
 
 -- binding c is kept, it is one of a nonterminal, and its type with arrows off is σ
 pub record Leads (w : World) (number n : ℕ) (σ : Ty) (c : ℕ) : Type 0 where
@@ -61,8 +61,3 @@ pub record Alone (x : Case) (a : Node) (goal r : ℕ) : Type 0 where
 pub record Seen (x : Case) (memo : List ℕ) (i : ℕ) (r : Outlook) : Type 0 where
   pub yes : (w : World) (users : List ℕ) → Ready x w memo users → (q : ℕ) → q < maxStates → bitOf q (r .had) ≡ 1 → Yes x w users i q
   pub no : (w : World) (users : List ℕ) → Ready x w memo users → (q : ℕ) → q < maxStates → bitOf q (r .lacked) ≡ 1 → No x w i q
-
--- r is 2 where the term at a node is known to have all members of an arrow, 1 where it is known to lack one
-pub record Decides (x : Case) (memo : List ℕ) (i g r : ℕ) : Type 0 where
-  pub yes : r ≡ 2 → (w : World) (users : List ℕ) → Ready x w memo users → MembersYes x w users i g
-  pub no : r ≡ 1 → (w : World) (users : List ℕ) → Ready x w memo users → MembersNo x w i g

@@ -1,0 +1,1426 @@
+-- The check of a term and of its arguments meet their contracts. The remaining nodes fall, then what is asked of a node.
+use Prim.Native.Nat.{_-_, _*_, _+_, _%_, _≤_}
+use mathlib.Core.Path.{_≡_, refl, sym, ap, _∙_}
+use mathlib.Core.Bool.{Bool}
+use mathlib.Core.List.{List}
+use lib.ListN.{length}
+use native.Mathlib.Omega.{arith}
+use denote.Ref.{now}
+use borrow.Author.Needs.{needs}
+use borrow.Author.Tests.{not-true, not-false}
+use Rattle.index.specs.layout.Layout.{rowLimit, wordsLimit, testCells}
+use Rattle.tables.specs.reading.Cells.{offOf, nodeAt}
+use Rattle.term_check.specs.notes.Notes.{baseIn}
+use Rattle.term_check.specs.Worlds.{caseOf, answersOf, usersOf, ChecksArgs, ChecksTargets, Finds}
+use Rattle.term_check.proofs.heads.Candidates.{row-fits}
+use Rattle.term_check.proofs.heads.Sets.{next-behind-sets}
+use Rattle.term_check.proofs.check.Keeping.{node-by, next-by, closed-by, tells-on}
+use Rattle.term_check.proofs.check.Arguments.{args-none, args-stuck, args-lack, args-rest}
+use Rattle.term_check.proofs.check.Targets.{targets-none, targets-stuck, targets-lack, targets-rest, down-none, down}
+use Rattle.term_check.proofs.check.Bound.{try-misses, try-lacks, try-serves, tried-start, tried-serves, tried-fails, tried-end, try-next, served, next-behind}
+use Rattle.term_check.proofs.check.Bound as Bound
+use Rattle.term_check.proofs.check.Given.{given-start, given-none, given-end, member-misses, member-fails, member-has}
+use Rattle.term_check.proofs.check.Given as Given
+use Rattle.term_check.proofs.check.Members.{states-lack, states-had, states-fail, states-checked, Asked, asked-start, asked-end, Recalled, recalled-none, recalled-more, recalled-on, recalled-no, recalled-yes, checked-no, checked-yes}
+use Rattle.term_check.proofs.check.States.{finds-none, finds-on, finds-more, Left, left-start, left-more, left-fails, left-end}
+use Rattle.term_check.proofs.check.Moved.{members-moved, asked-moved, recalled-moved, all-moved, tries-moved}
+use Rattle.term_check.proofs.check.Terms.{term-past, no-targets, built-checked, alone-no, alone-yes}
+use Prim.Native.Nat.{ℕ, _<_}
+use borrow.Fn.Kinds.{In}
+use borrow.Fn.PlainCycle.{Measures, is, falls, and}
+use Rattle.term_check.proofs.check.check_args.Reads as check-args
+use Rattle.term_check.proofs.check.check_args.Kinds as check-args-kinds
+use Rattle.term_check.proofs.check.+check_args+check_bound+check_each+check_given+check_left+check_member+check_members+check_states+check_target+check_targets+check_term+find_bound+find_given+find_states+try_binding.Lts-check_args as check-args-lts
+use Rattle.term_check.proofs.check.check_bound.Reads as check-bound
+use Rattle.term_check.proofs.check.check_bound.Kinds as check-bound-kinds
+use Rattle.term_check.proofs.check.+check_args+check_bound+check_each+check_given+check_left+check_member+check_members+check_states+check_target+check_targets+check_term+find_bound+find_given+find_states+try_binding.Lts-check_bound as check-bound-lts
+use Rattle.term_check.proofs.check.check_each.Reads as check-each
+use Rattle.term_check.proofs.check.check_each.Kinds as check-each-kinds
+use Rattle.term_check.proofs.check.+check_args+check_bound+check_each+check_given+check_left+check_member+check_members+check_states+check_target+check_targets+check_term+find_bound+find_given+find_states+try_binding.Lts-check_each as check-each-lts
+use Rattle.term_check.proofs.check.check_given.Reads as check-given
+use Rattle.term_check.proofs.check.check_given.Kinds as check-given-kinds
+use Rattle.term_check.proofs.check.+check_args+check_bound+check_each+check_given+check_left+check_member+check_members+check_states+check_target+check_targets+check_term+find_bound+find_given+find_states+try_binding.Lts-check_given as check-given-lts
+use Rattle.term_check.proofs.check.check_left.Reads as check-left
+use Rattle.term_check.proofs.check.check_left.Kinds as check-left-kinds
+use Rattle.term_check.proofs.check.+check_args+check_bound+check_each+check_given+check_left+check_member+check_members+check_states+check_target+check_targets+check_term+find_bound+find_given+find_states+try_binding.Lts-check_left as check-left-lts
+use Rattle.term_check.proofs.check.check_member.Reads as check-member
+use Rattle.term_check.proofs.check.check_member.Kinds as check-member-kinds
+use Rattle.term_check.proofs.check.+check_args+check_bound+check_each+check_given+check_left+check_member+check_members+check_states+check_target+check_targets+check_term+find_bound+find_given+find_states+try_binding.Lts-check_member as check-member-lts
+use Rattle.term_check.proofs.check.check_members.Reads as check-members
+use Rattle.term_check.proofs.check.check_members.Kinds as check-members-kinds
+use Rattle.term_check.proofs.check.+check_args+check_bound+check_each+check_given+check_left+check_member+check_members+check_states+check_target+check_targets+check_term+find_bound+find_given+find_states+try_binding.Lts-check_members as check-members-lts
+use Rattle.term_check.proofs.check.check_states.Reads as check-states
+use Rattle.term_check.proofs.check.check_states.Kinds as check-states-kinds
+use Rattle.term_check.proofs.check.+check_args+check_bound+check_each+check_given+check_left+check_member+check_members+check_states+check_target+check_targets+check_term+find_bound+find_given+find_states+try_binding.Lts-check_states as check-states-lts
+use Rattle.term_check.proofs.check.check_target.Reads as check-target
+use Rattle.term_check.proofs.check.check_target.Kinds as check-target-kinds
+use Rattle.term_check.proofs.check.+check_args+check_bound+check_each+check_given+check_left+check_member+check_members+check_states+check_target+check_targets+check_term+find_bound+find_given+find_states+try_binding.Lts-check_target as check-target-lts
+use Rattle.term_check.proofs.check.check_targets.Reads as check-targets
+use Rattle.term_check.proofs.check.check_targets.Kinds as check-targets-kinds
+use Rattle.term_check.proofs.check.+check_args+check_bound+check_each+check_given+check_left+check_member+check_members+check_states+check_target+check_targets+check_term+find_bound+find_given+find_states+try_binding.Lts-check_targets as check-targets-lts
+use Rattle.term_check.proofs.check.check_term.Reads as check-term
+use Rattle.term_check.proofs.check.check_term.Kinds as check-term-kinds
+use Rattle.term_check.proofs.check.+check_args+check_bound+check_each+check_given+check_left+check_member+check_members+check_states+check_target+check_targets+check_term+find_bound+find_given+find_states+try_binding.Lts-check_term as check-term-lts
+use Rattle.term_check.proofs.check.find_bound.Reads as find-bound
+use Rattle.term_check.proofs.check.find_bound.Kinds as find-bound-kinds
+use Rattle.term_check.proofs.check.+check_args+check_bound+check_each+check_given+check_left+check_member+check_members+check_states+check_target+check_targets+check_term+find_bound+find_given+find_states+try_binding.Lts-find_bound as find-bound-lts
+use Rattle.term_check.proofs.check.find_given.Reads as find-given
+use Rattle.term_check.proofs.check.find_given.Kinds as find-given-kinds
+use Rattle.term_check.proofs.check.+check_args+check_bound+check_each+check_given+check_left+check_member+check_members+check_states+check_target+check_targets+check_term+find_bound+find_given+find_states+try_binding.Lts-find_given as find-given-lts
+use Rattle.term_check.proofs.check.find_states.Reads as find-states
+use Rattle.term_check.proofs.check.find_states.Kinds as find-states-kinds
+use Rattle.term_check.proofs.check.+check_args+check_bound+check_each+check_given+check_left+check_member+check_members+check_states+check_target+check_targets+check_term+find_bound+find_given+find_states+try_binding.Lts-find_states as find-states-lts
+use Rattle.term_check.proofs.check.try_binding.Reads as try-binding
+use Rattle.term_check.proofs.check.try_binding.Kinds as try-binding-kinds
+use Rattle.term_check.proofs.check.+check_args+check_bound+check_each+check_given+check_left+check_member+check_members+check_states+check_target+check_targets+check_term+find_bound+find_given+find_states+try_binding.Lts-try_binding as try-binding-lts
+use Rattle.marks.proofs.next_in.Reads as next-in-reads
+use Rattle.tables.proofs.reading.arrows_of.Reads as arrows-of-reads
+use Rattle.tables.proofs.reading.group_of.Reads as group-of-reads
+use Rattle.tables.proofs.reading.many_of.Reads as many-of-reads
+use Rattle.tables.proofs.reading.member_of.Reads as member-of-reads
+use Rattle.tables.proofs.reading.node_of.Reads as node-of-reads
+use Rattle.tables.proofs.reading.off.Reads as off-reads
+use Rattle.tables.proofs.reading.result_of.Reads as result-of-reads
+use Rattle.tables.proofs.reading.states_of.Reads as states-of-reads
+use Rattle.term_check.proofs.heads.alone.Reads as alone-reads
+use Rattle.term_check.proofs.heads.candidate.Reads as candidate-reads
+use Rattle.term_check.proofs.heads.goes_down.Reads as goes-down-reads
+use Rattle.term_check.proofs.heads.look.Reads as look-reads
+use Rattle.term_check.proofs.heads.targets_for.Reads as targets-for-reads
+use Rattle.term_check.proofs.heads.wanted.Reads as wanted-reads
+use Rattle.term_check.proofs.hints.head_hint.Reads as head-hint-reads
+use Rattle.term_check.proofs.hints.hint_in.Reads as hint-in-reads
+use Rattle.term_check.proofs.hints.node_hint.Reads as node-hint-reads
+use Rattle.term_check.proofs.masks.has_bit.Reads as has-bit-reads
+use Rattle.term_check.proofs.masks.left_of.Reads as left-of-reads
+use Rattle.term_check.proofs.masks.lowest.Reads as lowest-reads
+use Rattle.term_check.proofs.masks.with_bit.Reads as with-bit-reads
+use Rattle.term_check.proofs.masks.without_bit.Reads as without-bit-reads
+use Rattle.term_check.proofs.notes.number_in.Reads as number-in-reads
+use Rattle.term_check.proofs.parts.learn_in.Reads as learn-in-reads
+use Rattle.term_check.proofs.parts.note_in.Reads as note-in-reads
+use Rattle.term_check.proofs.parts.outlook_on.Reads as outlook-on-reads
+use Rattle.term_check.proofs.check.+check_args+check_bound+check_each+check_given+check_left+check_member+check_members+check_states+check_target+check_targets+check_term+find_bound+find_given+find_states+try_binding.{
+  statement,
+}
+use Rattle.term_check.proofs.check.+check_args+check_bound+check_each+check_given+check_left+check_member+check_members+check_states+check_target+check_targets+check_term+find_bound+find_given+find_states+try_binding.Tie.{
+  close,
+}
+
+abbrev μ-check-args : Measures 3 check-args-kinds.ps ℕ
+μ-check-args κs a = (18446744073709551616 - a .1 .1 .1 .0) * 16 + 10
+
+abbrev μ-check-bound : Measures 3 check-bound-kinds.ps ℕ
+μ-check-bound κs a = (18446744073709551616 - a .1 .1 .1 .0) * 16 + 4
+
+abbrev μ-check-each : Measures 3 check-each-kinds.ps ℕ
+μ-check-each κs a = (18446744073709551616 - a .1 .1 .1 .0) * 16 + 8
+
+abbrev μ-check-given : Measures 3 check-given-kinds.ps ℕ
+μ-check-given κs a = (18446744073709551616 - a .1 .1 .1 .0) * 16 + 3
+
+abbrev μ-check-left : Measures 3 check-left-kinds.ps ℕ
+μ-check-left κs a = (18446744073709551616 - a .1 .1 .1 .0) * 16 + 7
+
+abbrev μ-check-member : Measures 3 check-member-kinds.ps ℕ
+μ-check-member κs a = (18446744073709551616 - a .1 .1 .1 .0) * 16 + 6
+
+abbrev μ-check-members : Measures 3 check-members-kinds.ps ℕ
+μ-check-members κs a = (18446744073709551616 - a .1 .1 .1 .0) * 16 + 9
+
+abbrev μ-check-states : Measures 3 check-states-kinds.ps ℕ
+μ-check-states κs a = (18446744073709551616 - a .1 .1 .1 .0) * 16 + 8
+
+abbrev μ-check-target : Measures 3 check-target-kinds.ps ℕ
+μ-check-target κs a = (18446744073709551616 - a .1 .1 .1 .0) * 16 + 6
+
+abbrev μ-check-targets : Measures 3 check-targets-kinds.ps ℕ
+μ-check-targets κs a = (18446744073709551616 - a .1 .1 .1 .0) * 16 + 10
+
+abbrev μ-check-term : Measures 3 check-term-kinds.ps ℕ
+μ-check-term κs a = (18446744073709551616 - a .1 .1 .1 .0) * 16 + 5
+
+abbrev μ-find-bound : Measures 3 find-bound-kinds.ps ℕ
+μ-find-bound κs a = (18446744073709551616 - a .1 .1 .1 .0) * 16 + 4
+
+abbrev μ-find-given : Measures 3 find-given-kinds.ps ℕ
+μ-find-given κs a = (18446744073709551616 - a .1 .1 .1 .0) * 16 + 4
+
+abbrev μ-find-states : Measures 3 find-states-kinds.ps ℕ
+μ-find-states κs a = (18446744073709551616 - a .1 .1 .1 .0) * 16 + 7
+
+abbrev μ-try-binding : Measures 3 try-binding-kinds.ps ℕ
+μ-try-binding κs a = (18446744073709551616 - a .1 .1 .1 .0) * 16 + 3
+
+abbrev check-args-at : ℕ → In 3 check-args-kinds.ps
+check-args-at t =
+    and 3 check-args-kinds.ps (is 3 check-args-kinds.ps μ-check-args t) check-args.Pre
+
+abbrev check-args-below : ℕ → In 3 check-args-kinds.ps
+check-args-below t =
+    and 3 check-args-kinds.ps (falls 3 check-args-kinds.ps _<_ μ-check-args t) check-args.Pre
+
+abbrev check-bound-at : ℕ → In 3 check-bound-kinds.ps
+check-bound-at t =
+    and 3 check-bound-kinds.ps (is 3 check-bound-kinds.ps μ-check-bound t) check-bound.Pre
+
+abbrev check-bound-below : ℕ → In 3 check-bound-kinds.ps
+check-bound-below t =
+    and 3 check-bound-kinds.ps (falls 3 check-bound-kinds.ps _<_ μ-check-bound t) check-bound.Pre
+
+abbrev check-each-at : ℕ → In 3 check-each-kinds.ps
+check-each-at t =
+    and 3 check-each-kinds.ps (is 3 check-each-kinds.ps μ-check-each t) check-each.Pre
+
+abbrev check-each-below : ℕ → In 3 check-each-kinds.ps
+check-each-below t =
+    and 3 check-each-kinds.ps (falls 3 check-each-kinds.ps _<_ μ-check-each t) check-each.Pre
+
+abbrev check-given-at : ℕ → In 3 check-given-kinds.ps
+check-given-at t =
+    and 3 check-given-kinds.ps (is 3 check-given-kinds.ps μ-check-given t) check-given.Pre
+
+abbrev check-given-below : ℕ → In 3 check-given-kinds.ps
+check-given-below t =
+    and 3 check-given-kinds.ps (falls 3 check-given-kinds.ps _<_ μ-check-given t) check-given.Pre
+
+abbrev check-left-at : ℕ → In 3 check-left-kinds.ps
+check-left-at t =
+    and 3 check-left-kinds.ps (is 3 check-left-kinds.ps μ-check-left t) check-left.Pre
+
+abbrev check-left-below : ℕ → In 3 check-left-kinds.ps
+check-left-below t =
+    and 3 check-left-kinds.ps (falls 3 check-left-kinds.ps _<_ μ-check-left t) check-left.Pre
+
+abbrev check-member-at : ℕ → In 3 check-member-kinds.ps
+check-member-at t =
+    and 3 check-member-kinds.ps (is 3 check-member-kinds.ps μ-check-member t) check-member.Pre
+
+abbrev check-member-below : ℕ → In 3 check-member-kinds.ps
+check-member-below t =
+    and
+    3
+    check-member-kinds.ps
+    (falls 3 check-member-kinds.ps _<_ μ-check-member t)
+    check-member.Pre
+
+abbrev check-members-at : ℕ → In 3 check-members-kinds.ps
+check-members-at t =
+    and 3 check-members-kinds.ps (is 3 check-members-kinds.ps μ-check-members t) check-members.Pre
+
+abbrev check-members-below : ℕ → In 3 check-members-kinds.ps
+check-members-below t =
+    and
+    3
+    check-members-kinds.ps
+    (falls 3 check-members-kinds.ps _<_ μ-check-members t)
+    check-members.Pre
+
+abbrev check-states-at : ℕ → In 3 check-states-kinds.ps
+check-states-at t =
+    and 3 check-states-kinds.ps (is 3 check-states-kinds.ps μ-check-states t) check-states.Pre
+
+abbrev check-states-below : ℕ → In 3 check-states-kinds.ps
+check-states-below t =
+    and
+    3
+    check-states-kinds.ps
+    (falls 3 check-states-kinds.ps _<_ μ-check-states t)
+    check-states.Pre
+
+abbrev check-target-at : ℕ → In 3 check-target-kinds.ps
+check-target-at t =
+    and 3 check-target-kinds.ps (is 3 check-target-kinds.ps μ-check-target t) check-target.Pre
+
+abbrev check-target-below : ℕ → In 3 check-target-kinds.ps
+check-target-below t =
+    and
+    3
+    check-target-kinds.ps
+    (falls 3 check-target-kinds.ps _<_ μ-check-target t)
+    check-target.Pre
+
+abbrev check-targets-at : ℕ → In 3 check-targets-kinds.ps
+check-targets-at t =
+    and 3 check-targets-kinds.ps (is 3 check-targets-kinds.ps μ-check-targets t) check-targets.Pre
+
+abbrev check-targets-below : ℕ → In 3 check-targets-kinds.ps
+check-targets-below t =
+    and
+    3
+    check-targets-kinds.ps
+    (falls 3 check-targets-kinds.ps _<_ μ-check-targets t)
+    check-targets.Pre
+
+abbrev check-term-at : ℕ → In 3 check-term-kinds.ps
+check-term-at t =
+    and 3 check-term-kinds.ps (is 3 check-term-kinds.ps μ-check-term t) check-term.Pre
+
+abbrev check-term-below : ℕ → In 3 check-term-kinds.ps
+check-term-below t =
+    and 3 check-term-kinds.ps (falls 3 check-term-kinds.ps _<_ μ-check-term t) check-term.Pre
+
+abbrev find-bound-at : ℕ → In 3 find-bound-kinds.ps
+find-bound-at t =
+    and 3 find-bound-kinds.ps (is 3 find-bound-kinds.ps μ-find-bound t) find-bound.Pre
+
+abbrev find-bound-below : ℕ → In 3 find-bound-kinds.ps
+find-bound-below t =
+    and 3 find-bound-kinds.ps (falls 3 find-bound-kinds.ps _<_ μ-find-bound t) find-bound.Pre
+
+abbrev find-given-at : ℕ → In 3 find-given-kinds.ps
+find-given-at t =
+    and 3 find-given-kinds.ps (is 3 find-given-kinds.ps μ-find-given t) find-given.Pre
+
+abbrev find-given-below : ℕ → In 3 find-given-kinds.ps
+find-given-below t =
+    and 3 find-given-kinds.ps (falls 3 find-given-kinds.ps _<_ μ-find-given t) find-given.Pre
+
+abbrev find-states-at : ℕ → In 3 find-states-kinds.ps
+find-states-at t =
+    and 3 find-states-kinds.ps (is 3 find-states-kinds.ps μ-find-states t) find-states.Pre
+
+abbrev find-states-below : ℕ → In 3 find-states-kinds.ps
+find-states-below t =
+    and 3 find-states-kinds.ps (falls 3 find-states-kinds.ps _<_ μ-find-states t) find-states.Pre
+
+abbrev try-binding-at : ℕ → In 3 try-binding-kinds.ps
+try-binding-at t =
+    and 3 try-binding-kinds.ps (is 3 try-binding-kinds.ps μ-try-binding t) try-binding.Pre
+
+abbrev try-binding-below : ℕ → In 3 try-binding-kinds.ps
+try-binding-below t =
+    and 3 try-binding-kinds.ps (falls 3 try-binding-kinds.ps _<_ μ-try-binding t) try-binding.Pre
+
+abbrev check-args-claims : ℕ → check-args-lts.Claims
+check-args-claims t =
+    (number-in-reads.Asked, number-in-reads.Learnt, node-of-reads.Asked, node-of-reads.Learnt, check-members-below t, check-members.Post, result-of-reads.Asked, result-of-reads.Learnt)
+
+abbrev check-bound-claims : ℕ → check-bound-lts.Claims
+check-bound-claims t =
+    (number-in-reads.Asked, number-in-reads.Learnt, group-of-reads.Asked, group-of-reads.Learnt, head-hint-reads.Asked, head-hint-reads.Learnt, try-binding-below t, try-binding.Post, next-in-reads.Asked, next-in-reads.Learnt)
+
+abbrev check-each-claims : ℕ → check-each-lts.Claims
+check-each-claims t =
+    (number-in-reads.Asked, number-in-reads.Learnt, node-of-reads.Asked, node-of-reads.Learnt, many-of-reads.Asked, many-of-reads.Learnt, member-of-reads.Asked, member-of-reads.Learnt, outlook-on-reads.Asked, outlook-on-reads.Learnt, has-bit-reads.Asked, has-bit-reads.Learnt, with-bit-reads.Asked, with-bit-reads.Learnt, check-member-below t, check-member.Post, learn-in-reads.Asked, learn-in-reads.Learnt)
+
+abbrev check-given-claims : ℕ → check-given-lts.Claims
+check-given-claims t =
+    (number-in-reads.Asked, number-in-reads.Learnt, off-reads.Asked, off-reads.Learnt, many-of-reads.Asked, many-of-reads.Learnt, member-of-reads.Asked, member-of-reads.Learnt, check-args-below t, check-args.Post)
+
+abbrev check-left-claims : ℕ → check-left-lts.Claims
+check-left-claims t =
+    (number-in-reads.Asked, number-in-reads.Learnt, node-of-reads.Asked, node-of-reads.Learnt, left-of-reads.Asked, left-of-reads.Learnt, lowest-reads.Asked, lowest-reads.Learnt, check-term-below t, check-term.Post, with-bit-reads.Asked, with-bit-reads.Learnt, learn-in-reads.Asked, learn-in-reads.Learnt, without-bit-reads.Asked, without-bit-reads.Learnt)
+
+abbrev check-member-claims : ℕ → check-member-lts.Claims
+check-member-claims t =
+    (number-in-reads.Asked, number-in-reads.Learnt, node-of-reads.Asked, node-of-reads.Learnt, check-term-below t, check-term.Post, head-hint-reads.Asked, head-hint-reads.Learnt, candidate-reads.Asked, candidate-reads.Learnt, check-args-below t, check-args.Post, note-in-reads.Asked, note-in-reads.Learnt)
+
+abbrev check-members-claims : ℕ → check-members-lts.Claims
+check-members-claims t =
+    (states-of-reads.Asked, states-of-reads.Learnt, look-reads.Asked, look-reads.Learnt, arrows-of-reads.Asked, arrows-of-reads.Learnt, left-of-reads.Asked, left-of-reads.Learnt, check-each-below t, check-each.Post, check-states-below t, check-states.Post)
+
+abbrev check-states-claims : ℕ → check-states-lts.Claims
+check-states-claims t =
+    (find-states-below t, find-states.Post, check-left-below t, check-left.Post)
+
+abbrev check-target-claims : ℕ → check-target-lts.Claims
+check-target-claims t =
+    (number-in-reads.Asked, number-in-reads.Learnt, node-of-reads.Asked, node-of-reads.Learnt, alone-reads.Asked, alone-reads.Learnt, check-term-below t, check-term.Post)
+
+abbrev check-targets-claims : ℕ → check-targets-lts.Claims
+check-targets-claims t =
+    (number-in-reads.Asked, number-in-reads.Learnt, node-of-reads.Asked, node-of-reads.Learnt, goes-down-reads.Asked, goes-down-reads.Learnt, targets-for-reads.Asked, targets-for-reads.Learnt, check-target-below t, check-target.Post)
+
+abbrev check-term-claims : ℕ → check-term-lts.Claims
+check-term-claims t =
+    (number-in-reads.Asked, number-in-reads.Learnt, node-of-reads.Asked, node-of-reads.Learnt, targets-for-reads.Asked, targets-for-reads.Learnt, check-targets-below t, check-targets.Post, check-bound-below t, check-bound.Post, alone-reads.Asked, alone-reads.Learnt, check-given-below t, check-given.Post)
+
+abbrev find-bound-claims : ℕ → find-bound-lts.Claims
+find-bound-claims t =
+    (lowest-reads.Asked, lowest-reads.Learnt, node-hint-reads.Asked, node-hint-reads.Learnt, candidate-reads.Asked, candidate-reads.Learnt, check-args-below t, check-args.Post, note-in-reads.Asked, note-in-reads.Learnt, with-bit-reads.Asked, with-bit-reads.Learnt, without-bit-reads.Asked, without-bit-reads.Learnt)
+
+abbrev find-given-claims : ℕ → find-given-lts.Claims
+find-given-claims t =
+    (number-in-reads.Asked, number-in-reads.Learnt, off-reads.Asked, off-reads.Learnt, many-of-reads.Asked, many-of-reads.Learnt, member-of-reads.Asked, member-of-reads.Learnt, left-of-reads.Asked, left-of-reads.Learnt, wanted-reads.Asked, wanted-reads.Learnt, check-args-below t, check-args.Post, with-bit-reads.Asked, with-bit-reads.Learnt)
+
+abbrev find-states-claims : ℕ → find-states-lts.Claims
+find-states-claims t =
+    (number-in-reads.Asked, number-in-reads.Learnt, node-of-reads.Asked, node-of-reads.Learnt, find-bound-below t, find-bound.Post, find-given-below t, find-given.Post)
+
+abbrev try-binding-claims : ℕ → try-binding-lts.Claims
+try-binding-claims t =
+    (candidate-reads.Asked, candidate-reads.Learnt, check-args-below t, check-args.Post, note-in-reads.Asked, note-in-reads.Learnt, hint-in-reads.Asked, hint-in-reads.Learnt)
+
+abbrev check-args-Inv-loop : check-args-lts.InvT-loop
+check-args-Inv-loop t r w₀ at count ty base here₀ rest₀ left₀ w here rest left = (length w ≡ length w₀) × (at ≤ here) × ((memo′ users′ : List ℕ) (b : Bool) → ChecksArgs (caseOf t r) (answersOf r w) (usersOf r w) here left rest memo′ users′ b → ChecksArgs (caseOf t r) (answersOf r w₀) (usersOf r w₀) at count ty memo′ users′ b)
+
+abbrev check-args-μ-loop : check-args-lts.MeasureT-loop
+check-args-μ-loop t r w₀ at count ty base here₀ rest₀ left₀ w here rest left = left
+
+check-args-number-in-requires : (t : ℕ) → check-args-lts.Need-number-in-requires (check-args-claims t) (check-args-at t) check-args.Post check-args-Inv-loop check-args-μ-loop
+check-args-number-in-requires t c κs = search needs
+
+check-args-loop-holds : (t : ℕ) → check-args-lts.Need-loop-holds (check-args-claims t) (check-args-at t) check-args.Post check-args-Inv-loop check-args-μ-loop
+check-args-loop-holds t c = (refl, omega arith, λ _ _ _ told. told)
+
+check-args-node-of-requires : (t : ℕ) → check-args-lts.Need-node-of-requires (check-args-claims t) (check-args-at t) check-args.Post check-args-Inv-loop check-args-μ-loop
+check-args-node-of-requires t c κs = search needs
+
+check-args-same-length : (t : ℕ) → check-args-lts.Need-same-length (check-args-claims t) (check-args-at t) check-args.Post check-args-Inv-loop check-args-μ-loop
+check-args-same-length t c = c .before .before .before .loop .inv .0
+
+check-args-returns : (t : ℕ) → check-args-lts.Need-returns (check-args-claims t) (check-args-at t) check-args.Post check-args-Inv-loop check-args-μ-loop
+check-args-returns t c = (c .before .before .before .loop .inv .0, c .before .before .before .loop .inv .2 _ _ _ (args-stuck _ _ _ _ _ _ (c .before .before .loop-test .taken) _ (next-by _ (now (c .before .before .before .before .before .before .before .before .args .r)) _ _ _ (c .before .before .before .before .number-in .ensures .0) (c .before .node-of .ensures)) (c .if1 .taken)))
+
+check-args-check-members-requires : (t : ℕ) → check-args-lts.Need-check-members-requires (check-args-claims t) (check-args-at t) check-args.Post check-args-Inv-loop check-args-μ-loop
+check-args-check-members-requires t c κs = let p = c .before .before .before .before .before .before .before .before .before .pre .0 in let l = c .before .before .before .before .loop .inv .1 in (omega arith, Prim.tt)
+
+check-args-same-length-2 : (t : ℕ) → check-args-lts.Need-same-length-2 (check-args-claims t) (check-args-at t) check-args.Post check-args-Inv-loop check-args-μ-loop
+check-args-same-length-2 t c = c .before .before .before .check-members .ensures .0 ∙ c .before .before .before .before .before .before .before .before .loop .inv .0
+
+check-args-returns-2 : (t : ℕ) → check-args-lts.Need-returns-2 (check-args-claims t) (check-args-at t) check-args.Post check-args-Inv-loop check-args-μ-loop
+check-args-returns-2 t c = (c .before .before .before .check-members .ensures .0 ∙ c .before .before .before .before .before .before .before .before .loop .inv .0, c .before .before .before .before .before .before .before .before .loop .inv .2 _ _ _ (args-lack _ _ _ _ _ _ (c .before .before .before .before .before .before .before .loop-test .taken) _ (next-by _ (now (c .before .before .before .before .before .before .before .before .before .before .before .before .before .args .r)) _ _ _ (c .before .before .before .before .before .before .before .before .before .number-in .ensures .0) (c .before .before .before .before .before .before .node-of .ensures)) _ _ _ (c .before .before .before .check-members .ensures .1) (not-true _ (c .if2 .taken))))
+
+check-args-result-of-requires : (t : ℕ) → check-args-lts.Need-result-of-requires (check-args-claims t) (check-args-at t) check-args.Post check-args-Inv-loop check-args-μ-loop
+check-args-result-of-requires t c κs = search needs
+
+check-args-sub-left : (t : ℕ) → check-args-lts.Need-sub-left (check-args-claims t) (check-args-at t) check-args.Post check-args-Inv-loop check-args-μ-loop
+check-args-sub-left t c = let l = c .before .before .before .before .before .before .before .before .loop-test .taken in omega arith
+
+check-args-loop-less : (t : ℕ) → check-args-lts.Need-loop-less (check-args-claims t) (check-args-at t) check-args.Post check-args-Inv-loop check-args-μ-loop
+check-args-loop-less t c = let l = c .before .before .before .before .before .before .before .before .loop-test .taken in omega arith
+
+check-args-loop-again : (t : ℕ) → check-args-lts.Need-loop-again (check-args-claims t) (check-args-at t) check-args.Post check-args-Inv-loop check-args-μ-loop
+check-args-loop-again t c = (c .before .before .before .before .check-members .ensures .0 ∙ c .before .before .before .before .before .before .before .before .before .loop .inv .0, let l = c .before .before .before .before .before .before .before .before .before .loop .inv .1 in let h = c .before .before .before .before .before .before .if1 .left in omega arith, λ m u r told. c .before .before .before .before .before .before .before .before .before .loop .inv .2 m u r (args-rest _ _ _ _ _ _ (c .before .before .before .before .before .before .before .before .loop-test .taken) _ (next-by _ (now (c .before .before .before .before .before .before .before .before .before .before .before .before .before .before .args .r)) _ _ _ (c .before .before .before .before .before .before .before .before .before .before .number-in .ensures .0) (c .before .before .before .before .before .before .before .node-of .ensures)) _ _ _ (c .before .before .before .before .check-members .ensures .1) (not-false _ (c .before .if2 .left)) _ (c .result-of .ensures .0) m u r told))
+
+check-args-same-length-3 : (t : ℕ) → check-args-lts.Need-same-length-3 (check-args-claims t) (check-args-at t) check-args.Post check-args-Inv-loop check-args-μ-loop
+check-args-same-length-3 t c = c .before .loop .inv .0
+
+check-args-returns-3 : (t : ℕ) → check-args-lts.Need-returns-3 (check-args-claims t) (check-args-at t) check-args.Post check-args-Inv-loop check-args-μ-loop
+check-args-returns-3 t c = (c .before .loop .inv .0, c .before .loop .inv .2 _ _ _ (args-none _ _ _ (c .before .loop .here) _ _ (c .loop-test .left)))
+
+abbrev check-bound-Inv-loop : check-bound-lts.InvT-loop
+check-bound-Inv-loop t r w₀ at goal node row high from₀ c₀ w from c = (length w ≡ length w₀) × (node ≡ nodeAt t (baseIn r) at → node .tag ≡ 1 → Bound.Tried (caseOf t r) (answersOf r w₀) (usersOf r w₀) at goal node (answersOf r w) (usersOf r w) from c)
+
+abbrev check-bound-μ-loop : check-bound-lts.MeasureT-loop
+check-bound-μ-loop t r w₀ at goal node row high from₀ c₀ w from c = high + 1 - from
+
+check-bound-number-in-requires : (t : ℕ) → check-bound-lts.Need-number-in-requires (check-bound-claims t) (check-bound-at t) check-bound.Post check-bound-Inv-loop check-bound-μ-loop
+check-bound-number-in-requires t c κs = search needs
+
+check-bound-mul-row : (t : ℕ) → check-bound-lts.Need-mul-row (check-bound-claims t) (check-bound-at t) check-bound.Post check-bound-Inv-loop check-bound-μ-loop
+check-bound-mul-row t c = let p = row-fits (c .before .before .before .before .args .goal) (c .number-in .result) in omega arith
+
+check-bound-add-row : (t : ℕ) → check-bound-lts.Need-add-row (check-bound-claims t) (check-bound-at t) check-bound.Post check-bound-Inv-loop check-bound-μ-loop
+check-bound-add-row t c = let p = row-fits (c .before .before .before .before .args .goal) (c .number-in .result) in omega arith
+
+check-bound-add-group-of : (t : ℕ) → check-bound-lts.Need-add-group-of (check-bound-claims t) (check-bound-at t) check-bound.Post check-bound-Inv-loop check-bound-μ-loop
+check-bound-add-group-of t c = search needs
+
+check-bound-group-of-requires : (t : ℕ) → check-bound-lts.Need-group-of-requires (check-bound-claims t) (check-bound-at t) check-bound.Post check-bound-Inv-loop check-bound-μ-loop
+check-bound-group-of-requires t c κs = search needs
+
+check-bound-group-of-requires-2 : (t : ℕ) → check-bound-lts.Need-group-of-requires-2 (check-bound-claims t) (check-bound-at t) check-bound.Post check-bound-Inv-loop check-bound-μ-loop
+check-bound-group-of-requires-2 t c κs = search needs
+
+check-bound-add-if1 : (t : ℕ) → check-bound-lts.Need-add-if1 (check-bound-claims t) (check-bound-at t) check-bound.Post check-bound-Inv-loop check-bound-μ-loop
+check-bound-add-if1 t c = let h = c .group-of2 .ensures .1 in omega arith
+
+check-bound-head-hint-requires : (t : ℕ) → check-bound-lts.Need-head-hint-requires (check-bound-claims t) (check-bound-at t) check-bound.Post check-bound-Inv-loop check-bound-μ-loop
+check-bound-head-hint-requires t c κs = search needs
+
+check-bound-loop-holds : (t : ℕ) → check-bound-lts.Need-loop-holds (check-bound-claims t) (check-bound-at t) check-bound.Post check-bound-Inv-loop check-bound-μ-loop
+check-bound-loop-holds t c = (refl, λ ea et. tried-start _ _ _ _ _ _ _ _ (c .before .group-of2 .ensures .0))
+
+check-bound-try-binding-requires : (t : ℕ) → check-bound-lts.Need-try-binding-requires (check-bound-claims t) (check-bound-at t) check-bound.Post check-bound-Inv-loop check-bound-μ-loop
+check-bound-try-binding-requires t c κs = let p = c .before .before .before .before .before .before .before .before .before .before .before .pre .0 in (omega arith, c .before .before .before .before .before .before .before .before .before .before .before .pre .1)
+
+check-bound-same-length : (t : ℕ) → check-bound-lts.Need-same-length (check-bound-claims t) (check-bound-at t) check-bound.Post check-bound-Inv-loop check-bound-μ-loop
+check-bound-same-length t c = c .before .before .before .try-binding .ensures .0 ∙ c .before .before .before .before .before .before .loop .inv .0
+
+check-bound-returns : (t : ℕ) → check-bound-lts.Need-returns (check-bound-claims t) (check-bound-at t) check-bound.Post check-bound-Inv-loop check-bound-μ-loop
+check-bound-returns t c = (c .before .before .before .try-binding .ensures .0 ∙ c .before .before .before .before .before .before .loop .inv .0, λ ea et. tried-serves _ _ _ _ _ _ (c .before .before .before .before .before .before .loop .inv .1 ea et) _ _ _ ea et (c .before .before .before .try-binding .ensures .1) (c .if2 .taken))
+
+check-bound-next-in-requires : (t : ℕ) → check-bound-lts.Need-next-in-requires (check-bound-claims t) (check-bound-at t) check-bound.Post check-bound-Inv-loop check-bound-μ-loop
+check-bound-next-in-requires t c κs = search needs
+
+check-bound-add-from : (t : ℕ) → check-bound-lts.Need-add-from (check-bound-claims t) (check-bound-at t) check-bound.Post check-bound-Inv-loop check-bound-μ-loop
+check-bound-add-from t c = let w = c .next-in .ensures .within in let h = c .before .before .before .before .before .before .before .before .before .before .group-of .ensures .1 in omega arith
+
+check-bound-loop-less : (t : ℕ) → check-bound-lts.Need-loop-less (check-bound-claims t) (check-bound-at t) check-bound.Post check-bound-Inv-loop check-bound-μ-loop
+check-bound-loop-less t c = let h = c .before .before .before .before .before .before .loop-test .taken in let b = next-behind _ _ _ _ _ (c .next-in .ensures) h in omega arith
+
+check-bound-loop-again : (t : ℕ) → check-bound-lts.Need-loop-again (check-bound-claims t) (check-bound-at t) check-bound.Post check-bound-Inv-loop check-bound-μ-loop
+check-bound-loop-again t c = (c .before .before .before .before .try-binding .ensures .0 ∙ c .before .before .before .before .before .before .before .loop .inv .0, λ ea et. try-next _ _ _ _ _ _ (tried-fails _ _ _ _ _ _ (c .before .before .before .before .before .before .before .loop .inv .1 ea et) _ _ _ ea et (c .before .before .before .before .try-binding .ensures .1) (c .before .if2 .left)) _ _ _ _ (ap (λ k. (c .before .before .before .before .before .before .before .before .before .before .before .before .before .before .before .before .args .goal) % rowLimit * (k % wordsLimit)) (c .before .before .before .before .before .before .before .before .before .before .before .before .number-in .ensures .0)) (next-behind-sets _ testCells _ _ _ _ (c .next-in .ensures)) (omega arith))
+
+check-bound-same-length-2 : (t : ℕ) → check-bound-lts.Need-same-length-2 (check-bound-claims t) (check-bound-at t) check-bound.Post check-bound-Inv-loop check-bound-μ-loop
+check-bound-same-length-2 t c = c .before .loop .inv .0
+
+check-bound-returns-2 : (t : ℕ) → check-bound-lts.Need-returns-2 (check-bound-claims t) (check-bound-at t) check-bound.Post check-bound-Inv-loop check-bound-μ-loop
+check-bound-returns-2 t c = (c .before .loop .inv .0, λ ea et. tried-end _ _ _ _ _ _ (c .before .loop .inv .1 ea et) _ (c .before .before .before .before .group-of .ensures .0) (omega (arith, c .loop-test .left)) ea et)
+
+abbrev check-each-Inv-loop : check-each-lts.InvT-loop
+check-each-Inv-loop t r w₀ at ty closed many known₀ word₀ j₀ w known word j = (length w ≡ length w₀) × Asked (caseOf t r) (answersOf r w₀) (usersOf r w₀) at ty (answersOf r w) (usersOf r w) j × Recalled (caseOf t r) (answersOf r w₀) (usersOf r w₀) at ty (usersOf r w) word known
+
+abbrev check-each-μ-loop : check-each-lts.MeasureT-loop
+check-each-μ-loop t r w₀ at ty closed many known₀ word₀ j₀ w known word j = many - j
+
+check-each-number-in-requires : (t : ℕ) → check-each-lts.Need-number-in-requires (check-each-claims t) (check-each-at t) check-each.Post check-each-Inv-loop check-each-μ-loop
+check-each-number-in-requires t c κs = search needs
+
+check-each-node-of-requires : (t : ℕ) → check-each-lts.Need-node-of-requires (check-each-claims t) (check-each-at t) check-each.Post check-each-Inv-loop check-each-μ-loop
+check-each-node-of-requires t c κs = search needs
+
+check-each-many-of-requires : (t : ℕ) → check-each-lts.Need-many-of-requires (check-each-claims t) (check-each-at t) check-each.Post check-each-Inv-loop check-each-μ-loop
+check-each-many-of-requires t c κs = search needs
+
+check-each-loop-holds : (t : ℕ) → check-each-lts.Need-loop-holds (check-each-claims t) (check-each-at t) check-each.Post check-each-Inv-loop check-each-μ-loop
+check-each-loop-holds t c = (refl, asked-start _ _ _ _ _, recalled-none _ _ _ _ _ _ _ refl refl)
+
+check-each-member-of-requires : (t : ℕ) → check-each-lts.Need-member-of-requires (check-each-claims t) (check-each-at t) check-each.Post check-each-Inv-loop check-each-μ-loop
+check-each-member-of-requires t c κs = search needs
+
+check-each-add-j : (t : ℕ) → check-each-lts.Need-add-j (check-each-claims t) (check-each-at t) check-each.Post check-each-Inv-loop check-each-μ-loop
+check-each-add-j t c = let h = c .before .loop-test .taken in let m = c .before .before .before .many-of .ensures .1 in omega arith
+
+check-each-outlook-on-requires : (t : ℕ) → check-each-lts.Need-outlook-on-requires (check-each-claims t) (check-each-at t) check-each.Post check-each-Inv-loop check-each-μ-loop
+check-each-outlook-on-requires t c κs = search needs
+
+check-each-has-bit-requires : (t : ℕ) → check-each-lts.Need-has-bit-requires (check-each-claims t) (check-each-at t) check-each.Post check-each-Inv-loop check-each-μ-loop
+check-each-has-bit-requires t c κs = search needs
+
+check-each-same-length : (t : ℕ) → check-each-lts.Need-same-length (check-each-claims t) (check-each-at t) check-each.Post check-each-Inv-loop check-each-μ-loop
+check-each-same-length t c = c .before .before .before .before .before .before .loop .inv .0
+
+check-each-returns : (t : ℕ) → check-each-lts.Need-returns (check-each-claims t) (check-each-at t) check-each.Post check-each-Inv-loop check-each-μ-loop
+check-each-returns t c = (c .before .before .before .before .before .before .loop .inv .0, recalled-no _ _ _ _ _ (c .before .before .before .before .before .before .loop .inv .1) _ (c .before .before .before .before .before .before .before .many-of .ensures .0) (c .before .before .before .before .before .loop-test .taken) _ (c .before .before .before .before .member-of .ensures .0) _ _ (recalled-on _ _ _ _ _ (c .before .before .before .before .before .before .loop .inv .1 .keeps) _ (closed-by _ (now (c .before .before .before .before .before .before .before .before .before .before .before .before .before .args .r)) _ _ _ (c .before .before .before .before .before .before .before .before .before .number-in .ensures .0) (c .before .before .before .before .before .before .before .before .node-of .ensures)) _ _ _ _ _ refl (c .before .before .before .before .before .before .loop .inv .2) (c .before .before .outlook-on .ensures)) refl _ (c .before .has-bit .ensures) (c .if1 .taken))
+
+check-each-has-bit-requires-2 : (t : ℕ) → check-each-lts.Need-has-bit-requires-2 (check-each-claims t) (check-each-at t) check-each.Post check-each-Inv-loop check-each-μ-loop
+check-each-has-bit-requires-2 t c κs = search needs
+
+check-each-with-bit-requires : (t : ℕ) → check-each-lts.Need-with-bit-requires (check-each-claims t) (check-each-at t) check-each.Post check-each-Inv-loop check-each-μ-loop
+check-each-with-bit-requires t c κs = search needs
+
+check-each-check-member-requires : (t : ℕ) → check-each-lts.Need-check-member-requires (check-each-claims t) (check-each-at t) check-each.Post check-each-Inv-loop check-each-μ-loop
+check-each-check-member-requires t c κs = let p = c .before .before .before .before .before .before .before .before .before .before .before .before .before .before .before .before .before .pre .0 in (omega arith, Prim.tt)
+
+check-each-learn-in-requires : (t : ℕ) → check-each-lts.Need-learn-in-requires (check-each-claims t) (check-each-at t) check-each.Post check-each-Inv-loop check-each-μ-loop
+check-each-learn-in-requires t c κs = search needs
+
+check-each-same-length-2 : (t : ℕ) → check-each-lts.Need-same-length-2 (check-each-claims t) (check-each-at t) check-each.Post check-each-Inv-loop check-each-μ-loop
+check-each-same-length-2 t c = c .before .before .learn-in .ensures .0 ∙ c .before .before .before .before .before .before .before .check-member .ensures .0 ∙ c .before .before .before .before .before .before .before .before .before .before .before .before .before .before .before .before .before .before .loop .inv .0
+
+check-each-returns-2 : (t : ℕ) → check-each-lts.Need-returns-2 (check-each-claims t) (check-each-at t) check-each.Post check-each-Inv-loop check-each-μ-loop
+check-each-returns-2 t c = (c .before .before .learn-in .ensures .0 ∙ c .before .before .before .before .before .before .before .check-member .ensures .0 ∙ c .before .before .before .before .before .before .before .before .before .before .before .before .before .before .before .before .before .before .loop .inv .0, members-moved _ _ _ _ _ _ _ _ _ (c .before .before .learn-in .ensures .1) (checked-no _ _ _ _ _ (c .before .before .before .before .before .before .before .before .before .before .before .before .before .before .before .before .before .before .loop .inv .1) _ (c .before .before .before .before .before .before .before .before .before .before .before .before .before .before .before .before .before .before .before .many-of .ensures .0) (c .before .before .before .before .before .before .before .before .before .before .before .before .before .before .before .before .before .loop-test .taken) _ (c .before .before .before .before .before .before .before .before .before .before .before .before .before .before .before .before .member-of .ensures .0) _ (closed-by _ (now (c .before .before .before .before .before .before .before .before .before .before .before .before .before .before .before .before .before .before .before .before .before .before .before .before .before .args .r)) _ _ _ (c .before .before .before .before .before .before .before .before .before .before .before .before .before .before .before .before .before .before .before .before .before .number-in .ensures .0) (c .before .before .before .before .before .before .before .before .before .before .before .before .before .before .before .before .before .before .before .before .node-of .ensures)) _ (c .before .before .before .before .before .before .before .before .before .with-bit .ensures) _ _ _ (c .before .before .before .before .before .before .before .check-member .ensures .1) _ (not-true _ (c .before .before .before .before .if3 .taken)) (c .before .before .learn-in .ensures .2)))
+
+check-each-learn-in-requires-2 : (t : ℕ) → check-each-lts.Need-learn-in-requires-2 (check-each-claims t) (check-each-at t) check-each.Post check-each-Inv-loop check-each-μ-loop
+check-each-learn-in-requires-2 t c κs = search needs
+
+check-each-loop-less : (t : ℕ) → check-each-lts.Need-loop-less (check-each-claims t) (check-each-at t) check-each.Post check-each-Inv-loop check-each-μ-loop
+check-each-loop-less t c = let h = c .before .before .before .before .before .before .before .before .before .before .before .before .before .before .before .before .before .loop-test .taken in omega arith
+
+check-each-loop-again : (t : ℕ) → check-each-lts.Need-loop-again (check-each-claims t) (check-each-at t) check-each.Post check-each-Inv-loop check-each-μ-loop
+check-each-loop-again t c = (c .before .before .learn-in2 .ensures .0 ∙ c .before .before .before .before .before .before .before .check-member .ensures .0 ∙ c .before .before .before .before .before .before .before .before .before .before .before .before .before .before .before .before .before .before .loop .inv .0, asked-moved _ _ _ _ _ _ _ _ _ (c .before .before .learn-in2 .ensures .1) (checked-yes _ _ _ _ _ (c .before .before .before .before .before .before .before .before .before .before .before .before .before .before .before .before .before .before .loop .inv .1) _ (c .before .before .before .before .before .before .before .before .before .before .before .before .before .before .before .before .before .before .before .many-of .ensures .0) (c .before .before .before .before .before .before .before .before .before .before .before .before .before .before .before .before .before .loop-test .taken) _ (c .before .before .before .before .before .before .before .before .before .before .before .before .before .before .before .before .member-of .ensures .0) _ (closed-by _ (now (c .before .before .before .before .before .before .before .before .before .before .before .before .before .before .before .before .before .before .before .before .before .before .before .before .before .args .r)) _ _ _ (c .before .before .before .before .before .before .before .before .before .before .before .before .before .before .before .before .before .before .before .before .before .number-in .ensures .0) (c .before .before .before .before .before .before .before .before .before .before .before .before .before .before .before .before .before .before .before .before .node-of .ensures)) _ (c .before .before .before .before .before .before .before .before .before .with-bit .ensures) _ _ _ (c .before .before .before .before .before .before .before .check-member .ensures .1) _ (not-false _ (c .before .before .before .before .if3 .left)) (c .before .before .learn-in2 .ensures .2) _ (omega arith)), recalled-moved _ _ _ _ _ _ _ _ _ (c .before .before .learn-in2 .ensures .1) (recalled-more _ _ _ _ _ (c .before .before .before .before .before .before .before .check-member .ensures .1 .keeps .grows) (recalled-on _ _ _ _ _ (c .before .before .before .before .before .before .before .before .before .before .before .before .before .before .before .before .before .before .loop .inv .1 .keeps) _ (closed-by _ (now (c .before .before .before .before .before .before .before .before .before .before .before .before .before .before .before .before .before .before .before .before .before .before .before .before .before .args .r)) _ _ _ (c .before .before .before .before .before .before .before .before .before .before .before .before .before .before .before .before .before .before .before .before .before .number-in .ensures .0) (c .before .before .before .before .before .before .before .before .before .before .before .before .before .before .before .before .before .before .before .before .node-of .ensures)) _ _ _ _ _ refl (c .before .before .before .before .before .before .before .before .before .before .before .before .before .before .before .before .before .before .loop .inv .2) (c .before .before .before .before .before .before .before .before .before .before .before .before .before .before .outlook-on .ensures))))
+
+check-each-loop-less-2 : (t : ℕ) → check-each-lts.Need-loop-less-2 (check-each-claims t) (check-each-at t) check-each.Post check-each-Inv-loop check-each-μ-loop
+check-each-loop-less-2 t c = let h = c .before .before .before .before .before .before .before .loop-test .taken in omega arith
+
+check-each-loop-again-2 : (t : ℕ) → check-each-lts.Need-loop-again-2 (check-each-claims t) (check-each-at t) check-each.Post check-each-Inv-loop check-each-μ-loop
+check-each-loop-again-2 t c = (c .before .before .before .before .before .before .before .before .loop .inv .0, recalled-yes _ _ _ _ _ (c .before .before .before .before .before .before .before .before .loop .inv .1) _ (c .before .before .before .before .before .before .before .before .before .many-of .ensures .0) (c .before .before .before .before .before .before .before .loop-test .taken) _ (c .before .before .before .before .before .before .member-of .ensures .0) _ _ (recalled-on _ _ _ _ _ (c .before .before .before .before .before .before .before .before .loop .inv .1 .keeps) _ (closed-by _ (now (c .before .before .before .before .before .before .before .before .before .before .before .before .before .before .before .args .r)) _ _ _ (c .before .before .before .before .before .before .before .before .before .before .before .number-in .ensures .0) (c .before .before .before .before .before .before .before .before .before .before .node-of .ensures)) _ _ _ _ _ refl (c .before .before .before .before .before .before .before .before .loop .inv .2) (c .before .before .before .before .outlook-on .ensures)) refl _ (c .before .has-bit2 .ensures) (not-false _ (c .if2 .left)) _ (omega arith), (recalled-on _ _ _ _ _ (c .before .before .before .before .before .before .before .before .loop .inv .1 .keeps) _ (closed-by _ (now (c .before .before .before .before .before .before .before .before .before .before .before .before .before .before .before .args .r)) _ _ _ (c .before .before .before .before .before .before .before .before .before .before .before .number-in .ensures .0) (c .before .before .before .before .before .before .before .before .before .before .node-of .ensures)) _ _ _ _ _ refl (c .before .before .before .before .before .before .before .before .loop .inv .2) (c .before .before .before .before .outlook-on .ensures)))
+
+check-each-same-length-3 : (t : ℕ) → check-each-lts.Need-same-length-3 (check-each-claims t) (check-each-at t) check-each.Post check-each-Inv-loop check-each-μ-loop
+check-each-same-length-3 t c = c .before .loop .inv .0
+
+check-each-returns-3 : (t : ℕ) → check-each-lts.Need-returns-3 (check-each-claims t) (check-each-at t) check-each.Post check-each-Inv-loop check-each-μ-loop
+check-each-returns-3 t c = (c .before .loop .inv .0, asked-end _ _ _ _ _ (c .before .loop .inv .1) _ (c .before .before .many-of .ensures .0) (c .loop-test .left))
+
+abbrev check-given-Inv-loop : check-given-lts.InvT-loop
+check-given-Inv-loop t r w₀ at goal node given many j₀ w j = (length w ≡ length w₀) × Given.Tried (caseOf t r) (answersOf r w₀) (usersOf r w₀) at goal node given (answersOf r w) (usersOf r w) j
+
+abbrev check-given-μ-loop : check-given-lts.MeasureT-loop
+check-given-μ-loop t r w₀ at goal node given many j₀ w j = many - j
+
+check-given-number-in-requires : (t : ℕ) → check-given-lts.Need-number-in-requires (check-given-claims t) (check-given-at t) check-given.Post check-given-Inv-loop check-given-μ-loop
+check-given-number-in-requires t c κs = search needs
+
+check-given-off-requires : (t : ℕ) → check-given-lts.Need-off-requires (check-given-claims t) (check-given-at t) check-given.Post check-given-Inv-loop check-given-μ-loop
+check-given-off-requires t c κs = search needs
+
+check-given-returns : (t : ℕ) → check-given-lts.Need-returns (check-given-claims t) (check-given-at t) check-given.Post check-given-Inv-loop check-given-μ-loop
+check-given-returns t c = (refl, λ ea nc nn. given-none _ _ _ _ _ _ _ (c .before .off .ensures ∙ ap (offOf _ _) (c .before .before .number-in .ensures .0)) ea nc nn (c .if1 .taken))
+
+check-given-many-of-requires : (t : ℕ) → check-given-lts.Need-many-of-requires (check-given-claims t) (check-given-at t) check-given.Post check-given-Inv-loop check-given-μ-loop
+check-given-many-of-requires t c κs = search needs
+
+check-given-loop-holds : (t : ℕ) → check-given-lts.Need-loop-holds (check-given-claims t) (check-given-at t) check-given.Post check-given-Inv-loop check-given-μ-loop
+check-given-loop-holds t c = (refl, given-start _ _ _ _ _ _ _)
+
+check-given-member-of-requires : (t : ℕ) → check-given-lts.Need-member-of-requires (check-given-claims t) (check-given-at t) check-given.Post check-given-Inv-loop check-given-μ-loop
+check-given-member-of-requires t c κs = search needs
+
+check-given-add-j : (t : ℕ) → check-given-lts.Need-add-j (check-given-claims t) (check-given-at t) check-given.Post check-given-Inv-loop check-given-μ-loop
+check-given-add-j t c = let h = c .before .loop-test .taken in let m = c .before .before .before .many-of .ensures .1 in omega arith
+
+check-given-off-requires-2 : (t : ℕ) → check-given-lts.Need-off-requires-2 (check-given-claims t) (check-given-at t) check-given.Post check-given-Inv-loop check-given-μ-loop
+check-given-off-requires-2 t c κs = search needs
+
+check-given-add-check-args : (t : ℕ) → check-given-lts.Need-add-check-args (check-given-claims t) (check-given-at t) check-given.Post check-given-Inv-loop check-given-μ-loop
+check-given-add-check-args t c = let h = c .before .before .before .before .before .before .before .before .before .before .before .before .before .pre .1 in omega arith
+
+check-given-check-args-requires : (t : ℕ) → check-given-lts.Need-check-args-requires (check-given-claims t) (check-given-at t) check-given.Post check-given-Inv-loop check-given-μ-loop
+check-given-check-args-requires t c κs = let p = c .before .before .before .before .before .before .before .before .before .before .before .before .before .pre .0 in let h = c .before .before .before .before .before .before .before .before .before .before .before .before .before .pre .1 in (omega arith, Prim.tt)
+
+check-given-same-length : (t : ℕ) → check-given-lts.Need-same-length (check-given-claims t) (check-given-at t) check-given.Post check-given-Inv-loop check-given-μ-loop
+check-given-same-length t c = c .before .before .before .check-args .ensures .0 ∙ c .before .before .before .before .before .before .before .before .before .loop .inv .0
+
+check-given-returns-2 : (t : ℕ) → check-given-lts.Need-returns-2 (check-given-claims t) (check-given-at t) check-given.Post check-given-Inv-loop check-given-μ-loop
+check-given-returns-2 t c = (c .before .before .before .check-args .ensures .0 ∙ c .before .before .before .before .before .before .before .before .before .loop .inv .0, λ ea nc nn. tells-on (c .before .before .before .before .before .before .before .before .before .loop .inv .1 .keeps) (member-has _ _ _ _ _ _ _ (c .before .before .before .before .before .before .before .before .before .before .before .before .off .ensures ∙ ap (offOf _ _) (c .before .before .before .before .before .before .before .before .before .before .before .before .before .number-in .ensures .0)) ea nc nn _ _ (c .before .before .before .before .before .before .before .before .before .before .many-of .ensures .0) (c .before .before .before .before .before .before .before .before .loop-test .taken) (c .before .before .before .before .before .before .before .before .before .before .before .if1 .left) _ (c .before .before .before .before .before .before .before .member-of .ensures .0) _ (c .before .before .before .before .before .before .off2 .ensures) (c .before .before .before .before .before .if2 .taken) ((c .before .before .before .before .before .before .before .before .before .before .before .before .before .before .before .before .before .args .at) + 1) (omega arith) _ _ _ (c .before .before .before .check-args .ensures .1) (c .if3 .taken)))
+
+check-given-loop-less : (t : ℕ) → check-given-lts.Need-loop-less (check-given-claims t) (check-given-at t) check-given.Post check-given-Inv-loop check-given-μ-loop
+check-given-loop-less t c = let h = c .before .before .before .before .before .before .before .before .loop-test .taken in omega arith
+
+check-given-loop-again : (t : ℕ) → check-given-lts.Need-loop-again (check-given-claims t) (check-given-at t) check-given.Post check-given-Inv-loop check-given-μ-loop
+check-given-loop-again t c = (c .before .before .before .check-args .ensures .0 ∙ c .before .before .before .before .before .before .before .before .before .loop .inv .0, member-fails _ _ _ _ _ _ _ (c .before .before .before .before .before .before .before .before .before .loop .inv .1) _ (c .before .before .before .before .before .before .before .member-of .ensures .0) _ (omega arith) _ (c .before .before .before .before .before .before .off2 .ensures) (c .before .before .before .before .before .if2 .taken) ((c .before .before .before .before .before .before .before .before .before .before .before .before .before .before .before .before .before .args .at) + 1) (omega arith) _ _ _ (c .before .before .before .check-args .ensures .1) (c .if3 .left))
+
+check-given-loop-less-2 : (t : ℕ) → check-given-lts.Need-loop-less-2 (check-given-claims t) (check-given-at t) check-given.Post check-given-Inv-loop check-given-μ-loop
+check-given-loop-less-2 t c = let h = c .before .before .before .loop-test .taken in omega arith
+
+check-given-loop-again-2 : (t : ℕ) → check-given-lts.Need-loop-again-2 (check-given-claims t) (check-given-at t) check-given.Post check-given-Inv-loop check-given-μ-loop
+check-given-loop-again-2 t c = (c .before .before .before .before .loop .inv .0, member-misses _ _ _ _ _ _ _ (c .before .before .before .before .loop .inv .1) _ (c .before .before .member-of .ensures .0) _ (omega arith) _ (c .before .off2 .ensures) (c .if2 .left))
+
+check-given-same-length-2 : (t : ℕ) → check-given-lts.Need-same-length-2 (check-given-claims t) (check-given-at t) check-given.Post check-given-Inv-loop check-given-μ-loop
+check-given-same-length-2 t c = c .before .loop .inv .0
+
+check-given-returns-3 : (t : ℕ) → check-given-lts.Need-returns-3 (check-given-claims t) (check-given-at t) check-given.Post check-given-Inv-loop check-given-μ-loop
+check-given-returns-3 t c = (c .before .loop .inv .0, λ ea nc nn. given-end _ _ _ _ _ _ _ (c .before .before .before .before .off .ensures ∙ ap (offOf _ _) (c .before .before .before .before .before .number-in .ensures .0)) ea nc nn (c .before .loop .inv .1) _ (c .before .before .many-of .ensures .0) (c .loop-test .left))
+
+abbrev check-left-Inv-loop : check-left-lts.InvT-loop
+check-left-Inv-loop t r w₀ at asked found closed had₀ left₀ w had left = (length w ≡ length w₀) × ((memo users : List ℕ) → Finds (caseOf t r) memo users at (answersOf r w₀) (usersOf r w₀) found → Left (caseOf t r) memo users at asked (answersOf r w) (usersOf r w) had left)
+
+abbrev check-left-μ-loop : check-left-lts.MeasureT-loop
+check-left-μ-loop t r w₀ at asked found closed had₀ left₀ w had left = left
+
+check-left-number-in-requires : (t : ℕ) → check-left-lts.Need-number-in-requires (check-left-claims t) (check-left-at t) check-left.Post check-left-Inv-loop check-left-μ-loop
+check-left-number-in-requires t c κs = search needs
+
+check-left-node-of-requires : (t : ℕ) → check-left-lts.Need-node-of-requires (check-left-claims t) (check-left-at t) check-left.Post check-left-Inv-loop check-left-μ-loop
+check-left-node-of-requires t c κs = search needs
+
+check-left-left-of-requires : (t : ℕ) → check-left-lts.Need-left-of-requires (check-left-claims t) (check-left-at t) check-left.Post check-left-Inv-loop check-left-μ-loop
+check-left-left-of-requires t c κs = search needs
+
+check-left-loop-holds : (t : ℕ) → check-left-lts.Need-loop-holds (check-left-claims t) (check-left-at t) check-left.Post check-left-Inv-loop check-left-μ-loop
+check-left-loop-holds t c = (refl, λ m u f. left-start _ _ _ _ _ f (c .left-of .ensures))
+
+check-left-lowest-requires : (t : ℕ) → check-left-lts.Need-lowest-requires (check-left-claims t) (check-left-at t) check-left.Post check-left-Inv-loop check-left-μ-loop
+check-left-lowest-requires t c κs = search needs
+
+check-left-check-term-requires : (t : ℕ) → check-left-lts.Need-check-term-requires (check-left-claims t) (check-left-at t) check-left.Post check-left-Inv-loop check-left-μ-loop
+check-left-check-term-requires t c κs = let p = c .before .before .before .before .before .before .before .before .before .before .pre .0 in (omega arith, Prim.tt)
+
+check-left-with-bit-requires : (t : ℕ) → check-left-lts.Need-with-bit-requires (check-left-claims t) (check-left-at t) check-left.Post check-left-Inv-loop check-left-μ-loop
+check-left-with-bit-requires t c κs = search needs
+
+check-left-learn-in-requires : (t : ℕ) → check-left-lts.Need-learn-in-requires (check-left-claims t) (check-left-at t) check-left.Post check-left-Inv-loop check-left-μ-loop
+check-left-learn-in-requires t c κs = search needs
+
+check-left-same-length : (t : ℕ) → check-left-lts.Need-same-length (check-left-claims t) (check-left-at t) check-left.Post check-left-Inv-loop check-left-μ-loop
+check-left-same-length t c = c .before .before .learn-in .ensures .0 ∙ c .before .before .before .before .before .before .before .before .check-term .ensures .0 ∙ c .before .before .before .before .before .before .before .before .before .before .before .before .loop .inv .0
+
+check-left-returns : (t : ℕ) → check-left-lts.Need-returns (check-left-claims t) (check-left-at t) check-left.Post check-left-Inv-loop check-left-μ-loop
+check-left-returns t c = (c .before .before .learn-in .ensures .0 ∙ c .before .before .before .before .before .before .before .before .check-term .ensures .0 ∙ c .before .before .before .before .before .before .before .before .before .before .before .before .loop .inv .0, λ m u f. all-moved _ _ _ _ _ _ _ _ _ (c .before .before .learn-in .ensures .1) (left-fails _ _ _ _ _ (c .before .before .before .before .before .before .before .before .before .before .before .before .loop .inv .1 m u f) _ (closed-by _ (now (c .before .before .before .before .before .before .before .before .before .before .before .before .before .before .before .before .before .before .before .args .r)) _ _ _ (c .before .before .before .before .before .before .before .before .before .before .before .before .before .before .before .number-in .ensures .0) (c .before .before .before .before .before .before .before .before .before .before .before .before .before .before .node-of .ensures)) (c .before .before .before .before .before .before .before .before .before .before .before .loop-test .taken) _ (c .before .before .before .before .before .before .before .before .before .before .lowest .ensures) _ _ _ (c .before .before .before .before .before .before .before .before .check-term .ensures .1) (not-true _ (c .before .before .before .before .before .if1 .taken)) _ (c .before .before .before .with-bit .ensures) _ (c .before .before .learn-in .ensures .2)))
+
+check-left-with-bit-requires-2 : (t : ℕ) → check-left-lts.Need-with-bit-requires-2 (check-left-claims t) (check-left-at t) check-left.Post check-left-Inv-loop check-left-μ-loop
+check-left-with-bit-requires-2 t c κs = search needs
+
+check-left-without-bit-requires : (t : ℕ) → check-left-lts.Need-without-bit-requires (check-left-claims t) (check-left-at t) check-left.Post check-left-Inv-loop check-left-μ-loop
+check-left-without-bit-requires t c κs = search needs
+
+check-left-loop-less : (t : ℕ) → check-left-lts.Need-loop-less (check-left-claims t) (check-left-at t) check-left.Post check-left-Inv-loop check-left-μ-loop
+check-left-loop-less t c = c .without-bit .ensures .less (c .before .before .before .before .before .before .before .lowest .ensures .within (c .before .before .before .before .before .before .before .before .loop-test .taken)) (c .before .before .before .before .before .before .before .lowest .ensures .has (c .before .before .before .before .before .before .before .before .loop-test .taken))
+
+check-left-loop-again : (t : ℕ) → check-left-lts.Need-loop-again (check-left-claims t) (check-left-at t) check-left.Post check-left-Inv-loop check-left-μ-loop
+check-left-loop-again t c = (c .before .before .before .before .before .check-term .ensures .0 ∙ c .before .before .before .before .before .before .before .before .before .loop .inv .0, λ m u f. left-more _ _ _ _ _ (c .before .before .before .before .before .before .before .before .before .loop .inv .1 m u f) _ (closed-by _ (now (c .before .before .before .before .before .before .before .before .before .before .before .before .before .before .before .before .args .r)) _ _ _ (c .before .before .before .before .before .before .before .before .before .before .before .before .number-in .ensures .0) (c .before .before .before .before .before .before .before .before .before .before .before .node-of .ensures)) (c .before .before .before .before .before .before .before .before .loop-test .taken) _ (c .before .before .before .before .before .before .before .lowest .ensures) _ _ _ (c .before .before .before .before .before .check-term .ensures .1) (not-false _ (c .before .before .if1 .left)) _ _ (c .before .with-bit2 .ensures) (c .without-bit .ensures))
+
+check-left-learn-in-requires-2 : (t : ℕ) → check-left-lts.Need-learn-in-requires-2 (check-left-claims t) (check-left-at t) check-left.Post check-left-Inv-loop check-left-μ-loop
+check-left-learn-in-requires-2 t c κs = search needs
+
+check-left-same-length-2 : (t : ℕ) → check-left-lts.Need-same-length-2 (check-left-claims t) (check-left-at t) check-left.Post check-left-Inv-loop check-left-μ-loop
+check-left-same-length-2 t c = c .before .before .learn-in2 .ensures .0 ∙ c .before .before .before .before .before .loop .inv .0
+
+check-left-returns-2 : (t : ℕ) → check-left-lts.Need-returns-2 (check-left-claims t) (check-left-at t) check-left.Post check-left-Inv-loop check-left-μ-loop
+check-left-returns-2 t c = (c .before .before .learn-in2 .ensures .0 ∙ c .before .before .before .before .before .loop .inv .0, λ m u f. all-moved _ _ _ _ _ _ _ _ _ (c .before .before .learn-in2 .ensures .1) (left-end _ _ _ _ _ (c .before .before .before .before .before .loop .inv .1 m u f) _ (closed-by _ (now (c .before .before .before .before .before .before .before .before .before .before .before .before .args .r)) _ _ _ (c .before .before .before .before .before .before .before .before .number-in .ensures .0) (c .before .before .before .before .before .before .before .node-of .ensures)) (c .before .before .before .before .loop-test .left) _ (c .before .before .learn-in2 .ensures .2)))
+
+check-member-returns : (t : ℕ) → check-member-lts.Need-returns (check-member-claims t) (check-member-at t) check-member.Post
+check-member-returns t c = (refl, term-past _ _ _ _ _ (c .if1 .taken))
+
+check-member-number-in-requires : (t : ℕ) → check-member-lts.Need-number-in-requires (check-member-claims t) (check-member-at t) check-member.Post
+check-member-number-in-requires t c κs = search needs
+
+check-member-node-of-requires : (t : ℕ) → check-member-lts.Need-node-of-requires (check-member-claims t) (check-member-at t) check-member.Post
+check-member-node-of-requires t c κs = search needs
+
+check-member-check-term-requires : (t : ℕ) → check-member-lts.Need-check-term-requires (check-member-claims t) (check-member-at t) check-member.Post
+check-member-check-term-requires t c κs = let p = c .before .before .before .before .before .before .before .before .before .pre .0 in (omega arith, Prim.tt)
+
+check-member-same-length : (t : ℕ) → check-member-lts.Need-same-length (check-member-claims t) (check-member-at t) check-member.Post
+check-member-same-length t c = c .before .before .check-term .ensures .0
+
+check-member-returns-2 : (t : ℕ) → check-member-lts.Need-returns-2 (check-member-claims t) (check-member-at t) check-member.Post
+check-member-returns-2 t c = (c .before .before .check-term .ensures .0, c .before .before .check-term .ensures .1)
+
+check-member-head-hint-requires : (t : ℕ) → check-member-lts.Need-head-hint-requires (check-member-claims t) (check-member-at t) check-member.Post
+check-member-head-hint-requires t c κs = search needs
+
+check-member-candidate-requires : (t : ℕ) → check-member-lts.Need-candidate-requires (check-member-claims t) (check-member-at t) check-member.Post
+check-member-candidate-requires t c κs = search needs
+
+check-member-check-term-requires-2 : (t : ℕ) → check-member-lts.Need-check-term-requires-2 (check-member-claims t) (check-member-at t) check-member.Post
+check-member-check-term-requires-2 t c κs = let p = c .before .before .before .before .before .before .before .before .before .before .before .before .before .pre .0 in (omega arith, Prim.tt)
+
+check-member-same-length-2 : (t : ℕ) → check-member-lts.Need-same-length-2 (check-member-claims t) (check-member-at t) check-member.Post
+check-member-same-length-2 t c = c .before .before .check-term2 .ensures .0
+
+check-member-returns-3 : (t : ℕ) → check-member-lts.Need-returns-3 (check-member-claims t) (check-member-at t) check-member.Post
+check-member-returns-3 t c = (c .before .before .check-term2 .ensures .0, c .before .before .check-term2 .ensures .1)
+
+check-member-add-check-args : (t : ℕ) → check-member-lts.Need-add-check-args (check-member-claims t) (check-member-at t) check-member.Post
+check-member-add-check-args t c = let h = c .before .before .before .before .before .before .before .before .before .if1 .left in omega arith
+
+check-member-check-args-requires : (t : ℕ) → check-member-lts.Need-check-args-requires (check-member-claims t) (check-member-at t) check-member.Post
+check-member-check-args-requires t c κs = let p = c .before .before .before .before .before .before .before .before .before .before .before .before .before .pre .0 in let h = c .before .before .before .before .before .before .before .before .before .if1 .left in (omega arith, Prim.tt)
+
+check-member-check-term-requires-3 : (t : ℕ) → check-member-lts.Need-check-term-requires-3 (check-member-claims t) (check-member-at t) check-member.Post
+check-member-check-term-requires-3 t c κs = let p = c .before .before .before .before .before .before .before .before .before .before .before .before .before .before .before .before .before .before .pre .0 in (omega arith, Prim.tt)
+
+check-member-same-length-3 : (t : ℕ) → check-member-lts.Need-same-length-3 (check-member-claims t) (check-member-at t) check-member.Post
+check-member-same-length-3 t c = c .before .before .check-term3 .ensures .0 ∙ c .before .before .before .before .before .before .before .check-args .ensures .0
+
+check-member-returns-4 : (t : ℕ) → check-member-lts.Need-returns-4 (check-member-claims t) (check-member-at t) check-member.Post
+check-member-returns-4 t c = (c .before .before .check-term3 .ensures .0 ∙ c .before .before .before .before .before .before .before .check-args .ensures .0, tells-on (c .before .before .before .before .before .before .before .check-args .ensures .1 .keeps) (c .before .before .check-term3 .ensures .1))
+
+check-member-note-in-requires : (t : ℕ) → check-member-lts.Need-note-in-requires (check-member-claims t) (check-member-at t) check-member.Post
+check-member-note-in-requires t c κs = search needs
+
+check-member-same-length-4 : (t : ℕ) → check-member-lts.Need-same-length-4 (check-member-claims t) (check-member-at t) check-member.Post
+check-member-same-length-4 t c = c .before .before .note-in .ensures .0 ∙ c .before .before .before .before .before .before .before .check-args .ensures .0
+
+check-member-returns-5 : (t : ℕ) → check-member-lts.Need-returns-5 (check-member-claims t) (check-member-at t) check-member.Post
+check-member-returns-5 t c = (c .before .before .note-in .ensures .0 ∙ c .before .before .before .before .before .before .before .check-args .ensures .0, served _ (node-by _ (now (c .before .before .before .before .before .before .before .before .before .before .before .before .before .before .before .before .before .before .before .before .before .args .r)) _ _ _ (c .before .before .before .before .before .before .before .before .before .before .before .before .before .before .before .before .number-in .ensures .0) (c .before .before .before .before .before .before .before .before .before .before .before .before .before .before .before .node-of .ensures)) (c .before .before .before .before .before .before .before .before .before .before .before .before .before .if2 .left) (tries-moved _ _ _ _ _ _ _ _ _ _ _ _ (c .before .before .note-in .ensures .1) refl (try-serves _ _ _ _ _ _ _ _ (c .before .before .before .before .before .before .before .before .before .before .candidate .ensures) (c .before .before .before .before .before .before .before .before .before .if3 .left) ((c .before .before .before .before .before .before .before .before .before .before .before .before .before .before .before .before .before .before .before .before .before .args .at) + 1) (omega arith) _ _ _ (c .before .before .before .before .before .before .before .check-args .ensures .1) (not-false _ (c .before .before .before .before .if4 .left)) _ (c .before .before .note-in .ensures .2))))
+
+check-members-states-of-requires : (t : ℕ) → check-members-lts.Need-states-of-requires (check-members-claims t) (check-members-at t) check-members.Post
+check-members-states-of-requires t c κs = search needs
+
+check-members-cast-states : (t : ℕ) → check-members-lts.Need-cast-states (check-members-claims t) (check-members-at t) check-members.Post
+check-members-cast-states t c = search needs
+
+check-members-look-requires : (t : ℕ) → check-members-lts.Need-look-requires (check-members-claims t) (check-members-at t) check-members.Post
+check-members-look-requires t c κs = search needs
+
+check-members-same-length : (t : ℕ) → check-members-lts.Need-same-length (check-members-claims t) (check-members-at t) check-members.Post
+check-members-same-length t c = refl
+
+check-members-returns : (t : ℕ) → check-members-lts.Need-returns (check-members-claims t) (check-members-at t) check-members.Post
+check-members-returns t c = (refl, states-lack _ _ _ _ _ _ (c .before .before .before .before .states-of .ensures .0) (c .before .before .before .before .states-of .ensures .1) _ (c .before .before .look .ensures) (c .if1 .taken))
+
+check-members-arrows-of-requires : (t : ℕ) → check-members-lts.Need-arrows-of-requires (check-members-claims t) (check-members-at t) check-members.Post
+check-members-arrows-of-requires t c κs = search needs
+
+check-members-left-of-requires : (t : ℕ) → check-members-lts.Need-left-of-requires (check-members-claims t) (check-members-at t) check-members.Post
+check-members-left-of-requires t c κs = search needs
+
+check-members-same-length-2 : (t : ℕ) → check-members-lts.Need-same-length-2 (check-members-claims t) (check-members-at t) check-members.Post
+check-members-same-length-2 t c = refl
+
+check-members-returns-2 : (t : ℕ) → check-members-lts.Need-returns-2 (check-members-claims t) (check-members-at t) check-members.Post
+check-members-returns-2 t c = (refl, states-had _ _ _ _ _ _ (c .before .before .before .before .before .before .before .before .states-of .ensures .0) (c .before .before .before .before .before .before .before .before .states-of .ensures .1) _ (c .before .before .before .before .before .before .look .ensures) _ (c .before .before .left-of .ensures) (c .before .if2 .taken) (sym (c .before .before .before .arrows-of .ensures .0) ∙ c .if3 .taken))
+
+check-members-check-each-requires : (t : ℕ) → check-members-lts.Need-check-each-requires (check-members-claims t) (check-members-at t) check-members.Post
+check-members-check-each-requires t c κs = let p = c .before .before .before .before .before .before .before .before .before .before .before .before .before .pre .0 in (omega arith, Prim.tt)
+
+check-members-same-length-3 : (t : ℕ) → check-members-lts.Need-same-length-3 (check-members-claims t) (check-members-at t) check-members.Post
+check-members-same-length-3 t c = c .before .before .check-each .ensures .0
+
+check-members-returns-3 : (t : ℕ) → check-members-lts.Need-returns-3 (check-members-claims t) (check-members-at t) check-members.Post
+check-members-returns-3 t c = (c .before .before .check-each .ensures .0, c .before .before .check-each .ensures .1)
+
+check-members-check-states-requires : (t : ℕ) → check-members-lts.Need-check-states-requires (check-members-claims t) (check-members-at t) check-members.Post
+check-members-check-states-requires t c κs = let p = c .before .before .before .before .before .before .before .before .before .before .before .before .pre .0 in (omega arith, Prim.tt)
+
+check-members-same-length-4 : (t : ℕ) → check-members-lts.Need-same-length-4 (check-members-claims t) (check-members-at t) check-members.Post
+check-members-same-length-4 t c = c .before .before .before .check-states .ensures .0
+
+check-members-returns-4 : (t : ℕ) → check-members-lts.Need-returns-4 (check-members-claims t) (check-members-at t) check-members.Post
+check-members-returns-4 t c = (c .before .before .before .check-states .ensures .0, states-fail _ _ _ _ _ _ (c .before .before .before .before .before .before .before .before .before .before .before .before .states-of .ensures .0) (c .before .before .before .before .before .before .before .before .before .before .before .before .states-of .ensures .1) _ (c .before .before .before .before .before .before .before .before .before .before .look .ensures) _ (c .before .before .before .before .before .before .left-of .ensures) _ _ _ (c .before .before .before .check-states .ensures .1) (not-true _ (c .if4 .taken)))
+
+check-members-same-length-5 : (t : ℕ) → check-members-lts.Need-same-length-5 (check-members-claims t) (check-members-at t) check-members.Post
+check-members-same-length-5 t c = c .before .before .before .before .check-states .ensures .0
+
+check-members-returns-5 : (t : ℕ) → check-members-lts.Need-returns-5 (check-members-claims t) (check-members-at t) check-members.Post
+check-members-returns-5 t c = (c .before .before .before .before .check-states .ensures .0, states-checked _ _ _ _ _ _ (c .before .before .before .before .before .before .before .before .before .before .before .before .before .states-of .ensures .0) (c .before .before .before .before .before .before .before .before .before .before .before .before .before .states-of .ensures .1) _ (c .before .before .before .before .before .before .before .before .before .before .before .look .ensures) _ (c .before .before .before .before .before .before .before .left-of .ensures) _ _ _ (c .before .before .before .before .check-states .ensures .1) (not-false _ (c .before .if4 .left)) (sym (c .before .before .before .before .before .before .before .before .arrows-of .ensures .0) ∙ c .if5 .taken))
+
+check-members-check-each-requires-2 : (t : ℕ) → check-members-lts.Need-check-each-requires-2 (check-members-claims t) (check-members-at t) check-members.Post
+check-members-check-each-requires-2 t c κs = let p = c .before .before .before .before .before .before .before .before .before .before .before .before .before .before .before .before .before .before .pre .0 in (omega arith, Prim.tt)
+
+check-members-same-length-6 : (t : ℕ) → check-members-lts.Need-same-length-6 (check-members-claims t) (check-members-at t) check-members.Post
+check-members-same-length-6 t c = c .before .before .check-each2 .ensures .0 ∙ c .before .before .before .before .before .before .before .before .check-states .ensures .0
+
+check-members-returns-6 : (t : ℕ) → check-members-lts.Need-returns-6 (check-members-claims t) (check-members-at t) check-members.Post
+check-members-returns-6 t c = (c .before .before .check-each2 .ensures .0 ∙ c .before .before .before .before .before .before .before .before .check-states .ensures .0, tells-on (c .before .before .before .before .before .before .before .before .check-states .ensures .1 .keeps) (c .before .before .check-each2 .ensures .1))
+
+check-states-find-states-requires : (t : ℕ) → check-states-lts.Need-find-states-requires (check-states-claims t) (check-states-at t) check-states.Post
+check-states-find-states-requires t c κs = let p = c .before .before .before .before .pre .0 in (omega arith, Prim.tt)
+
+check-states-check-left-requires : (t : ℕ) → check-states-lts.Need-check-left-requires (check-states-claims t) (check-states-at t) check-states.Post
+check-states-check-left-requires t c κs = let p = c .before .before .before .before .before .before .before .before .pre .0 in (omega arith, Prim.tt)
+
+check-states-same-length : (t : ℕ) → check-states-lts.Need-same-length (check-states-claims t) (check-states-at t) check-states.Post
+check-states-same-length t c = c .before .before .check-left .ensures .0 ∙ c .before .before .before .before .before .before .find-states .ensures .0
+
+check-states-returns : (t : ℕ) → check-states-lts.Need-returns (check-states-claims t) (check-states-at t) check-states.Post
+check-states-returns t c = (c .before .before .check-left .ensures .0 ∙ c .before .before .before .before .before .before .find-states .ensures .0, c .before .before .check-left .ensures .1 _ _ (c .before .before .before .before .before .before .find-states .ensures .1))
+
+check-target-number-in-requires : (t : ℕ) → check-target-lts.Need-number-in-requires (check-target-claims t) (check-target-at t) check-target.Post
+check-target-number-in-requires t c κs = search needs
+
+check-target-node-of-requires : (t : ℕ) → check-target-lts.Need-node-of-requires (check-target-claims t) (check-target-at t) check-target.Post
+check-target-node-of-requires t c κs = search needs
+
+check-target-alone-requires : (t : ℕ) → check-target-lts.Need-alone-requires (check-target-claims t) (check-target-at t) check-target.Post
+check-target-alone-requires t c κs = search needs
+
+check-target-returns : (t : ℕ) → check-target-lts.Need-returns (check-target-claims t) (check-target-at t) check-target.Post
+check-target-returns t c = (refl, alone-no _ _ _ _ _ _ _ (c .before .alone .ensures) (node-by _ (now (c .before .before .before .before .before .before .before .args .r)) _ _ _ (c .before .before .before .number-in .ensures .0) (c .before .before .node-of .ensures)) (c .if1 .taken))
+
+check-target-returns-2 : (t : ℕ) → check-target-lts.Need-returns-2 (check-target-claims t) (check-target-at t) check-target.Post
+check-target-returns-2 t c = (refl, alone-yes _ _ _ _ _ _ _ (c .before .before .alone .ensures) (node-by _ (now (c .before .before .before .before .before .before .before .before .args .r)) _ _ _ (c .before .before .before .before .number-in .ensures .0) (c .before .before .before .node-of .ensures)) (c .if2 .taken))
+
+check-target-check-term-requires : (t : ℕ) → check-target-lts.Need-check-term-requires (check-target-claims t) (check-target-at t) check-target.Post
+check-target-check-term-requires t c κs = let p = c .before .before .before .before .before .before .before .before .before .pre .0 in (omega arith, Prim.tt)
+
+check-target-same-length : (t : ℕ) → check-target-lts.Need-same-length (check-target-claims t) (check-target-at t) check-target.Post
+check-target-same-length t c = c .before .before .check-term .ensures .0
+
+check-target-returns-3 : (t : ℕ) → check-target-lts.Need-returns-3 (check-target-claims t) (check-target-at t) check-target.Post
+check-target-returns-3 t c = (c .before .before .check-term .ensures .0, c .before .before .check-term .ensures .1)
+
+abbrev check-targets-Inv-loop : check-targets-lts.InvT-loop
+check-targets-Inv-loop t r w₀ at count targets base here₀ rest₀ left₀ w here rest left = (length w ≡ length w₀) × (at ≤ here) × ((memo′ users′ : List ℕ) (b : Bool) → ChecksTargets (caseOf t r) (answersOf r w) (usersOf r w) here left rest memo′ users′ b → ChecksTargets (caseOf t r) (answersOf r w₀) (usersOf r w₀) at count targets memo′ users′ b)
+
+abbrev check-targets-μ-loop : check-targets-lts.MeasureT-loop
+check-targets-μ-loop t r w₀ at count targets base here₀ rest₀ left₀ w here rest left = 18446744073709551616 - here
+
+check-targets-number-in-requires : (t : ℕ) → check-targets-lts.Need-number-in-requires (check-targets-claims t) (check-targets-at t) check-targets.Post check-targets-Inv-loop check-targets-μ-loop
+check-targets-number-in-requires t c κs = search needs
+
+check-targets-loop-holds : (t : ℕ) → check-targets-lts.Need-loop-holds (check-targets-claims t) (check-targets-at t) check-targets.Post check-targets-Inv-loop check-targets-μ-loop
+check-targets-loop-holds t c = (refl, omega arith, λ _ _ _ told. told)
+
+check-targets-node-of-requires : (t : ℕ) → check-targets-lts.Need-node-of-requires (check-targets-claims t) (check-targets-at t) check-targets.Post check-targets-Inv-loop check-targets-μ-loop
+check-targets-node-of-requires t c κs = search needs
+
+check-targets-same-length : (t : ℕ) → check-targets-lts.Need-same-length (check-targets-claims t) (check-targets-at t) check-targets.Post check-targets-Inv-loop check-targets-μ-loop
+check-targets-same-length t c = c .before .before .before .before .loop .inv .0
+
+check-targets-returns : (t : ℕ) → check-targets-lts.Need-returns (check-targets-claims t) (check-targets-at t) check-targets.Post check-targets-Inv-loop check-targets-μ-loop
+check-targets-returns t c = (c .before .before .before .before .loop .inv .0, c .before .before .before .before .loop .inv .2 _ _ _ (targets-stuck _ _ _ _ _ _ (c .before .before .before .loop-test .taken) _ (next-by _ (now (c .before .before .before .before .before .before .before .before .before .args .r)) _ _ _ (c .before .before .before .before .before .number-in .ensures .0) (c .before .before .node-of .ensures)) (c .if1 .taken)))
+
+check-targets-goes-down-requires : (t : ℕ) → check-targets-lts.Need-goes-down-requires (check-targets-claims t) (check-targets-at t) check-targets.Post check-targets-Inv-loop check-targets-μ-loop
+check-targets-goes-down-requires t c κs = search needs
+
+check-targets-targets-for-requires : (t : ℕ) → check-targets-lts.Need-targets-for-requires (check-targets-claims t) (check-targets-at t) check-targets.Post check-targets-Inv-loop check-targets-μ-loop
+check-targets-targets-for-requires t c κs = search needs
+
+check-targets-same-length-2 : (t : ℕ) → check-targets-lts.Need-same-length-2 (check-targets-claims t) (check-targets-at t) check-targets.Post check-targets-Inv-loop check-targets-μ-loop
+check-targets-same-length-2 t c = c .before .before .before .before .before .before .before .before .loop .inv .0
+
+check-targets-returns-2 : (t : ℕ) → check-targets-lts.Need-returns-2 (check-targets-claims t) (check-targets-at t) check-targets.Post check-targets-Inv-loop check-targets-μ-loop
+check-targets-returns-2 t c = (c .before .before .before .before .before .before .before .before .loop .inv .0, c .before .before .before .before .before .before .before .before .loop .inv .2 _ _ _ (down-none _ _ _ _ _ _ _ (node-by _ (now (c .before .before .before .before .before .before .before .before .before .before .before .before .before .args .r)) _ _ _ (c .before .before .before .before .before .before .before .before .before .number-in .ensures .0) (c .before .before .before .before .before .before .node-of .ensures)) (c .before .before .before .goes-down .ensures (c .before .before .if2 .taken) .0) (c .before .before .before .goes-down .ensures (c .before .before .if2 .taken) .1) _ (c .before .targets-for .ensures) (c .if3 .taken)))
+
+check-targets-add-here : (t : ℕ) → check-targets-lts.Need-add-here (check-targets-claims t) (check-targets-at t) check-targets.Post check-targets-Inv-loop check-targets-μ-loop
+check-targets-add-here t c = let h = c .before .before .before .before .if1 .left in omega arith
+
+check-targets-loop-less : (t : ℕ) → check-targets-lts.Need-loop-less (check-targets-claims t) (check-targets-at t) check-targets.Post check-targets-Inv-loop check-targets-μ-loop
+check-targets-loop-less t c = omega arith
+
+check-targets-loop-again : (t : ℕ) → check-targets-lts.Need-loop-again (check-targets-claims t) (check-targets-at t) check-targets.Post check-targets-Inv-loop check-targets-μ-loop
+check-targets-loop-again t c = (c .before .before .before .before .before .before .before .before .loop .inv .0, let l = c .before .before .before .before .before .before .before .before .loop .inv .1 in omega arith, λ m u b told. c .before .before .before .before .before .before .before .before .loop .inv .2 m u b (down _ _ _ _ _ _ _ (node-by _ (now (c .before .before .before .before .before .before .before .before .before .before .before .before .before .args .r)) _ _ _ (c .before .before .before .before .before .before .before .before .before .number-in .ensures .0) (c .before .before .before .before .before .before .node-of .ensures)) (c .before .before .before .goes-down .ensures (c .before .before .if2 .taken) .0) (c .before .before .before .goes-down .ensures (c .before .before .if2 .taken) .1) _ (c .before .targets-for .ensures) (c .if3 .left) ((c .before .before .before .before .before .before .before .before .loop .here) + 1) (omega arith) m u b told))
+
+check-targets-check-target-requires : (t : ℕ) → check-targets-lts.Need-check-target-requires (check-targets-claims t) (check-targets-at t) check-targets.Post check-targets-Inv-loop check-targets-μ-loop
+check-targets-check-target-requires t c κs = let p = c .before .before .before .before .before .before .before .before .before .before .before .before .pre .0 in let l = c .before .before .before .before .before .before .before .loop .inv .1 in (omega arith, Prim.tt)
+
+check-targets-same-length-3 : (t : ℕ) → check-targets-lts.Need-same-length-3 (check-targets-claims t) (check-targets-at t) check-targets.Post check-targets-Inv-loop check-targets-μ-loop
+check-targets-same-length-3 t c = c .before .before .before .check-target .ensures .0 ∙ c .before .before .before .before .before .before .before .before .before .before .before .loop .inv .0
+
+check-targets-returns-3 : (t : ℕ) → check-targets-lts.Need-returns-3 (check-targets-claims t) (check-targets-at t) check-targets.Post check-targets-Inv-loop check-targets-μ-loop
+check-targets-returns-3 t c = (c .before .before .before .check-target .ensures .0 ∙ c .before .before .before .before .before .before .before .before .before .before .before .loop .inv .0, c .before .before .before .before .before .before .before .before .before .before .before .loop .inv .2 _ _ _ (targets-lack _ _ _ _ _ _ (c .before .before .before .before .before .before .before .before .before .before .loop-test .taken) _ (next-by _ (now (c .before .before .before .before .before .before .before .before .before .before .before .before .before .before .before .before .args .r)) _ _ _ (c .before .before .before .before .before .before .before .before .before .before .before .before .number-in .ensures .0) (c .before .before .before .before .before .before .before .before .before .node-of .ensures)) _ _ _ (c .before .before .before .check-target .ensures .1) (not-true _ (c .if4 .taken))))
+
+check-targets-sub-left : (t : ℕ) → check-targets-lts.Need-sub-left (check-targets-claims t) (check-targets-at t) check-targets.Post check-targets-Inv-loop check-targets-μ-loop
+check-targets-sub-left t c = let l = c .before .before .before .before .before .before .before .before .before .before .loop-test .taken in omega arith
+
+check-targets-loop-less-2 : (t : ℕ) → check-targets-lts.Need-loop-less-2 (check-targets-claims t) (check-targets-at t) check-targets.Post check-targets-Inv-loop check-targets-μ-loop
+check-targets-loop-less-2 t c = let h = c .before .before .before .before .before .before .before .if1 .left in omega arith
+
+check-targets-loop-again-2 : (t : ℕ) → check-targets-lts.Need-loop-again-2 (check-targets-claims t) (check-targets-at t) check-targets.Post check-targets-Inv-loop check-targets-μ-loop
+check-targets-loop-again-2 t c = (c .before .before .before .check-target .ensures .0 ∙ c .before .before .before .before .before .before .before .before .before .before .before .loop .inv .0, let l = c .before .before .before .before .before .before .before .before .before .before .before .loop .inv .1 in let h = c .before .before .before .before .before .before .before .if1 .left in omega arith, λ m u b told. c .before .before .before .before .before .before .before .before .before .before .before .loop .inv .2 m u b (targets-rest _ _ _ _ _ _ (c .before .before .before .before .before .before .before .before .before .before .loop-test .taken) _ (next-by _ (now (c .before .before .before .before .before .before .before .before .before .before .before .before .before .before .before .before .args .r)) _ _ _ (c .before .before .before .before .before .before .before .before .before .before .before .before .number-in .ensures .0) (c .before .before .before .before .before .before .before .before .before .node-of .ensures)) _ _ _ (c .before .before .before .check-target .ensures .1) (not-false _ (c .if4 .left)) m u b told))
+
+check-targets-same-length-4 : (t : ℕ) → check-targets-lts.Need-same-length-4 (check-targets-claims t) (check-targets-at t) check-targets.Post check-targets-Inv-loop check-targets-μ-loop
+check-targets-same-length-4 t c = c .before .loop .inv .0
+
+check-targets-returns-4 : (t : ℕ) → check-targets-lts.Need-returns-4 (check-targets-claims t) (check-targets-at t) check-targets.Post check-targets-Inv-loop check-targets-μ-loop
+check-targets-returns-4 t c = (c .before .loop .inv .0, c .before .loop .inv .2 _ _ _ (targets-none _ _ _ (c .before .loop .here) _ _ (c .loop-test .left)))
+
+check-term-returns : (t : ℕ) → check-term-lts.Need-returns (check-term-claims t) (check-term-at t) check-term.Post
+check-term-returns t c = (refl, term-past _ _ _ _ _ (c .if1 .taken))
+
+check-term-number-in-requires : (t : ℕ) → check-term-lts.Need-number-in-requires (check-term-claims t) (check-term-at t) check-term.Post
+check-term-number-in-requires t c κs = search needs
+
+check-term-node-of-requires : (t : ℕ) → check-term-lts.Need-node-of-requires (check-term-claims t) (check-term-at t) check-term.Post
+check-term-node-of-requires t c κs = search needs
+
+check-term-targets-for-requires : (t : ℕ) → check-term-lts.Need-targets-for-requires (check-term-claims t) (check-term-at t) check-term.Post
+check-term-targets-for-requires t c κs = search needs
+
+check-term-returns-2 : (t : ℕ) → check-term-lts.Need-returns-2 (check-term-claims t) (check-term-at t) check-term.Post
+check-term-returns-2 t c = (refl, no-targets _ _ _ _ _ _ (node-by _ (now (c .before .before .before .before .before .before .before .before .before .before .args .r)) _ _ _ (c .before .before .before .before .before .number-in .ensures .0) (c .before .before .before .before .node-of .ensures)) (c .before .before .if2 .taken) _ (c .before .targets-for .ensures) (c .if3 .taken))
+
+check-term-add-check-targets : (t : ℕ) → check-term-lts.Need-add-check-targets (check-term-claims t) (check-term-at t) check-term.Post
+check-term-add-check-targets t c = let h = c .before .before .before .before .before .before .before .if1 .left in omega arith
+
+check-term-check-targets-requires : (t : ℕ) → check-term-lts.Need-check-targets-requires (check-term-claims t) (check-term-at t) check-term.Post
+check-term-check-targets-requires t c κs = let p = c .before .before .before .before .before .before .before .before .before .before .before .pre .0 in let h = c .before .before .before .before .before .before .before .if1 .left in (omega arith, Prim.tt)
+
+check-term-same-length : (t : ℕ) → check-term-lts.Need-same-length (check-term-claims t) (check-term-at t) check-term.Post
+check-term-same-length t c = c .before .before .check-targets .ensures .0
+
+check-term-returns-3 : (t : ℕ) → check-term-lts.Need-returns-3 (check-term-claims t) (check-term-at t) check-term.Post
+check-term-returns-3 t c = (c .before .before .check-targets .ensures .0, built-checked _ _ _ _ _ _ (node-by _ (now (c .before .before .before .before .before .before .before .before .before .before .before .before .before .before .args .r)) _ _ _ (c .before .before .before .before .before .before .before .before .before .number-in .ensures .0) (c .before .before .before .before .before .before .before .before .node-of .ensures)) (c .before .before .before .before .before .before .if2 .taken) _ (c .before .before .before .before .before .targets-for .ensures) (c .before .before .before .before .if3 .left) ((c .before .before .before .before .before .before .before .before .before .before .before .before .before .before .args .at) + 1) (omega arith) _ _ _ (c .before .before .check-targets .ensures .1))
+
+check-term-check-bound-requires : (t : ℕ) → check-term-lts.Need-check-bound-requires (check-term-claims t) (check-term-at t) check-term.Post
+check-term-check-bound-requires t c κs = let p = c .before .before .before .before .before .before .before .before .before .before .before .pre .0 in let h = c .before .before .before .before .before .before .before .if1 .left in (omega arith, omega arith)
+
+check-term-same-length-2 : (t : ℕ) → check-term-lts.Need-same-length-2 (check-term-claims t) (check-term-at t) check-term.Post
+check-term-same-length-2 t c = c .before .before .check-bound .ensures .0
+
+check-term-returns-4 : (t : ℕ) → check-term-lts.Need-returns-4 (check-term-claims t) (check-term-at t) check-term.Post
+check-term-returns-4 t c = (c .before .before .check-bound .ensures .0, c .before .before .check-bound .ensures .1 (node-by _ (now (c .before .before .before .before .before .before .before .before .before .before .before .before .before .before .args .r)) _ _ _ (c .before .before .before .before .before .before .before .before .before .number-in .ensures .0) (c .before .before .before .before .before .before .before .before .node-of .ensures)) (c .before .before .before .before .if4 .taken))
+
+check-term-alone-requires : (t : ℕ) → check-term-lts.Need-alone-requires (check-term-claims t) (check-term-at t) check-term.Post
+check-term-alone-requires t c κs = search needs
+
+check-term-returns-5 : (t : ℕ) → check-term-lts.Need-returns-5 (check-term-claims t) (check-term-at t) check-term.Post
+check-term-returns-5 t c = (refl, alone-no _ _ _ _ _ _ _ (c .before .alone .ensures) (node-by _ (now (c .before .before .before .before .before .before .before .before .before .before .before .before .args .r)) _ _ _ (c .before .before .before .before .before .before .before .number-in .ensures .0) (c .before .before .before .before .before .before .node-of .ensures)) (c .if5 .taken))
+
+check-term-returns-6 : (t : ℕ) → check-term-lts.Need-returns-6 (check-term-claims t) (check-term-at t) check-term.Post
+check-term-returns-6 t c = (refl, alone-yes _ _ _ _ _ _ _ (c .before .before .alone .ensures) (node-by _ (now (c .before .before .before .before .before .before .before .before .before .before .before .before .before .args .r)) _ _ _ (c .before .before .before .before .before .before .before .before .number-in .ensures .0) (c .before .before .before .before .before .before .before .node-of .ensures)) (c .if6 .taken))
+
+check-term-check-given-requires : (t : ℕ) → check-term-lts.Need-check-given-requires (check-term-claims t) (check-term-at t) check-term.Post
+check-term-check-given-requires t c κs = let p = c .before .before .before .before .before .before .before .before .before .before .before .before .before .before .pre .0 in let h = c .before .before .before .before .before .before .before .before .before .before .if1 .left in (omega arith, omega arith)
+
+check-term-same-length-3 : (t : ℕ) → check-term-lts.Need-same-length-3 (check-term-claims t) (check-term-at t) check-term.Post
+check-term-same-length-3 t c = c .before .before .check-given .ensures .0
+
+check-term-returns-7 : (t : ℕ) → check-term-lts.Need-returns-7 (check-term-claims t) (check-term-at t) check-term.Post
+check-term-returns-7 t c = (c .before .before .check-given .ensures .0, c .before .before .check-given .ensures .1 (node-by _ (now (c .before .before .before .before .before .before .before .before .before .before .before .before .before .before .before .before .before .args .r)) _ _ _ (c .before .before .before .before .before .before .before .before .before .before .before .before .number-in .ensures .0) (c .before .before .before .before .before .before .before .before .before .before .before .node-of .ensures)) (c .before .before .before .before .before .before .before .before .before .if2 .left) (c .before .before .before .before .before .before .before .if4 .left))
+
+abbrev find-bound-Inv-loop : find-bound-lts.InvT-loop
+find-bound-Inv-loop t r w₀ at asked node had₀ left₀ w had left = (length w ≡ length w₀) × (node ≡ nodeAt t (baseIn r) at → node .tag ≡ 1 → Finds (caseOf t r) (answersOf r w₀) (usersOf r w₀) at (answersOf r w) (usersOf r w) had)
+
+abbrev find-bound-μ-loop : find-bound-lts.MeasureT-loop
+find-bound-μ-loop t r w₀ at asked node had₀ left₀ w had left = left
+
+find-bound-loop-holds : (t : ℕ) → find-bound-lts.Need-loop-holds (find-bound-claims t) (find-bound-at t) find-bound.Post find-bound-Inv-loop find-bound-μ-loop
+find-bound-loop-holds t c = (refl, λ ea et. finds-none _ _ _ _)
+
+find-bound-lowest-requires : (t : ℕ) → find-bound-lts.Need-lowest-requires (find-bound-claims t) (find-bound-at t) find-bound.Post find-bound-Inv-loop find-bound-μ-loop
+find-bound-lowest-requires t c κs = search needs
+
+find-bound-node-hint-requires : (t : ℕ) → find-bound-lts.Need-node-hint-requires (find-bound-claims t) (find-bound-at t) find-bound.Post find-bound-Inv-loop find-bound-μ-loop
+find-bound-node-hint-requires t c κs = search needs
+
+find-bound-candidate-requires : (t : ℕ) → find-bound-lts.Need-candidate-requires (find-bound-claims t) (find-bound-at t) find-bound.Post find-bound-Inv-loop find-bound-μ-loop
+find-bound-candidate-requires t c κs = search needs
+
+find-bound-same-length : (t : ℕ) → find-bound-lts.Need-same-length (find-bound-claims t) (find-bound-at t) find-bound.Post find-bound-Inv-loop find-bound-μ-loop
+find-bound-same-length t c = c .before .before .before .before .before .before .loop .inv .0
+
+find-bound-returns : (t : ℕ) → find-bound-lts.Need-returns (find-bound-claims t) (find-bound-at t) find-bound.Post find-bound-Inv-loop find-bound-μ-loop
+find-bound-returns t c = c .before .before .before .before .before .before .loop .inv
+
+find-bound-add-check-args : (t : ℕ) → find-bound-lts.Need-add-check-args (find-bound-claims t) (find-bound-at t) find-bound.Post find-bound-Inv-loop find-bound-μ-loop
+find-bound-add-check-args t c = let h = c .before .before .before .before .before .before .before .before .before .before .before .pre .1 in omega arith
+
+find-bound-check-args-requires : (t : ℕ) → find-bound-lts.Need-check-args-requires (find-bound-claims t) (find-bound-at t) find-bound.Post find-bound-Inv-loop find-bound-μ-loop
+find-bound-check-args-requires t c κs = let p = c .before .before .before .before .before .before .before .before .before .before .before .pre .0 in let h = c .before .before .before .before .before .before .before .before .before .before .before .pre .1 in (omega arith, Prim.tt)
+
+find-bound-same-length-2 : (t : ℕ) → find-bound-lts.Need-same-length-2 (find-bound-claims t) (find-bound-at t) find-bound.Post find-bound-Inv-loop find-bound-μ-loop
+find-bound-same-length-2 t c = c .before .before .before .check-args .ensures .0 ∙ c .before .before .before .before .before .before .before .before .before .before .before .loop .inv .0
+
+find-bound-returns-2 : (t : ℕ) → find-bound-lts.Need-returns-2 (find-bound-claims t) (find-bound-at t) find-bound.Post find-bound-Inv-loop find-bound-μ-loop
+find-bound-returns-2 t c = (c .before .before .before .check-args .ensures .0 ∙ c .before .before .before .before .before .before .before .before .before .before .before .loop .inv .0, λ ea et. finds-on _ _ _ _ (c .before .before .before .before .before .before .before .before .before .before .before .loop .inv .1 ea et) (c .before .before .before .check-args .ensures .1 .keeps))
+
+find-bound-note-in-requires : (t : ℕ) → find-bound-lts.Need-note-in-requires (find-bound-claims t) (find-bound-at t) find-bound.Post find-bound-Inv-loop find-bound-μ-loop
+find-bound-note-in-requires t c κs = search needs
+
+find-bound-with-bit-requires : (t : ℕ) → find-bound-lts.Need-with-bit-requires (find-bound-claims t) (find-bound-at t) find-bound.Post find-bound-Inv-loop find-bound-μ-loop
+find-bound-with-bit-requires t c κs = search needs
+
+find-bound-without-bit-requires : (t : ℕ) → find-bound-lts.Need-without-bit-requires (find-bound-claims t) (find-bound-at t) find-bound.Post find-bound-Inv-loop find-bound-μ-loop
+find-bound-without-bit-requires t c κs = search needs
+
+find-bound-loop-less : (t : ℕ) → find-bound-lts.Need-loop-less (find-bound-claims t) (find-bound-at t) find-bound.Post find-bound-Inv-loop find-bound-μ-loop
+find-bound-loop-less t c = c .without-bit .ensures .less (c .before .before .before .before .before .before .before .before .before .before .before .before .before .before .before .lowest .ensures .within (c .before .before .before .before .before .before .before .before .before .before .before .before .before .before .before .before .loop-test .taken)) (c .before .before .before .before .before .before .before .before .before .before .before .before .before .before .before .lowest .ensures .has (c .before .before .before .before .before .before .before .before .before .before .before .before .before .before .before .before .loop-test .taken))
+
+find-bound-loop-again : (t : ℕ) → find-bound-lts.Need-loop-again (find-bound-claims t) (find-bound-at t) find-bound.Post find-bound-Inv-loop find-bound-μ-loop
+find-bound-loop-again t c = (c .before .before .before .before .note-in .ensures .0 ∙ c .before .before .before .before .before .before .before .before .before .check-args .ensures .0 ∙ c .before .before .before .before .before .before .before .before .before .before .before .before .before .before .before .before .before .loop .inv .0, λ ea et. let told = tries-moved _ _ _ _ _ _ _ _ _ _ _ _ (c .before .before .before .before .note-in .ensures .1) refl (try-serves _ _ _ _ _ _ _ _ (c .before .before .before .before .before .before .before .before .before .before .before .before .candidate .ensures) (c .before .before .before .before .before .before .before .before .before .before .before .if1 .left) ((c .before .before .before .before .before .before .before .before .before .before .before .before .before .before .before .before .before .before .before .before .before .args .at) + 1) (omega arith) _ _ _ (c .before .before .before .before .before .before .before .before .before .check-args .ensures .1) (not-false _ (c .before .before .before .before .before .before .if2 .left)) _ (c .before .before .before .before .note-in .ensures .2)) ea et in finds-more _ _ _ _ (c .before .before .before .before .before .before .before .before .before .before .before .before .before .before .before .before .before .loop .inv .1 ea et) (told .keeps) _ _ (c .before .before .before .before .before .before .before .before .before .before .before .before .before .before .before .lowest .ensures .within (c .before .before .before .before .before .before .before .before .before .before .before .before .before .before .before .before .loop-test .taken)) (c .before .with-bit .ensures) (told .yes refl))
+
+find-bound-same-length-3 : (t : ℕ) → find-bound-lts.Need-same-length-3 (find-bound-claims t) (find-bound-at t) find-bound.Post find-bound-Inv-loop find-bound-μ-loop
+find-bound-same-length-3 t c = c .before .loop .inv .0
+
+find-bound-returns-3 : (t : ℕ) → find-bound-lts.Need-returns-3 (find-bound-claims t) (find-bound-at t) find-bound.Post find-bound-Inv-loop find-bound-μ-loop
+find-bound-returns-3 t c = c .before .loop .inv
+
+abbrev find-given-Inv-loop : find-given-lts.InvT-loop
+find-given-Inv-loop t r w₀ at asked node given many had₀ j₀ w had j = (length w ≡ length w₀) × (node ≡ nodeAt t (baseIn r) at → (node .tag ≡ 0 → ⊥) → (node .tag ≡ 1 → ⊥) → Finds (caseOf t r) (answersOf r w₀) (usersOf r w₀) at (answersOf r w) (usersOf r w) had)
+
+abbrev find-given-μ-loop : find-given-lts.MeasureT-loop
+find-given-μ-loop t r w₀ at asked node given many had₀ j₀ w had j = many - j
+
+find-given-number-in-requires : (t : ℕ) → find-given-lts.Need-number-in-requires (find-given-claims t) (find-given-at t) find-given.Post find-given-Inv-loop find-given-μ-loop
+find-given-number-in-requires t c κs = search needs
+
+find-given-off-requires : (t : ℕ) → find-given-lts.Need-off-requires (find-given-claims t) (find-given-at t) find-given.Post find-given-Inv-loop find-given-μ-loop
+find-given-off-requires t c κs = search needs
+
+find-given-returns : (t : ℕ) → find-given-lts.Need-returns (find-given-claims t) (find-given-at t) find-given.Post find-given-Inv-loop find-given-μ-loop
+find-given-returns t c = (refl, λ ea nc nn. finds-none _ _ _ _)
+
+find-given-many-of-requires : (t : ℕ) → find-given-lts.Need-many-of-requires (find-given-claims t) (find-given-at t) find-given.Post find-given-Inv-loop find-given-μ-loop
+find-given-many-of-requires t c κs = search needs
+
+find-given-loop-holds : (t : ℕ) → find-given-lts.Need-loop-holds (find-given-claims t) (find-given-at t) find-given.Post find-given-Inv-loop find-given-μ-loop
+find-given-loop-holds t c = (refl, λ ea nc nn. finds-none _ _ _ _)
+
+find-given-member-of-requires : (t : ℕ) → find-given-lts.Need-member-of-requires (find-given-claims t) (find-given-at t) find-given.Post find-given-Inv-loop find-given-μ-loop
+find-given-member-of-requires t c κs = search needs
+
+find-given-add-j : (t : ℕ) → find-given-lts.Need-add-j (find-given-claims t) (find-given-at t) find-given.Post find-given-Inv-loop find-given-μ-loop
+find-given-add-j t c = let h = c .before .loop-test .taken in let m = c .before .before .before .many-of .ensures .1 in omega arith
+
+find-given-left-of-requires : (t : ℕ) → find-given-lts.Need-left-of-requires (find-given-claims t) (find-given-at t) find-given.Post find-given-Inv-loop find-given-μ-loop
+find-given-left-of-requires t c κs = search needs
+
+find-given-wanted-requires : (t : ℕ) → find-given-lts.Need-wanted-requires (find-given-claims t) (find-given-at t) find-given.Post find-given-Inv-loop find-given-μ-loop
+find-given-wanted-requires t c κs = search needs
+
+find-given-add-check-args : (t : ℕ) → find-given-lts.Need-add-check-args (find-given-claims t) (find-given-at t) find-given.Post find-given-Inv-loop find-given-μ-loop
+find-given-add-check-args t c = let h = c .before .before .before .before .before .before .before .before .before .before .before .before .before .before .pre .1 in omega arith
+
+find-given-check-args-requires : (t : ℕ) → find-given-lts.Need-check-args-requires (find-given-claims t) (find-given-at t) find-given.Post find-given-Inv-loop find-given-μ-loop
+find-given-check-args-requires t c κs = let p = c .before .before .before .before .before .before .before .before .before .before .before .before .before .before .pre .0 in let h = c .before .before .before .before .before .before .before .before .before .before .before .before .before .before .pre .1 in (omega arith, Prim.tt)
+
+find-given-same-length : (t : ℕ) → find-given-lts.Need-same-length (find-given-claims t) (find-given-at t) find-given.Post find-given-Inv-loop find-given-μ-loop
+find-given-same-length t c = c .before .before .before .check-args .ensures .0 ∙ c .before .before .before .before .before .before .before .before .before .before .loop .inv .0
+
+find-given-returns-2 : (t : ℕ) → find-given-lts.Need-returns-2 (find-given-claims t) (find-given-at t) find-given.Post find-given-Inv-loop find-given-μ-loop
+find-given-returns-2 t c = (c .before .before .before .check-args .ensures .0 ∙ c .before .before .before .before .before .before .before .before .before .before .loop .inv .0, λ ea nc nn. finds-on _ _ _ _ (c .before .before .before .before .before .before .before .before .before .before .loop .inv .1 ea nc nn) (c .before .before .before .check-args .ensures .1 .keeps))
+
+find-given-with-bit-requires : (t : ℕ) → find-given-lts.Need-with-bit-requires (find-given-claims t) (find-given-at t) find-given.Post find-given-Inv-loop find-given-μ-loop
+find-given-with-bit-requires t c κs = search needs
+
+find-given-loop-less : (t : ℕ) → find-given-lts.Need-loop-less (find-given-claims t) (find-given-at t) find-given.Post find-given-Inv-loop find-given-μ-loop
+find-given-loop-less t c = let h = c .before .before .before .before .before .before .before .before .before .before .loop-test .taken in omega arith
+
+find-given-loop-again : (t : ℕ) → find-given-lts.Need-loop-again (find-given-claims t) (find-given-at t) find-given.Post find-given-Inv-loop find-given-μ-loop
+find-given-loop-again t c = (c .before .before .before .before .check-args .ensures .0 ∙ c .before .before .before .before .before .before .before .before .before .before .before .loop .inv .0, λ ea nc nn. let told = member-has _ _ _ _ _ _ _ (c .before .before .before .before .before .before .before .before .before .before .before .before .before .before .off .ensures ∙ ap (offOf _ _) (c .before .before .before .before .before .before .before .before .before .before .before .before .before .before .before .number-in .ensures .0)) ea nc nn _ _ (c .before .before .before .before .before .before .before .before .before .before .before .before .many-of .ensures .0) (c .before .before .before .before .before .before .before .before .before .before .loop-test .taken) (c .before .before .before .before .before .before .before .before .before .before .before .before .before .if1 .left) _ (c .before .before .before .before .before .before .before .before .before .member-of .ensures .0) _ (c .before .before .before .before .before .before .before .wanted .ensures (c .before .before .before .before .before .before .if2 .taken) .1) refl ((c .before .before .before .before .before .before .before .before .before .before .before .before .before .before .before .before .before .before .before .args .at) + 1) (omega arith) _ _ _ (c .before .before .before .before .check-args .ensures .1) (not-false _ (c .before .if3 .left)) in finds-more _ _ _ _ (c .before .before .before .before .before .before .before .before .before .before .before .loop .inv .1 ea nc nn) (told .keeps) _ _ (let l = c .before .before .before .before .before .before .before .wanted .ensures (c .before .before .before .before .before .before .if2 .taken) .0 in omega arith) (c .with-bit .ensures) (told .yes refl))
+
+find-given-loop-less-2 : (t : ℕ) → find-given-lts.Need-loop-less-2 (find-given-claims t) (find-given-at t) find-given.Post find-given-Inv-loop find-given-μ-loop
+find-given-loop-less-2 t c = let h = c .before .before .before .before .loop-test .taken in omega arith
+
+find-given-loop-again-2 : (t : ℕ) → find-given-lts.Need-loop-again-2 (find-given-claims t) (find-given-at t) find-given.Post find-given-Inv-loop find-given-μ-loop
+find-given-loop-again-2 t c = c .before .before .before .before .before .loop .inv
+
+find-given-same-length-2 : (t : ℕ) → find-given-lts.Need-same-length-2 (find-given-claims t) (find-given-at t) find-given.Post find-given-Inv-loop find-given-μ-loop
+find-given-same-length-2 t c = c .before .loop .inv .0
+
+find-given-returns-3 : (t : ℕ) → find-given-lts.Need-returns-3 (find-given-claims t) (find-given-at t) find-given.Post find-given-Inv-loop find-given-μ-loop
+find-given-returns-3 t c = c .before .loop .inv
+
+find-states-returns : (t : ℕ) → find-states-lts.Need-returns (find-states-claims t) (find-states-at t) find-states.Post
+find-states-returns t c = (refl, finds-none _ _ _ _)
+
+find-states-number-in-requires : (t : ℕ) → find-states-lts.Need-number-in-requires (find-states-claims t) (find-states-at t) find-states.Post
+find-states-number-in-requires t c κs = search needs
+
+find-states-node-of-requires : (t : ℕ) → find-states-lts.Need-node-of-requires (find-states-claims t) (find-states-at t) find-states.Post
+find-states-node-of-requires t c κs = search needs
+
+find-states-find-bound-requires : (t : ℕ) → find-states-lts.Need-find-bound-requires (find-states-claims t) (find-states-at t) find-states.Post
+find-states-find-bound-requires t c κs = let p = c .before .before .before .before .before .before .before .before .before .pre .0 in let h = c .before .before .before .before .before .if1 .left in (omega arith, omega arith)
+
+find-states-same-length : (t : ℕ) → find-states-lts.Need-same-length (find-states-claims t) (find-states-at t) find-states.Post
+find-states-same-length t c = c .before .before .find-bound .ensures .0
+
+find-states-returns-2 : (t : ℕ) → find-states-lts.Need-returns-2 (find-states-claims t) (find-states-at t) find-states.Post
+find-states-returns-2 t c = (c .before .before .find-bound .ensures .0, c .before .before .find-bound .ensures .1 (node-by _ (now (c .before .before .before .before .before .before .before .before .before .before .before .before .args .r)) _ _ _ (c .before .before .before .before .before .before .before .number-in .ensures .0) (c .before .before .before .before .before .before .node-of .ensures)) (c .before .before .before .before .if2 .taken))
+
+find-states-find-given-requires : (t : ℕ) → find-states-lts.Need-find-given-requires (find-states-claims t) (find-states-at t) find-states.Post
+find-states-find-given-requires t c κs = let p = c .before .before .before .before .before .before .before .before .before .before .before .pre .0 in let h = c .before .before .before .before .before .before .before .if1 .left in (omega arith, omega arith)
+
+find-states-same-length-2 : (t : ℕ) → find-states-lts.Need-same-length-2 (find-states-claims t) (find-states-at t) find-states.Post
+find-states-same-length-2 t c = c .before .before .find-given .ensures .0
+
+find-states-returns-3 : (t : ℕ) → find-states-lts.Need-returns-3 (find-states-claims t) (find-states-at t) find-states.Post
+find-states-returns-3 t c = (c .before .before .find-given .ensures .0, c .before .before .find-given .ensures .1 (node-by _ (now (c .before .before .before .before .before .before .before .before .before .before .before .before .before .before .args .r)) _ _ _ (c .before .before .before .before .before .before .before .before .before .number-in .ensures .0) (c .before .before .before .before .before .before .before .before .node-of .ensures)) (λ e. let h = c .before .before .before .before .if3 .taken in omega arith) (c .before .before .before .before .before .before .if2 .left))
+
+find-states-returns-4 : (t : ℕ) → find-states-lts.Need-returns-4 (find-states-claims t) (find-states-at t) find-states.Post
+find-states-returns-4 t c = (refl, finds-none _ _ _ _)
+
+try-binding-candidate-requires : (t : ℕ) → try-binding-lts.Need-candidate-requires (try-binding-claims t) (try-binding-at t) try-binding.Post
+try-binding-candidate-requires t c κs = search needs
+
+try-binding-returns : (t : ℕ) → try-binding-lts.Need-returns (try-binding-claims t) (try-binding-at t) try-binding.Post
+try-binding-returns t c = (refl, try-misses _ _ _ _ _ _ _ _ (c .before .candidate .ensures) (c .if1 .taken))
+
+try-binding-add-check-args : (t : ℕ) → try-binding-lts.Need-add-check-args (try-binding-claims t) (try-binding-at t) try-binding.Post
+try-binding-add-check-args t c = let h = c .before .before .before .before .before .before .pre .1 in omega arith
+
+try-binding-check-args-requires : (t : ℕ) → try-binding-lts.Need-check-args-requires (try-binding-claims t) (try-binding-at t) try-binding.Post
+try-binding-check-args-requires t c κs = let p = c .before .before .before .before .before .before .pre .0 in let h = c .before .before .before .before .before .before .pre .1 in (omega arith, Prim.tt)
+
+try-binding-same-length : (t : ℕ) → try-binding-lts.Need-same-length (try-binding-claims t) (try-binding-at t) try-binding.Post
+try-binding-same-length t c = c .before .before .before .check-args .ensures .0
+
+try-binding-returns-2 : (t : ℕ) → try-binding-lts.Need-returns-2 (try-binding-claims t) (try-binding-at t) try-binding.Post
+try-binding-returns-2 t c = (c .before .before .before .check-args .ensures .0, try-lacks _ _ _ _ _ _ _ _ (c .before .before .before .before .before .before .candidate .ensures) (c .before .before .before .before .before .if1 .left) ((c .before .before .before .before .before .before .before .before .before .before .args .at) + 1) (omega arith) _ _ _ (c .before .before .before .check-args .ensures .1) (not-true _ (c .if2 .taken)))
+
+try-binding-note-in-requires : (t : ℕ) → try-binding-lts.Need-note-in-requires (try-binding-claims t) (try-binding-at t) try-binding.Post
+try-binding-note-in-requires t c κs = search needs
+
+try-binding-hint-in-requires : (t : ℕ) → try-binding-lts.Need-hint-in-requires (try-binding-claims t) (try-binding-at t) try-binding.Post
+try-binding-hint-in-requires t c κs = search needs
+
+try-binding-same-length-2 : (t : ℕ) → try-binding-lts.Need-same-length-2 (try-binding-claims t) (try-binding-at t) try-binding.Post
+try-binding-same-length-2 t c = c .before .before .hint-in .ensures .0 ∙ c .before .before .before .before .before .before .note-in .ensures .0 ∙ c .before .before .before .before .before .before .before .before .before .before .before .check-args .ensures .0
+
+try-binding-returns-3 : (t : ℕ) → try-binding-lts.Need-returns-3 (try-binding-claims t) (try-binding-at t) try-binding.Post
+try-binding-returns-3 t c = (c .before .before .hint-in .ensures .0 ∙ c .before .before .before .before .before .before .note-in .ensures .0 ∙ c .before .before .before .before .before .before .before .before .before .before .before .check-args .ensures .0, tries-moved _ _ _ _ _ _ _ _ _ _ _ _ (c .before .before .hint-in .ensures .1 ∙ c .before .before .before .before .before .before .note-in .ensures .1) (c .before .before .hint-in .ensures .2) (try-serves _ _ _ _ _ _ _ _ (c .before .before .before .before .before .before .before .before .before .before .before .before .before .before .candidate .ensures) (c .before .before .before .before .before .before .before .before .before .before .before .before .before .if1 .left) ((c .before .before .before .before .before .before .before .before .before .before .before .before .before .before .before .before .before .before .args .at) + 1) (omega arith) _ _ _ (c .before .before .before .before .before .before .before .before .before .before .before .check-args .ensures .1) (not-false _ (c .before .before .before .before .before .before .before .before .if2 .left)) _ (c .before .before .before .before .before .before .note-in .ensures .2)))
+
+pub +check-args+check-bound+check-each+check-given+check-left+check-member+check-members+check-states+check-target+check-targets+check-term+find-bound+find-given+find-states+try-binding-spec :
+    {M : Type 1} → statement M
++check-args+check-bound+check-each+check-given+check-left+check-member+check-members+check-states+check-target+check-targets+check-term+find-bound+find-given+find-states+try-binding-spec =
+    close
+    μ-check-args
+    μ-check-bound
+    μ-check-each
+    μ-check-given
+    μ-check-left
+    μ-check-member
+    μ-check-members
+    μ-check-states
+    μ-check-target
+    μ-check-targets
+    μ-check-term
+    μ-find-bound
+    μ-find-given
+    μ-find-states
+    μ-try-binding
+    (λ t. check-args-lts.spec (check-args-claims t)
+    (check-args-at t)
+    check-args.Post
+    check-args-Inv-loop
+    check-args-μ-loop
+    (check-args-number-in-requires t)
+    (check-args-loop-holds t)
+    (check-args-node-of-requires t)
+    (check-args-same-length t)
+    (check-args-returns t)
+    (check-args-check-members-requires t)
+    (check-args-same-length-2 t)
+    (check-args-returns-2 t)
+    (check-args-result-of-requires t)
+    (check-args-sub-left t)
+    (check-args-loop-less t)
+    (check-args-loop-again t)
+    (check-args-same-length-3 t)
+    (check-args-returns-3 t))
+    (λ t. check-bound-lts.spec (check-bound-claims t)
+    (check-bound-at t)
+    check-bound.Post
+    check-bound-Inv-loop
+    check-bound-μ-loop
+    (check-bound-number-in-requires t)
+    (check-bound-mul-row t)
+    (check-bound-add-row t)
+    (check-bound-add-group-of t)
+    (check-bound-group-of-requires t)
+    (check-bound-group-of-requires-2 t)
+    (check-bound-add-if1 t)
+    (check-bound-head-hint-requires t)
+    (check-bound-loop-holds t)
+    (check-bound-try-binding-requires t)
+    (check-bound-same-length t)
+    (check-bound-returns t)
+    (check-bound-next-in-requires t)
+    (check-bound-add-from t)
+    (check-bound-loop-less t)
+    (check-bound-loop-again t)
+    (check-bound-same-length-2 t)
+    (check-bound-returns-2 t))
+    (λ t. check-each-lts.spec (check-each-claims t)
+    (check-each-at t)
+    check-each.Post
+    check-each-Inv-loop
+    check-each-μ-loop
+    (check-each-number-in-requires t)
+    (check-each-node-of-requires t)
+    (check-each-many-of-requires t)
+    (check-each-loop-holds t)
+    (check-each-member-of-requires t)
+    (check-each-add-j t)
+    (check-each-outlook-on-requires t)
+    (check-each-has-bit-requires t)
+    (check-each-same-length t)
+    (check-each-returns t)
+    (check-each-has-bit-requires-2 t)
+    (check-each-with-bit-requires t)
+    (check-each-check-member-requires t)
+    (check-each-learn-in-requires t)
+    (check-each-same-length-2 t)
+    (check-each-returns-2 t)
+    (check-each-learn-in-requires-2 t)
+    (check-each-loop-less t)
+    (check-each-loop-again t)
+    (check-each-loop-less-2 t)
+    (check-each-loop-again-2 t)
+    (check-each-same-length-3 t)
+    (check-each-returns-3 t))
+    (λ t. check-given-lts.spec (check-given-claims t)
+    (check-given-at t)
+    check-given.Post
+    check-given-Inv-loop
+    check-given-μ-loop
+    (check-given-number-in-requires t)
+    (check-given-off-requires t)
+    (check-given-returns t)
+    (check-given-many-of-requires t)
+    (check-given-loop-holds t)
+    (check-given-member-of-requires t)
+    (check-given-add-j t)
+    (check-given-off-requires-2 t)
+    (check-given-add-check-args t)
+    (check-given-check-args-requires t)
+    (check-given-same-length t)
+    (check-given-returns-2 t)
+    (check-given-loop-less t)
+    (check-given-loop-again t)
+    (check-given-loop-less-2 t)
+    (check-given-loop-again-2 t)
+    (check-given-same-length-2 t)
+    (check-given-returns-3 t))
+    (λ t. check-left-lts.spec (check-left-claims t)
+    (check-left-at t)
+    check-left.Post
+    check-left-Inv-loop
+    check-left-μ-loop
+    (check-left-number-in-requires t)
+    (check-left-node-of-requires t)
+    (check-left-left-of-requires t)
+    (check-left-loop-holds t)
+    (check-left-lowest-requires t)
+    (check-left-check-term-requires t)
+    (check-left-with-bit-requires t)
+    (check-left-learn-in-requires t)
+    (check-left-same-length t)
+    (check-left-returns t)
+    (check-left-with-bit-requires-2 t)
+    (check-left-without-bit-requires t)
+    (check-left-loop-less t)
+    (check-left-loop-again t)
+    (check-left-learn-in-requires-2 t)
+    (check-left-same-length-2 t)
+    (check-left-returns-2 t))
+    (λ t. check-member-lts.spec (check-member-claims t)
+    (check-member-at t)
+    check-member.Post
+    (check-member-returns t)
+    (check-member-number-in-requires t)
+    (check-member-node-of-requires t)
+    (check-member-check-term-requires t)
+    (check-member-same-length t)
+    (check-member-returns-2 t)
+    (check-member-head-hint-requires t)
+    (check-member-candidate-requires t)
+    (check-member-check-term-requires-2 t)
+    (check-member-same-length-2 t)
+    (check-member-returns-3 t)
+    (check-member-add-check-args t)
+    (check-member-check-args-requires t)
+    (check-member-check-term-requires-3 t)
+    (check-member-same-length-3 t)
+    (check-member-returns-4 t)
+    (check-member-note-in-requires t)
+    (check-member-same-length-4 t)
+    (check-member-returns-5 t))
+    (λ t. check-members-lts.spec (check-members-claims t)
+    (check-members-at t)
+    check-members.Post
+    (check-members-states-of-requires t)
+    (check-members-cast-states t)
+    (check-members-look-requires t)
+    (check-members-same-length t)
+    (check-members-returns t)
+    (check-members-arrows-of-requires t)
+    (check-members-left-of-requires t)
+    (check-members-same-length-2 t)
+    (check-members-returns-2 t)
+    (check-members-check-each-requires t)
+    (check-members-same-length-3 t)
+    (check-members-returns-3 t)
+    (check-members-check-states-requires t)
+    (check-members-same-length-4 t)
+    (check-members-returns-4 t)
+    (check-members-same-length-5 t)
+    (check-members-returns-5 t)
+    (check-members-check-each-requires-2 t)
+    (check-members-same-length-6 t)
+    (check-members-returns-6 t))
+    (λ t. check-states-lts.spec (check-states-claims t)
+    (check-states-at t)
+    check-states.Post
+    (check-states-find-states-requires t)
+    (check-states-check-left-requires t)
+    (check-states-same-length t)
+    (check-states-returns t))
+    (λ t. check-target-lts.spec (check-target-claims t)
+    (check-target-at t)
+    check-target.Post
+    (check-target-number-in-requires t)
+    (check-target-node-of-requires t)
+    (check-target-alone-requires t)
+    (check-target-returns t)
+    (check-target-returns-2 t)
+    (check-target-check-term-requires t)
+    (check-target-same-length t)
+    (check-target-returns-3 t))
+    (λ t. check-targets-lts.spec (check-targets-claims t)
+    (check-targets-at t)
+    check-targets.Post
+    check-targets-Inv-loop
+    check-targets-μ-loop
+    (check-targets-number-in-requires t)
+    (check-targets-loop-holds t)
+    (check-targets-node-of-requires t)
+    (check-targets-same-length t)
+    (check-targets-returns t)
+    (check-targets-goes-down-requires t)
+    (check-targets-targets-for-requires t)
+    (check-targets-same-length-2 t)
+    (check-targets-returns-2 t)
+    (check-targets-add-here t)
+    (check-targets-loop-less t)
+    (check-targets-loop-again t)
+    (check-targets-check-target-requires t)
+    (check-targets-same-length-3 t)
+    (check-targets-returns-3 t)
+    (check-targets-sub-left t)
+    (check-targets-loop-less-2 t)
+    (check-targets-loop-again-2 t)
+    (check-targets-same-length-4 t)
+    (check-targets-returns-4 t))
+    (λ t. check-term-lts.spec (check-term-claims t)
+    (check-term-at t)
+    check-term.Post
+    (check-term-returns t)
+    (check-term-number-in-requires t)
+    (check-term-node-of-requires t)
+    (check-term-targets-for-requires t)
+    (check-term-returns-2 t)
+    (check-term-add-check-targets t)
+    (check-term-check-targets-requires t)
+    (check-term-same-length t)
+    (check-term-returns-3 t)
+    (check-term-check-bound-requires t)
+    (check-term-same-length-2 t)
+    (check-term-returns-4 t)
+    (check-term-alone-requires t)
+    (check-term-returns-5 t)
+    (check-term-returns-6 t)
+    (check-term-check-given-requires t)
+    (check-term-same-length-3 t)
+    (check-term-returns-7 t))
+    (λ t. find-bound-lts.spec (find-bound-claims t)
+    (find-bound-at t)
+    find-bound.Post
+    find-bound-Inv-loop
+    find-bound-μ-loop
+    (find-bound-loop-holds t)
+    (find-bound-lowest-requires t)
+    (find-bound-node-hint-requires t)
+    (find-bound-candidate-requires t)
+    (find-bound-same-length t)
+    (find-bound-returns t)
+    (find-bound-add-check-args t)
+    (find-bound-check-args-requires t)
+    (find-bound-same-length-2 t)
+    (find-bound-returns-2 t)
+    (find-bound-note-in-requires t)
+    (find-bound-with-bit-requires t)
+    (find-bound-without-bit-requires t)
+    (find-bound-loop-less t)
+    (find-bound-loop-again t)
+    (find-bound-same-length-3 t)
+    (find-bound-returns-3 t))
+    (λ t. find-given-lts.spec (find-given-claims t)
+    (find-given-at t)
+    find-given.Post
+    find-given-Inv-loop
+    find-given-μ-loop
+    (find-given-number-in-requires t)
+    (find-given-off-requires t)
+    (find-given-returns t)
+    (find-given-many-of-requires t)
+    (find-given-loop-holds t)
+    (find-given-member-of-requires t)
+    (find-given-add-j t)
+    (find-given-left-of-requires t)
+    (find-given-wanted-requires t)
+    (find-given-add-check-args t)
+    (find-given-check-args-requires t)
+    (find-given-same-length t)
+    (find-given-returns-2 t)
+    (find-given-with-bit-requires t)
+    (find-given-loop-less t)
+    (find-given-loop-again t)
+    (find-given-loop-less-2 t)
+    (find-given-loop-again-2 t)
+    (find-given-same-length-2 t)
+    (find-given-returns-3 t))
+    (λ t. find-states-lts.spec (find-states-claims t)
+    (find-states-at t)
+    find-states.Post
+    (find-states-returns t)
+    (find-states-number-in-requires t)
+    (find-states-node-of-requires t)
+    (find-states-find-bound-requires t)
+    (find-states-same-length t)
+    (find-states-returns-2 t)
+    (find-states-find-given-requires t)
+    (find-states-same-length-2 t)
+    (find-states-returns-3 t)
+    (find-states-returns-4 t))
+    λ t. try-binding-lts.spec (try-binding-claims t)
+    (try-binding-at t)
+    try-binding.Post
+    (try-binding-candidate-requires t)
+    (try-binding-returns t)
+    (try-binding-add-check-args t)
+    (try-binding-check-args-requires t)
+    (try-binding-same-length t)
+    (try-binding-returns-2 t)
+    (try-binding-note-in-requires t)
+    (try-binding-hint-in-requires t)
+    (try-binding-same-length-2 t)
+    (try-binding-returns-3 t)
