@@ -40,12 +40,10 @@ pub const MAX_TERM: usize = 4096;
 // The last number that an entry of a kind may have.
 pub const LAST_NONTERMINAL: usize = MAX_NONTERMINALS - 1;
 
-// The bytes of a node of a body; the least bytes of a record of a type, and of one of a binding.
+// The bytes of a node of a body; the least bytes of a record of a type.
 pub const NODE: usize = 4;
 
 pub const TYPE_BYTES: usize = 5;
-
-pub const BINDING_BYTES: usize = 8;
 
 // The numbers of the kinds, by which the counts of a file's records stand.
 pub const SORT: usize = 1;
@@ -295,7 +293,7 @@ pub const SETS: usize = MAX_GOALS * BINDING_WORDS;
 
 pub const USERS: usize = MAX_BINDINGS * BINDING_WORDS;
 
-pub const HINTS: usize = 16384;
+pub const HINTS: usize = 8192;
 
 // The hints of nodes and goals come first, then those of nonterminals and goals, whose numbers are spread by a stride.
 pub const HEAD_HINTS_AT: usize = HINTS / 2;
@@ -305,72 +303,88 @@ pub const HINT_STRIDE: usize = 61;
 // A nonterminal of no more bindings is gone through without a hint.
 pub const FEW: usize = 8;
 
-// Shorter files have no hints.
+// The smaller frames have no hints.
 pub const NO_HINTS: usize = 0;
 
-// The tables of a tiny file, by its length: how many nodes, types and bindings it may have, and from these its tables as those at the
-// limits. A test remembers answers for all nodes that a body may have, and for all goals.
-pub const TINY_FILE: usize = 384;
+// The tiny frame of a binding case: how many nodes, types and bindings it has room for, and from these its tables as those at the
+// limits. It has a row for each goal and for each binding. A test remembers answers for all nodes that a body may have, and for all
+// goals.
+pub const TINY_NODES: usize = 96;
 
-pub const TINY_ENDS: usize = TINY_FILE / NODE;
+pub const TINY_TYPES: usize = 32;
 
-pub const TINY_TYPES: usize = TINY_FILE / TYPE_BYTES;
-
-pub const TINY_BINDINGS: usize = TINY_FILE / BINDING_BYTES;
-
-pub const TINY_FITS: usize = TINY_TYPES * FIT_MASKS;
+pub const TINY_BINDINGS: usize = 32;
 
 pub const TINY_GOALS: usize = TINY_TYPES + MAX_STATES;
 
+pub const TINY_ROWS: usize = TINY_GOALS;
+
 pub const TINY_WORDS: usize = (TINY_BINDINGS + WORD - 1) / WORD;
 
-pub const TINY_TABLE: usize = ROWS_AT + TINY_GOALS * ROW_CELLS + TINY_ENDS * NODE_CELLS;
+pub const TINY_TABLE: usize = ROWS_AT + TINY_ROWS * ROW_CELLS + TINY_NODES * NODE_CELLS;
 
 pub const TINY_SETS: usize = TINY_GOALS * TINY_WORDS;
 
 pub const TINY_USERS: usize = TINY_BINDINGS * TINY_WORDS;
 
-pub const TINY_ANSWERS: usize = TINY_ENDS * ((TINY_GOALS + WORD - 1) / WORD) * CELL;
+pub const TINY_ANSWERS: usize = TINY_NODES * ((TINY_GOALS + WORD - 1) / WORD) * CELL;
 
-// The tables of a small file, likewise.
-pub const SMALL_FILE: usize = 1024;
+// The small frame, likewise.
+pub const SMALL_NODES: usize = 512;
 
-pub const SMALL_ENDS: usize = SMALL_FILE / NODE;
+pub const SMALL_TYPES: usize = 64;
 
-pub const SMALL_TYPES: usize = SMALL_FILE / TYPE_BYTES;
-
-pub const SMALL_BINDINGS: usize = SMALL_FILE / BINDING_BYTES;
-
-pub const SMALL_FITS: usize = SMALL_TYPES * FIT_MASKS;
+pub const SMALL_BINDINGS: usize = 96;
 
 pub const SMALL_GOALS: usize = SMALL_TYPES + MAX_STATES;
 
+pub const SMALL_ROWS: usize = SMALL_BINDINGS;
+
 pub const SMALL_WORDS: usize = (SMALL_BINDINGS + WORD - 1) / WORD;
 
-pub const SMALL_TABLE: usize = ROWS_AT + SMALL_GOALS * ROW_CELLS + SMALL_ENDS * NODE_CELLS;
+pub const SMALL_TABLE: usize = ROWS_AT + SMALL_ROWS * ROW_CELLS + SMALL_NODES * NODE_CELLS;
 
 pub const SMALL_SETS: usize = SMALL_GOALS * SMALL_WORDS;
 
 pub const SMALL_USERS: usize = SMALL_BINDINGS * SMALL_WORDS;
 
-pub const SMALL_ANSWERS: usize = SMALL_ENDS * ((SMALL_GOALS + WORD - 1) / WORD) * CELL;
+pub const SMALL_ANSWERS: usize = MAX_NODES * ((SMALL_GOALS + WORD - 1) / WORD) * CELL;
 
-// The tables of a file of middle length, likewise.
-pub const MIDDLE_FILE: usize = 2048;
+// The plain frame, likewise: for many bindings of few types.
+pub const PLAIN_NODES: usize = 2048;
 
-pub const MIDDLE_ENDS: usize = MIDDLE_FILE / NODE;
+pub const PLAIN_TYPES: usize = 64;
 
-pub const MIDDLE_TYPES: usize = MIDDLE_FILE / TYPE_BYTES;
+pub const PLAIN_BINDINGS: usize = 320;
 
-pub const MIDDLE_BINDINGS: usize = MIDDLE_FILE / BINDING_BYTES;
+pub const PLAIN_GOALS: usize = PLAIN_TYPES + MAX_STATES;
 
-pub const MIDDLE_FITS: usize = MIDDLE_TYPES * FIT_MASKS;
+pub const PLAIN_ROWS: usize = PLAIN_BINDINGS;
+
+pub const PLAIN_WORDS: usize = (PLAIN_BINDINGS + WORD - 1) / WORD;
+
+pub const PLAIN_TABLE: usize = ROWS_AT + PLAIN_ROWS * ROW_CELLS + PLAIN_NODES * NODE_CELLS;
+
+pub const PLAIN_SETS: usize = PLAIN_GOALS * PLAIN_WORDS;
+
+pub const PLAIN_USERS: usize = PLAIN_BINDINGS * PLAIN_WORDS;
+
+pub const PLAIN_ANSWERS: usize = MAX_NODES * ((PLAIN_GOALS + WORD - 1) / WORD) * CELL;
+
+// The middle frame, likewise; it has hints.
+pub const MIDDLE_NODES: usize = 2048;
+
+pub const MIDDLE_TYPES: usize = 320;
+
+pub const MIDDLE_BINDINGS: usize = 320;
 
 pub const MIDDLE_GOALS: usize = MIDDLE_TYPES + MAX_STATES;
 
+pub const MIDDLE_ROWS: usize = MIDDLE_GOALS;
+
 pub const MIDDLE_WORDS: usize = (MIDDLE_BINDINGS + WORD - 1) / WORD;
 
-pub const MIDDLE_TABLE: usize = ROWS_AT + MIDDLE_GOALS * ROW_CELLS + MIDDLE_ENDS * NODE_CELLS;
+pub const MIDDLE_TABLE: usize = ROWS_AT + MIDDLE_ROWS * ROW_CELLS + MIDDLE_NODES * NODE_CELLS;
 
 pub const MIDDLE_SETS: usize = MIDDLE_GOALS * MIDDLE_WORDS;
 
@@ -378,25 +392,30 @@ pub const MIDDLE_USERS: usize = MIDDLE_BINDINGS * MIDDLE_WORDS;
 
 pub const MIDDLE_ANSWERS: usize = MAX_NODES * ((MIDDLE_GOALS + WORD - 1) / WORD) * CELL;
 
-// The tables of a longer file, likewise.
+// The ends of subterms and the fit of types of a tiny file: by its length, how many nodes and types it may have.
+pub const TINY_FILE: usize = 384;
+
+pub const TINY_ENDS: usize = TINY_FILE / NODE;
+
+pub const TINY_FITS: usize = TINY_FILE / TYPE_BYTES * FIT_MASKS;
+
+// Those of a small file, likewise.
+pub const SMALL_FILE: usize = 1024;
+
+pub const SMALL_ENDS: usize = SMALL_FILE / NODE;
+
+pub const SMALL_FITS: usize = SMALL_FILE / TYPE_BYTES * FIT_MASKS;
+
+// Those of a file of middle length, likewise.
+pub const MIDDLE_FILE: usize = 2048;
+
+pub const MIDDLE_ENDS: usize = MIDDLE_FILE / NODE;
+
+pub const MIDDLE_FITS: usize = MIDDLE_FILE / TYPE_BYTES * FIT_MASKS;
+
+// Those of a longer file, likewise.
 pub const LONG_FILE: usize = 4096;
 
 pub const LONG_ENDS: usize = LONG_FILE / NODE;
 
-pub const LONG_TYPES: usize = LONG_FILE / TYPE_BYTES;
-
-pub const LONG_BINDINGS: usize = LONG_FILE / BINDING_BYTES;
-
-pub const LONG_FITS: usize = LONG_TYPES * FIT_MASKS;
-
-pub const LONG_GOALS: usize = LONG_TYPES + MAX_STATES;
-
-pub const LONG_WORDS: usize = (LONG_BINDINGS + WORD - 1) / WORD;
-
-pub const LONG_TABLE: usize = ROWS_AT + LONG_GOALS * ROW_CELLS + LONG_ENDS * NODE_CELLS;
-
-pub const LONG_SETS: usize = LONG_GOALS * LONG_WORDS;
-
-pub const LONG_USERS: usize = LONG_BINDINGS * LONG_WORDS;
-
-pub const LONG_ANSWERS: usize = MAX_NODES * ((LONG_GOALS + WORD - 1) / WORD) * CELL;
+pub const LONG_FITS: usize = LONG_FILE / TYPE_BYTES * FIT_MASKS;

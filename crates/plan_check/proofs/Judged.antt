@@ -96,7 +96,7 @@ module _ (file lent : List ℕ) where
         let tables = subst (Leaves file index lens counts ends) e (w .tables) in
         let accepted = binding-case (length lent) file rs is .0 in
         let s = shrunk (automatonOf rs) (planOf rs) (bindingsOf rs) in
-        let found = judges .judged .judged (short file (accepted .short)) lens (tables .known) (tables .passed) (tables .ends-are) (accepted .whole-file) in
+        let found = judges .judged (short file (accepted .short)) lens (tables .known) (tables .passed) (tables .ends-are) (accepted .whole-file) in
         meets1 (bindingCase rs) is (answerAs v) marks (ap answerAs (judges .is-verdict) ∙ answer-bindings s lent marks _ _ _ _ found) (found .flags-are)
 
     pub judged-path : r ≡ Path → (p : Replayed) → ReplaysPath file index counts p → (v : Verdict) → v ≡ ofPath p → Demand1 file lent (answerAs v) lent

@@ -7,12 +7,14 @@ use mathlib.Core.Option.{none}
 use lib.ListN.{length}
 use Rattle.scheme.specs.Lists.{if_then_else_}
 use Rattle.casefile.specs.Records.{recordsOf, listed}
+use Rattle.casefile.specs.Kinds.{Kind, payloads, count}
 use Rattle.casefile.specs.Tables.{planOf, automatonOf, bindingsOf}
 use Rattle.casefile.specs.Refusals.{refuseWhole}
 use Rattle.casefile.specs.Promises.{Passed}
 use Rattle.casefile.specs.BindingCases.{shrunk}
 use Rattle.index.specs.layout.Layout.{maxFile}
 use Rattle.index.specs.entries.Known.{Known}
+use Rattle.rules.specs.reading.RuleBodies.{nodesIn}
 use Rattle.intake.specs.plan.PlanTests.{EndsAre}
 use Rattle.replay.specs.declared.replay.Replayed.{Replayed}
 use Rattle.replay.specs.declared.replay.Replayed.the-variants.{Refuted as Refuted′, Refused as Refused′}
@@ -29,11 +31,17 @@ unfoldable pub ofPath : Replayed → Verdict
 ofPath (Refuted′ n q c) = Refuted n q c
 ofPath (Refused′ n p) = Refused n p
 
--- what the definitions keep of the bindings of a file that is not refused, by its tables, where it has no more than a given number of bytes
-pub record JudgesUpTo (size : ℕ) (file index counts ends lent marks : List ℕ) (accepted : Bool) (kept total rounds : ℕ) : Type 0 where
-  pub judged : length file ≤ size → (lens : List ℕ) → Known file index lens counts (listed (recordsOf file)) → Passed (listed (recordsOf file)) → EndsAre (listed (recordsOf file)) ends
-      → refuseWhole (listed (recordsOf file)) (length lent) ≡ none
-      → IsShrunk (shrunk (automatonOf (listed (recordsOf file))) (planOf (listed (recordsOf file))) (bindingsOf (listed (recordsOf file)))) lent marks accepted kept total rounds
+-- what the definitions keep of the bindings of a file that is not refused, by its tables
+abbrev pub Judges : (file index counts ends lent marks : List ℕ) (accepted : Bool) (kept total rounds : ℕ) → Type 0
+Judges file index counts ends lent marks accepted kept total rounds =
+    (lens : List ℕ) → Known file index lens counts (listed (recordsOf file)) → Passed (listed (recordsOf file)) → EndsAre (listed (recordsOf file)) ends
+    → refuseWhole (listed (recordsOf file)) (length lent) ≡ none
+    → IsShrunk (shrunk (automatonOf (listed (recordsOf file))) (planOf (listed (recordsOf file))) (bindingsOf (listed (recordsOf file)))) lent marks accepted kept total rounds
+
+-- so it is where the file has no more than given numbers of nodes, types and bindings
+pub record JudgesWithin (nodes types bindings : ℕ) (file index counts ends lent marks : List ℕ) (accepted : Bool) (kept total rounds : ℕ) : Type 0 where
+  pub judged : nodesIn (payloads Kind.rule (listed (recordsOf file))) ≤ nodes → count Kind.type (listed (recordsOf file)) ≤ types → count Kind.binding (listed (recordsOf file)) ≤ bindings
+      → Judges file index counts ends lent marks accepted kept total rounds
 
 -- v is the verdict on the bindings of a file, by its tables, and the lent flags became `marks`
 pub record JudgesBindingCase (file index counts ends lent marks : List ℕ) (v : Verdict) : Type 0 where
@@ -41,5 +49,5 @@ pub record JudgesBindingCase (file index counts ends lent marks : List ℕ) (v :
   pub kept : ℕ
   pub total : ℕ
   pub rounds : ℕ
-  pub judged : JudgesUpTo maxFile file index counts ends lent marks accepted kept total rounds
+  pub judged : length file ≤ maxFile → Judges file index counts ends lent marks accepted kept total rounds
   pub is-verdict : v ≡ ofBindings accepted kept total rounds

@@ -1,20 +1,20 @@
-// Binding cases, judged with the tables that a file of its length may need, each in a frame of its own. What the tables of answers have
-// no room for is worked out again; hints may be none.
+// Binding cases, each judged in a frame: tables with room for so many nodes, types and bindings. What the tables of answers have no room
+// for is worked out again; hints may be none.
 use binding_cases::Shrunken;
 use binding_cases::judge_bindings;
 use index::layout::ANSWERS;
 use index::layout::Counts;
 use index::layout::HINTS;
 use index::layout::Index;
-use index::layout::LONG_ANSWERS;
-use index::layout::LONG_SETS;
-use index::layout::LONG_TABLE;
-use index::layout::LONG_USERS;
 use index::layout::MIDDLE_ANSWERS;
 use index::layout::MIDDLE_SETS;
 use index::layout::MIDDLE_TABLE;
 use index::layout::MIDDLE_USERS;
 use index::layout::NO_HINTS;
+use index::layout::PLAIN_ANSWERS;
+use index::layout::PLAIN_SETS;
+use index::layout::PLAIN_TABLE;
+use index::layout::PLAIN_USERS;
 use index::layout::Rows;
 use index::layout::SETS;
 use index::layout::SMALL_ANSWERS;
@@ -28,8 +28,8 @@ use index::layout::TINY_SETS;
 use index::layout::TINY_TABLE;
 use index::layout::TINY_USERS;
 use index::layout::USERS;
-ghost use Rattle.index.specs.layout.Layout.{tinyFile, smallFile, middleFile, longFile, maxFile};
-ghost use Rattle.plan_check.specs.Promises.{JudgesUpTo};
+ghost use Rattle.index.specs.layout.Layout.{tinyNodes, tinyTypes, tinyBindings, smallNodes, smallTypes, smallBindings, plainNodes, plainTypes, plainBindings, middleNodes, middleTypes, middleBindings, endsSize, maxTypes, maxBindings};
+ghost use Rattle.plan_check.specs.Promises.{JudgesWithin};
 
 // What tests read in a frame: the numbers of a test, then the sets of candidates; and what they write: hints, then users, then answers.
 const TINY_READ: usize = TEST_CELLS + TINY_SETS;
@@ -40,20 +40,20 @@ const SMALL_READ: usize = TEST_CELLS + SMALL_SETS;
 
 const SMALL_WRITE: usize = NO_HINTS + SMALL_USERS + SMALL_ANSWERS;
 
+const PLAIN_READ: usize = TEST_CELLS + PLAIN_SETS;
+
+const PLAIN_WRITE: usize = NO_HINTS + PLAIN_USERS + PLAIN_ANSWERS;
+
 const MIDDLE_READ: usize = TEST_CELLS + MIDDLE_SETS;
 
-const MIDDLE_WRITE: usize = NO_HINTS + MIDDLE_USERS + MIDDLE_ANSWERS;
-
-const LONG_READ: usize = TEST_CELLS + LONG_SETS;
-
-const LONG_WRITE: usize = NO_HINTS + LONG_USERS + LONG_ANSWERS;
+const MIDDLE_WRITE: usize = HINTS + MIDDLE_USERS + MIDDLE_ANSWERS;
 
 const ALL_READ: usize = TEST_CELLS + SETS;
 
 const ALL_WRITE: usize = HINTS + USERS + ANSWERS;
 
-// What is kept of the bindings of a tiny file. What `firsts` holds does not matter, before or after; the index gets where its transitions
-// lie.
+// What is kept of the bindings of a file, in the tiny frame. What `firsts` holds does not matter, before or after; the index gets where
+// its transitions lie.
 pub(crate) fn tiny_bindings(
     file: &[u8],
     index: &mut Index,
@@ -62,7 +62,7 @@ pub(crate) fn tiny_bindings(
     firsts: &mut Rows,
     flags: &mut [u8],
 ) -> Shrunken
-    ensures { λ r. ⌜ JudgesUpTo tinyFile (now (file .entry)) (now (index .entry)) (now (counts .entry)) (now (ends .entry)) (now (flags .entry)) (now (flags .exit)) (r .accepted) (r .kept) (r .total) (r .rounds) ⌝ }
+    ensures { λ r. ⌜ JudgesWithin tinyNodes tinyTypes tinyBindings (now (file .entry)) (now (index .entry)) (now (counts .entry)) (now (ends .entry)) (now (flags .entry)) (now (flags .exit)) (r .accepted) (r .kept) (r .total) (r .rounds) ⌝ }
 {
     let mut t = [0u16; TINY_TABLE];
     let mut r = [0u32; TINY_READ];
@@ -81,7 +81,7 @@ pub(crate) fn tiny_bindings(
     )
 }
 
-// What is kept of the bindings of a small file.
+// What is kept of the bindings of a file, in the small frame.
 pub(crate) fn small_bindings(
     file: &[u8],
     index: &mut Index,
@@ -90,7 +90,7 @@ pub(crate) fn small_bindings(
     firsts: &mut Rows,
     flags: &mut [u8],
 ) -> Shrunken
-    ensures { λ r. ⌜ JudgesUpTo smallFile (now (file .entry)) (now (index .entry)) (now (counts .entry)) (now (ends .entry)) (now (flags .entry)) (now (flags .exit)) (r .accepted) (r .kept) (r .total) (r .rounds) ⌝ }
+    ensures { λ r. ⌜ JudgesWithin smallNodes smallTypes smallBindings (now (file .entry)) (now (index .entry)) (now (counts .entry)) (now (ends .entry)) (now (flags .entry)) (now (flags .exit)) (r .accepted) (r .kept) (r .total) (r .rounds) ⌝ }
 {
     let mut t = [0u16; SMALL_TABLE];
     let mut r = [0u32; SMALL_READ];
@@ -109,7 +109,35 @@ pub(crate) fn small_bindings(
     )
 }
 
-// What is kept of the bindings of a file of middle length.
+// What is kept of the bindings of a file, in the plain frame.
+pub(crate) fn plain_bindings(
+    file: &[u8],
+    index: &mut Index,
+    counts: &Counts,
+    ends: &[u16],
+    firsts: &mut Rows,
+    flags: &mut [u8],
+) -> Shrunken
+    ensures { λ r. ⌜ JudgesWithin plainNodes plainTypes plainBindings (now (file .entry)) (now (index .entry)) (now (counts .entry)) (now (ends .entry)) (now (flags .entry)) (now (flags .exit)) (r .accepted) (r .kept) (r .total) (r .rounds) ⌝ }
+{
+    let mut t = [0u16; PLAIN_TABLE];
+    let mut r = [0u32; PLAIN_READ];
+    let mut w = [0u32; PLAIN_WRITE];
+    judge_bindings(
+        file,
+        index,
+        counts,
+        ends,
+        firsts,
+        &mut t,
+        &mut r,
+        &mut w,
+        NO_HINTS,
+        flags,
+    )
+}
+
+// What is kept of the bindings of a file, in the middle frame.
 pub(crate) fn middle_bindings(
     file: &[u8],
     index: &mut Index,
@@ -118,7 +146,7 @@ pub(crate) fn middle_bindings(
     firsts: &mut Rows,
     flags: &mut [u8],
 ) -> Shrunken
-    ensures { λ r. ⌜ JudgesUpTo middleFile (now (file .entry)) (now (index .entry)) (now (counts .entry)) (now (ends .entry)) (now (flags .entry)) (now (flags .exit)) (r .accepted) (r .kept) (r .total) (r .rounds) ⌝ }
+    ensures { λ r. ⌜ JudgesWithin middleNodes middleTypes middleBindings (now (file .entry)) (now (index .entry)) (now (counts .entry)) (now (ends .entry)) (now (flags .entry)) (now (flags .exit)) (r .accepted) (r .kept) (r .total) (r .rounds) ⌝ }
 {
     let mut t = [0u16; MIDDLE_TABLE];
     let mut r = [0u32; MIDDLE_READ];
@@ -132,40 +160,12 @@ pub(crate) fn middle_bindings(
         &mut t,
         &mut r,
         &mut w,
-        NO_HINTS,
+        HINTS,
         flags,
     )
 }
 
-// What is kept of the bindings of a longer file.
-pub(crate) fn long_bindings(
-    file: &[u8],
-    index: &mut Index,
-    counts: &Counts,
-    ends: &[u16],
-    firsts: &mut Rows,
-    flags: &mut [u8],
-) -> Shrunken
-    ensures { λ r. ⌜ JudgesUpTo longFile (now (file .entry)) (now (index .entry)) (now (counts .entry)) (now (ends .entry)) (now (flags .entry)) (now (flags .exit)) (r .accepted) (r .kept) (r .total) (r .rounds) ⌝ }
-{
-    let mut t = [0u16; LONG_TABLE];
-    let mut r = [0u32; LONG_READ];
-    let mut w = [0u32; LONG_WRITE];
-    judge_bindings(
-        file,
-        index,
-        counts,
-        ends,
-        firsts,
-        &mut t,
-        &mut r,
-        &mut w,
-        NO_HINTS,
-        flags,
-    )
-}
-
-// What is kept of the bindings of a file of any length.
+// What is kept of the bindings of a file, in the frame with room for every file.
 pub(crate) fn all_bindings(
     file: &[u8],
     index: &mut Index,
@@ -174,7 +174,7 @@ pub(crate) fn all_bindings(
     firsts: &mut Rows,
     flags: &mut [u8],
 ) -> Shrunken
-    ensures { λ r. ⌜ JudgesUpTo maxFile (now (file .entry)) (now (index .entry)) (now (counts .entry)) (now (ends .entry)) (now (flags .entry)) (now (flags .exit)) (r .accepted) (r .kept) (r .total) (r .rounds) ⌝ }
+    ensures { λ r. ⌜ JudgesWithin endsSize maxTypes maxBindings (now (file .entry)) (now (index .entry)) (now (counts .entry)) (now (ends .entry)) (now (flags .entry)) (now (flags .exit)) (r .accepted) (r .kept) (r .total) (r .rounds) ⌝ }
 {
     let mut t = [0u16; TABLE];
     let mut r = [0u32; ALL_READ];

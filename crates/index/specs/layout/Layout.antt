@@ -45,15 +45,12 @@ maxType = 34
 abbrev pub maxTerm : ℕ
 maxTerm = 4096
 
--- the bytes of a node of a body; the least bytes of a record of a type, and of one of a binding
+-- the bytes of a node of a body; the least bytes of a record of a type
 abbrev pub nodeBytes : ℕ
 nodeBytes = 4
 
 abbrev pub typeBytes : ℕ
 typeBytes = 5
-
-abbrev pub bindingBytes : ℕ
-bindingBytes = 8
 
 -- the index: where the entries of each kind begin, and what stands behind them
 abbrev pub sortsAt : ℕ
@@ -267,7 +264,7 @@ abbrev pub testCells : ℕ
 testCells = 16
 
 abbrev pub hintCells : ℕ
-hintCells = 16384
+hintCells = 8192
 
 abbrev pub wordsLimit : ℕ
 wordsLimit = 64
@@ -278,6 +275,43 @@ noTargets = 65536
 -- the words of a set of bindings
 abbrev pub maxBindingWords : ℕ
 maxBindingWords = 32
+
+-- the frames of binding cases: how many nodes, types and bindings each has room for
+abbrev pub tinyNodes : ℕ
+tinyNodes = 96
+
+abbrev pub tinyTypes : ℕ
+tinyTypes = 32
+
+abbrev pub tinyBindings : ℕ
+tinyBindings = 32
+
+abbrev pub smallNodes : ℕ
+smallNodes = 512
+
+abbrev pub smallTypes : ℕ
+smallTypes = 64
+
+abbrev pub smallBindings : ℕ
+smallBindings = 96
+
+abbrev pub plainNodes : ℕ
+plainNodes = 2048
+
+abbrev pub plainTypes : ℕ
+plainTypes = 64
+
+abbrev pub plainBindings : ℕ
+plainBindings = 320
+
+abbrev pub middleNodes : ℕ
+middleNodes = 2048
+
+abbrev pub middleTypes : ℕ
+middleTypes = 320
+
+abbrev pub middleBindings : ℕ
+middleBindings = 320
 
 -- the lengths of files that have tables of their own
 abbrev pub tinyFile : ℕ

@@ -1,6 +1,5 @@
 -- `judge_binding_case` meets its contract.
-use Rattle.index.specs.layout.Layout.{tinyFile, smallFile, middleFile, longFile}
-use Rattle.plan_check.proofs.Lending.{case-judged, no-bindings-judged}
+use Rattle.plan_check.proofs.Lending.{case-judged, all-judged, no-bindings-judged}
 use borrow.Author.Needs.{needs}
 use Rattle.plan_check.proofs.judge_binding_case.Statement.{statement}
 use Rattle.plan_check.proofs.judge_binding_case.Tie as tie
@@ -10,6 +9,9 @@ place-at-requires c κs = search needs
 
 returns : tie.Need-returns
 returns c = no-bindings-judged (c .before .place-at .ensures .value) (c .if1 .taken)
+
+place-at-requires-2 : tie.Need-place-at-requires-2
+place-at-requires-2 c κs = search needs
 
 tiny-bindings-requires : tie.Need-tiny-bindings-requires
 tiny-bindings-requires c κs = search needs
@@ -21,7 +23,10 @@ same-length : tie.Need-same-length
 same-length c = search needs
 
 returns-2 : tie.Need-returns-2
-returns-2 c = case-judged tinyFile (c .before .before .before .before .before .before .before .if2 .taken) (c .before .before .before .tiny-bindings .ensures) (c .of-bindings .ensures)
+returns-2 c =
+    let tested = c .before .before .before .before .before .before .before in
+    let read = tested .before .before .before in
+    case-judged (tested .before .before .if2 .taken) (tested .before .if3 .taken) (tested .if4 .taken) (read .place-at2 .ensures .value) (read .before .before .before .place-at .ensures .value) (c .before .before .before .tiny-bindings .ensures) (c .of-bindings .ensures)
 
 small-bindings-requires : tie.Need-small-bindings-requires
 small-bindings-requires c κs = search needs
@@ -33,10 +38,13 @@ same-length-2 : tie.Need-same-length-2
 same-length-2 c = search needs
 
 returns-3 : tie.Need-returns-3
-returns-3 c = case-judged smallFile (c .before .before .before .before .before .before .before .if3 .taken) (c .before .before .before .small-bindings .ensures) (c .of-bindings2 .ensures)
+returns-3 c =
+    let tested = c .before .before .before .before .before .before .before in
+    let read = tested .before .before .before .before in
+    case-judged (tested .before .before .if5 .taken) (tested .before .if6 .taken) (tested .if7 .taken) (read .place-at2 .ensures .value) (read .before .before .before .place-at .ensures .value) (c .before .before .before .small-bindings .ensures) (c .of-bindings2 .ensures)
 
-middle-bindings-requires : tie.Need-middle-bindings-requires
-middle-bindings-requires c κs = search needs
+plain-bindings-requires : tie.Need-plain-bindings-requires
+plain-bindings-requires c κs = search needs
 
 of-bindings-requires-3 : tie.Need-of-bindings-requires-3
 of-bindings-requires-3 c κs = search needs
@@ -45,10 +53,13 @@ same-length-3 : tie.Need-same-length-3
 same-length-3 c = search needs
 
 returns-4 : tie.Need-returns-4
-returns-4 c = case-judged middleFile (c .before .before .before .before .before .before .before .if4 .taken) (c .before .before .before .middle-bindings .ensures) (c .of-bindings3 .ensures)
+returns-4 c =
+    let tested = c .before .before .before .before .before .before .before in
+    let read = tested .before .before .before .before .before in
+    case-judged (tested .before .before .if8 .taken) (tested .before .if9 .taken) (tested .if10 .taken) (read .place-at2 .ensures .value) (read .before .before .before .place-at .ensures .value) (c .before .before .before .plain-bindings .ensures) (c .of-bindings3 .ensures)
 
-long-bindings-requires : tie.Need-long-bindings-requires
-long-bindings-requires c κs = search needs
+middle-bindings-requires : tie.Need-middle-bindings-requires
+middle-bindings-requires c κs = search needs
 
 of-bindings-requires-4 : tie.Need-of-bindings-requires-4
 of-bindings-requires-4 c κs = search needs
@@ -57,7 +68,10 @@ same-length-4 : tie.Need-same-length-4
 same-length-4 c = search needs
 
 returns-5 : tie.Need-returns-5
-returns-5 c = case-judged longFile (c .before .before .before .before .before .before .before .if5 .taken) (c .before .before .before .long-bindings .ensures) (c .of-bindings4 .ensures)
+returns-5 c =
+    let tested = c .before .before .before .before .before .before .before in
+    let read = tested .before .before .before .before .before .before in
+    case-judged (tested .before .before .if11 .taken) (tested .before .if12 .taken) (tested .if13 .taken) (read .place-at2 .ensures .value) (read .before .before .before .place-at .ensures .value) (c .before .before .before .middle-bindings .ensures) (c .of-bindings4 .ensures)
 
 all-bindings-requires : tie.Need-all-bindings-requires
 all-bindings-requires c κs = search needs
@@ -69,7 +83,7 @@ same-length-5 : tie.Need-same-length-5
 same-length-5 c = search needs
 
 returns-6 : tie.Need-returns-6
-returns-6 c = search needs
+returns-6 c = all-judged (c .before .before .before .all-bindings .ensures) (c .of-bindings5 .ensures)
 
 pub judge-binding-case-spec : {M : Type 1} → statement M
 judge-binding-case-spec =
@@ -77,6 +91,7 @@ judge-binding-case-spec =
     (tie.spec
     place-at-requires
     returns
+    place-at-requires-2
     tiny-bindings-requires
     of-bindings-requires
     same-length
@@ -85,11 +100,11 @@ judge-binding-case-spec =
     of-bindings-requires-2
     same-length-2
     returns-3
-    middle-bindings-requires
+    plain-bindings-requires
     of-bindings-requires-3
     same-length-3
     returns-4
-    long-bindings-requires
+    middle-bindings-requires
     of-bindings-requires-4
     same-length-4
     returns-5

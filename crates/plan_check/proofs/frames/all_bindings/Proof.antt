@@ -3,8 +3,8 @@ use Prim.Native.Nat.{ℕ}
 use native.Mathlib.Omega.{arith}
 use mathlib.Core.Path.{_≡_}
 use lib.ListN.{length}
-use Rattle.index.specs.layout.Layout.{maxFile, maxNodes, maxTypes, maxBindings, hintCells, indexSize, rowsSize}
-use Rattle.plan_check.proofs.Lending.{zeros, readOf, writeOf, most-in-all, frame-judges}
+use Rattle.index.specs.layout.Layout.{maxTypes, maxBindings, maxNodes, maxGoals, hintCells, indexSize, rowsSize}
+use Rattle.plan_check.proofs.Lending.{zeros, readOf, writeOf, frame-judges}
 use borrow.Author.Needs.{needs}
 use Rattle.plan_check.proofs.frames.all_bindings.Statement.{statement}
 use Rattle.plan_check.proofs.frames.all_bindings.Tie as tie
@@ -29,8 +29,7 @@ returns c =
     let a = c .before .before .before .before .before .before .before .before .before .before .before .before .before .before .before .before .args in
     let i : _≡_ {A = ℕ} indexSize (length (a .index .now)) = search needs in
     let f : _≡_ {A = ℕ} rowsSize (length (a .firsts .now)) = search needs in
-    frame-judges maxFile _ _ _ most-in-all (omega arith) (omega arith) (c .before .before .before .before .before .judge-bindings .ensures)
-    (record { table-long = omega arith; read-long = omega arith; write-long = omega arith; few-hints = omega arith; no-numbers = zeros (readOf maxTypes maxBindings); no-answers = zeros (writeOf hintCells maxBindings maxNodes maxTypes) })
+    frame-judges {rows = maxGoals} (omega arith) (zeros (readOf maxTypes maxBindings)) (zeros (writeOf hintCells maxBindings maxNodes maxTypes)) (c .before .before .before .before .before .judge-bindings .ensures)
 
 pub all-bindings-spec : {M : Type 1} → statement M
 all-bindings-spec =
