@@ -303,6 +303,15 @@ pub const HINT_STRIDE: usize = 61;
 // A nonterminal of no more bindings is gone through without a hint.
 pub const FEW: usize = 8;
 
+// The frames of a binding case, the smallest first; behind these the one that has room for every file.
+pub const TINY_FRAME: usize = 0;
+
+pub const SMALL_FRAME: usize = TINY_FRAME + 1;
+
+pub const PLAIN_FRAME: usize = SMALL_FRAME + 1;
+
+pub const MIDDLE_FRAME: usize = PLAIN_FRAME + 1;
+
 // The smaller frames have no hints.
 pub const NO_HINTS: usize = 0;
 

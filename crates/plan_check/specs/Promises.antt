@@ -1,7 +1,7 @@
 -- What our own functions promise each other; nothing here has to be believed.
 use Prim.Native.Nat.{ℕ, _≤_}
 use mathlib.Core.Path.{_≡_}
-use mathlib.Core.Bool.{Bool}
+use mathlib.Core.Bool.{Bool, true, false}
 use mathlib.Core.List.{List}
 use mathlib.Core.Option.{none}
 use lib.ListN.{length}
@@ -12,7 +12,7 @@ use Rattle.casefile.specs.Tables.{planOf, automatonOf, bindingsOf}
 use Rattle.casefile.specs.Refusals.{refuseWhole}
 use Rattle.casefile.specs.Promises.{Passed}
 use Rattle.casefile.specs.BindingCases.{shrunk}
-use Rattle.index.specs.layout.Layout.{maxFile}
+use Rattle.index.specs.layout.Layout.{maxFile, tinyFrame, tinyNodes, tinyTypes, tinyBindings, smallFrame, smallNodes, smallTypes, smallBindings, plainFrame, plainNodes, plainTypes, plainBindings, middleFrame, middleNodes, middleTypes, middleBindings}
 use Rattle.index.specs.entries.Known.{Known}
 use Rattle.rules.specs.reading.RuleBodies.{nodesIn}
 use Rattle.intake.specs.plan.PlanTests.{EndsAre}
@@ -42,6 +42,14 @@ Judges file index counts ends lent marks accepted kept total rounds =
 pub record JudgesWithin (nodes types bindings : ℕ) (file index counts ends lent marks : List ℕ) (accepted : Bool) (kept total rounds : ℕ) : Type 0 where
   pub judged : nodesIn (payloads Kind.rule (listed (recordsOf file))) ≤ nodes → count Kind.type (listed (recordsOf file)) ≤ types → count Kind.binding (listed (recordsOf file)) ≤ bindings
       → Judges file index counts ends lent marks accepted kept total rounds
+
+-- r says whether a frame has room for so many nodes, types and bindings; the last one has room for every file
+pub record HasRoom (frame nodes types bindings : ℕ) (r : Bool) : Type 0 where
+  pub tiny : r ≡ true → frame ≡ tinyFrame → (nodes ≤ tinyNodes) × (types ≤ tinyTypes) × (bindings ≤ tinyBindings)
+  pub small : r ≡ true → frame ≡ smallFrame → (nodes ≤ smallNodes) × (types ≤ smallTypes) × (bindings ≤ smallBindings)
+  pub plain : r ≡ true → frame ≡ plainFrame → (nodes ≤ plainNodes) × (types ≤ plainTypes) × (bindings ≤ plainBindings)
+  pub middle : r ≡ true → frame ≡ middleFrame → (nodes ≤ middleNodes) × (types ≤ middleTypes) × (bindings ≤ middleBindings)
+  pub last : r ≡ false → frame ≤ middleFrame
 
 -- v is the verdict on the bindings of a file, by its tables, and the lent flags became `marks`
 pub record JudgesBindingCase (file index counts ends lent marks : List ℕ) (v : Verdict) : Type 0 where

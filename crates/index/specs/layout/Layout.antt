@@ -325,3 +325,16 @@ middleFile = 2048
 
 abbrev pub longFile : ℕ
 longFile = 4096
+
+-- the frames of a binding case
+abbrev pub tinyFrame : ℕ
+tinyFrame = 0
+
+abbrev pub smallFrame : ℕ
+smallFrame = 1
+
+abbrev pub plainFrame : ℕ
+plainFrame = 2
+
+abbrev pub middleFrame : ℕ
+middleFrame = 3

@@ -51,8 +51,8 @@ module _ (x : Case) (memo users : List ℕ) (at asked : ℕ) where
     left-end z memo″ learns =
         record {
           keeps =
-            keeps-learn (s .finds .keeps) at 0 had had closed ec memo″ learns
-            (record { yes = λ w r h e k b. s .finds .found w r h (state-bit h e had b); no = λ w r h e k b. absurd (omega arith) });
+              keeps-learn (s .finds .keeps) at 0 had had closed ec memo″ learns
+              (record { yes = λ w r h e k b. s .finds .found w r h (state-bit h e had b); no = λ w r h e k b. absurd (omega arith) });
           yes = λ y w r q b. go w r q (s .all q b);
           no = λ y. absurd (true≢false y);
         }
@@ -83,11 +83,11 @@ module _ (x : Case) (memo users : List ℕ) (at asked : ℕ) where
       left-fails e known puts memo‴ learns =
           record {
             keeps =
-              keeps-learn (keeps-on (s .finds .keeps) (told .keeps)) at 0 known had closed ec memo‴ learns
-              (record {
-                yes = λ w r h f k o. yes-more x w users′ users″ (told .keeps .grows) at h (s .finds .found w r h (state-bit h f had o));
-                no = λ w r h f k o. lacks w r h f o (puts .only (is .within nz) (h % wordBits) k);
-              });
+                keeps-learn (keeps-on (s .finds .keeps) (told .keeps)) at 0 known had closed ec memo‴ learns
+                (record {
+                  yes = λ w r h f k o. yes-more x w users′ users″ (told .keeps .grows) at h (s .finds .found w r h (state-bit h f had o));
+                  no = λ w r h f k o. lacks w r h f o (puts .only (is .within nz) (h % wordBits) k);
+                });
             yes = λ y. absurd (true≢false (sym y));
             no = λ y w r. (q, s .within q (is .has nz), told .no e w (ready-on (s .finds .keeps) r));
           }
