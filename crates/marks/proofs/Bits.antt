@@ -6,7 +6,7 @@ use native.Mathlib.Decide.{decLt, ℕ-discrete}
 use native.Mathlib.Nat.{pow-succ', div-one, zero-div, div-eq-of-lt, div-div-eq-div-mul}
 use mathlib.Core.Path.{_≡_, refl, sym, ap, _∙_}
 use mathlib.Core.Logic.{_⊎_, inl, inr}
-use lib.Bits.{bitAnd, bitOr, and-step, or-step, and-le-l}
+use lib.Bits.{bitAnd, bitOr, and-step, or-step, and-le-l, and-le-r, or-add-and}
 use lib.Count.{trailingZeros, under}
 use lib.Pow.{pow-mono, shl-exact, shr-shr}
 use Rattle.marks.specs.Marks.{bitOf}
@@ -74,6 +74,10 @@ or-bit (suc k) a b =
     let y = bit-next k b in
     let r = or-bit k (a / 2) (b / 2) in
     bit-next k (bitOr a b) ∙ ap (bitOf k) half ∙ omega arith
+
+-- what two words have together is nothing: neither has anything
+pub or-none : (a b : ℕ) → bitOr a b ≡ 0 → (a ≡ 0) × (b ≡ 0)
+or-none a b e = let s = or-add-and a b in let l = and-le-l a b in let r = and-le-r a b in (omega arith, omega arith)
 
 -- the difference, in halves and remainders
 minus-step : (a b : ℕ) → a - bitAnd a b ≡ (a / 2 - bitAnd (a / 2) (b / 2)) * 2 + (a % 2 - b % 2)

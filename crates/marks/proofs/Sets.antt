@@ -14,7 +14,7 @@ use lib.ListN.{length, getD, set, length-set, List·getD-eq-default}
 use lib.Pow.{shr-lt}
 use lib.Seq.{getD-set-same, getD-set-other}
 use Rattle.marks.specs.Marks.{bitOf, In, Decides, Puts, TakesOut, FindsNext}
-use Rattle.marks.proofs.Bits.{bit-small, zero-bit, shift-bit, or-bit, minus-bit, power-same, power-other, shifted, shifted-is, zeros-below, zeros-end, zeros-few}
+use Rattle.marks.proofs.Bits.{bit-small, zero-bit, shift-bit, or-bit, or-none, minus-bit, power-same, power-other, shifted, shifted-is, zeros-below, zeros-end, zeros-few}
 
 -- 1 shifted to the left has one bit
 pub shifted-same : (k : ℕ) → k < 32 → bitOf k (shifted k) ≡ 1
@@ -197,6 +197,42 @@ module _ {words : List ℕ} {at from n : ℕ} (p : Passed words at from n) (word
 
     pub finds-here : (end : ℕ) → n + trailingZeros 32 (word / 2 ^ (n % 32)) ≤ end → FindsNext words at from end (n + trailingZeros 32 (word / 2 ^ (n % 32)))
     finds-here end h = record { within = h; passed = passed-zeros .none; found = λ l. (passed-zeros .on, next-in) }
+
+-- where what k words have together is nothing, no bit is in them; one word more
+pub record Quiets (words : List ℕ) (i all k : ℕ) : Type 0 where
+  pub none : all ≡ 0 → (j : ℕ) → j < k → getD words (i + j) 0 ≡ 0
+
+pub quiet-more : {words : List ℕ} {i all k : ℕ} → Quiets words i all k → Quiets words i (bitOr all (getD words (i + k) 0)) (k + 1)
+quiet-more {words} {i} {all} {k} q = record { none = λ e j h. let both = or-none all (getD words (i + k) 0) e in go (both .0) (both .1) j h (ℕ-discrete j k) }
+  where
+    go : all ≡ 0 → getD words (i + k) 0 ≡ 0 → (j : ℕ) → j < k + 1 → Dec (j ≡ k) → getD words (i + j) 0 ≡ 0
+    go a w j h (yes s) = ap (λ x. getD words (i + x) 0) s ∙ w
+    go a w j h (no d) = q .none a j (omega arith)
+
+-- the numbers of those words are passed where n is the first of them
+pub passed-quiet : {words : List ℕ} {at from n : ℕ} → Passed words at from n → n % 32 ≡ 0 → ((k : ℕ) → k < 8 → getD words (at + n / 32 + k) 0 ≡ 0) → Passed words at from (n + 256)
+passed-quiet {words} {at} {from} {n} p first q = record { on = omega (arith, p .on); none = none }
+  where
+    none : (m : ℕ) → from ≤ m → m < n + 256 → In words at m → ⊥
+    none m h l i = go (decLt m n)
+      where
+        go : Dec (m < n) → ⊥
+        go (yes b) = p .none m h b i
+        go (no b) =
+            let is : at + n / 32 + (m / 32 - n / 32) ≡ at + m / 32 = omega arith in
+            let z = q (m / 32 - n / 32) (omega arith) in
+            let o = ap (λ x. bitOf (m % 32) (getD words x 0)) is in
+            let w = ap (bitOf (m % 32)) z ∙ zero-bit (m % 32) in
+            omega arith
+
+-- past the end of all words there is no number
+pub finds-past : {words : List ℕ} {at from : ℕ} → length words ≤ at → (end : ℕ) → FindsNext words at from end end
+finds-past {words} {at} h end =
+    record {
+      within = omega arith;
+      passed = λ m f l i. let z = zero-bit (m % 32) in let o = ap (bitOf (m % 32)) (List·getD-eq-default words 0 {n = at + m / 32} (omega arith)) in omega arith;
+      found = λ l. absurd (omega arith);
+    }
 
 -- all numbers below the end are passed
 pub finds-end : {words : List ℕ} {at from n : ℕ} → Passed words at from n → (end : ℕ) → end ≤ n → FindsNext words at from end end

@@ -35,6 +35,13 @@ pub record TakesOut (words : List ℕ) (at n : ℕ) (after : List ℕ) : Type 0 
   pub fewer : (i k : ℕ) → k < wordBits → bitOf k (getD after i 0) ≡ 1 → bitOf k (getD words i 0) ≡ 1
   pub stays : (i k : ℕ) → k < wordBits → bitOf k (getD words i 0) ≡ 1 → (bitOf k (getD after i 0) ≡ 1) ⊎ ((i ≡ at + n / wordBits) × (k ≡ n % wordBits))
 
+-- where r is true, no bit is in the words that a search passes at once, from one on
+abbrev pub quietWords : ℕ
+quietWords = 8
+
+abbrev pub Quiet : List ℕ → ℕ → Bool → Type 0
+Quiet words i r = r ≡ true → (k : ℕ) → k < quietWords → getD words (i + k) 0 ≡ 0
+
 -- r is the least number of the set at a place from one on and below an end, or the end
 pub record FindsNext (words : List ℕ) (at from end r : ℕ) : Type 0 where
   pub within : r ≤ end

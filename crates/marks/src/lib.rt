@@ -3,7 +3,12 @@ use index::layout::WORD;
 ghost use mathlib.Core.Path.{_≡_};
 ghost use Prim.Native.Nat.{_+_};
 ghost use lib.ListN.{getD};
-ghost use Rattle.marks.specs.Marks.{Decides, Puts, TakesOut, FindsNext};
+ghost use Rattle.marks.specs.Marks.{Decides, Puts, TakesOut, Quiet, FindsNext};
+
+// The words that a search passes at once, and the numbers in them.
+const QUIET_WORDS: usize = 8;
+
+const QUIET_BITS: usize = QUIET_WORDS * WORD;
 
 // The word that many words behind a place; 0 past the end.
 pub fn word_in(words: &[u32], at: usize, i: usize) -> u32
@@ -55,10 +60,32 @@ pub fn take_out(words: &mut [u32], at: usize, n: usize)
     words[i] = words[i] - (words[i] & bit);
 }
 
+// Whether QUIET_WORDS words are there from one on, and no bit is in them.
+fn quiet(words: &[u32], i: usize) -> bool
+    ensures { λ r. ⌜ Quiet (now (words .entry)) i r ⌝ }
+{
+    if words.len() < QUIET_WORDS {
+        return false;
+    }
+    if words.len() - QUIET_WORDS < i {
+        return false;
+    }
+    let mut all: u32 = 0;
+    let mut k: usize = 0;
+    while k < QUIET_WORDS {
+        all = all | words[i + k];
+        k = k + 1;
+    }
+    all == 0
+}
+
 // The least number of the set at a place, from one on and below an end; the end where there is none.
 pub fn next_in(words: &[u32], at: usize, from: usize, end: usize) -> usize
     ensures { λ r. ⌜ FindsNext (now (words .entry)) at from end r ⌝ }
 {
+    if words.len() <= at {
+        return end;
+    }
     let mut n = from;
     while n < end {
         let word = word_in(words, at, n / WORD);
@@ -75,6 +102,12 @@ pub fn next_in(words: &[u32], at: usize, from: usize, end: usize) -> usize
             return end;
         }
         n = n + skip;
+        if quiet(words, at + n / WORD) {
+            if end - n <= QUIET_BITS {
+                return end;
+            }
+            n = n + QUIET_BITS;
+        }
     }
     end
 }

@@ -45,7 +45,7 @@ fn present_in(index: &[u16], constructors: usize, c: usize) -> usize
     states as usize
 }
 
-// Enters the targets of a constructor at each state, where it is present at one.
+// Enters the targets of a constructor at each state that has a transition, where it is present at one.
 fn fill_targets(file: &[u8], index: &[u16], c: usize, present: usize, t: &mut [u16])
     requires { ⌜ c < maxConstructors ⌝ }
     ensures { λ _. ⌜ FillsTargets (now (file .entry)) (now (index .entry)) c present (now (t .entry)) (now (t .exit)) ⌝ }
@@ -55,8 +55,11 @@ fn fill_targets(file: &[u8], index: &[u16], c: usize, present: usize, t: &mut [u
     }
     let mut q: usize = 0;
     while q < MAX_STATES {
-        let targets = packed(file, place_in(index, q, c));
-        store(t, TARGETS_AT + c * MAX_STATES + q, targets);
+        let place = place_in(index, q, c);
+        if place != 0 {
+            let targets = packed(file, place);
+            store(t, TARGETS_AT + c * MAX_STATES + q, targets);
+        }
         q = q + 1;
     }
 }

@@ -1,7 +1,6 @@
 // The rows of states, types and bindings.
 use crate::bits::with_bit;
 use crate::reading::end_of;
-use crate::reading::member_of;
 use crate::reading::row_at;
 use index::enter::store;
 use index::entries::place_at;
@@ -30,7 +29,7 @@ use records::fields::word_at;
 ghost use mathlib.Core.Path.{_≡_};
 ghost use Prim.Native.Nat.{_<_, _≤_};
 ghost use Rattle.index.specs.layout.Layout.{maxTypes, maxMembers};
-ghost use Rattle.tables.specs.types.Rows.{goalOf, FillsStates, CountsMembers, FillsMembers, StatesAmong, ArrowsAmong, FillsArrow, FillsType, FillsTypes, FillsBindings};
+ghost use Rattle.tables.specs.types.Rows.{goalOf, FillsStates, CountsMembers, AddsMember, FillsMembers, FillsArrow, FillsType, FillsTypes, FillsBindings};
 
 // The goal that type m is.
 fn goal_of(t: &[u16], m: usize) -> usize
@@ -67,49 +66,47 @@ fn members_in(len: usize) -> usize
     (len - 2) / 2
 }
 
-// Enters the members of type m, an arrow whose payload begins at a place.
-fn fill_members(file: &[u8], start: usize, many: usize, m: usize, t: &mut [u16])
+// What there is among members: the states as bits, and how many arrows.
+struct Among {
+    states: u32,
+    arrows: usize,
+}
+
+// What there is among members, and one more.
+fn with_member(among: Among, member: usize) -> Among
+    requires { ⌜ among .arrows < maxMembers ⌝ }
+    ensures { λ r. ⌜ AddsMember (among .states) (among .arrows) member (r .states) (r .arrows) ⌝ }
+{
+    if member < MAX_STATES {
+        return Among {
+            states: with_bit(among.states, member),
+            arrows: among.arrows,
+        };
+    }
+    Among {
+        states: among.states,
+        arrows: among.arrows + 1,
+    }
+}
+
+// Enters the members of type m, an arrow whose payload begins at a place, and returns what there is among them.
+fn fill_members(file: &[u8], start: usize, many: usize, m: usize, t: &mut [u16]) -> Among
     requires { ⌜ (start < 65536) × (many ≤ maxMembers) × (m < maxTypes) ⌝ }
-    ensures { λ _. ⌜ FillsMembers (now (file .entry)) start many m (now (t .entry)) (now (t .exit)) ⌝ }
+    ensures { λ r. ⌜ FillsMembers (now (file .entry)) start many m (now (t .entry)) (now (t .exit)) (r .states) (r .arrows) ⌝ }
 {
     let row = row_at(MAX_STATES + m);
+    let mut among = Among {
+        states: 0,
+        arrows: 0,
+    };
     let mut j: usize = 0;
     while j < many {
         let goal = goal_of(t, word_at(file, start + 2 + 2 * j));
         store(t, row + (MEMBERS + j), goal);
+        among = with_member(among, goal);
         j = j + 1;
     }
-}
-
-// The states among the first members of a goal, as bits.
-fn states_among(t: &[u16], goal: usize, many: usize) -> usize
-    ensures { λ r. ⌜ StatesAmong (now (t .entry)) goal many r ⌝ }
-{
-    let mut states: u32 = 0;
-    let mut j: usize = 0;
-    while j < many {
-        let member = member_of(t, goal, j);
-        if member < MAX_STATES {
-            states = with_bit(states, member);
-        }
-        j = j + 1;
-    }
-    states as usize
-}
-
-// How many of the first members of a goal are arrows.
-fn arrows_among(t: &[u16], goal: usize, many: usize) -> usize
-    ensures { λ r. ⌜ ArrowsAmong (now (t .entry)) goal many r ⌝ }
-{
-    let mut arrows: usize = 0;
-    let mut j: usize = 0;
-    while j < many {
-        if MAX_STATES <= member_of(t, goal, j) {
-            arrows = arrows + 1;
-        }
-        j = j + 1;
-    }
-    arrows
+    among
 }
 
 // Enters the row of type m, an arrow whose payload begins at a place and has a length.
@@ -124,11 +121,9 @@ fn fill_arrow(file: &[u8], start: usize, len: usize, m: usize, t: &mut [u16])
     store(t, row + RESULT, result);
     store(t, row + END, end);
     store(t, row + MANY, many);
-    fill_members(file, start, many, m, t);
-    let states = states_among(t, MAX_STATES + m, many);
-    let arrows = arrows_among(t, MAX_STATES + m, many);
-    store(t, row + MEMBER_STATES, states);
-    store(t, row + ARROWS, arrows);
+    let among = fill_members(file, start, many, m, t);
+    store(t, row + MEMBER_STATES, among.states as usize);
+    store(t, row + ARROWS, among.arrows);
 }
 
 // Enters the row of type m.

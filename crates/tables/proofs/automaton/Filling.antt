@@ -63,34 +63,42 @@ presents-all so h = record { small = so .small; in-set = λ m p l. so .in-set p 
 pub record TargetsTo (file index : List ℕ) (c : ℕ) (before : List ℕ) (q : ℕ) (t : List ℕ) : Type 0 where
   pub upTo : q ≤ maxStates
   pub within : Within (targetsBase + c * maxStates) (targetsBase + c * maxStates + maxStates) before t
-  pub targets : groupsAt ≤ length before → (p : ℕ) → p < q → targetsOf t c p ≡ packedAt file (placeIn index p c)
+  pub targets : groupsAt ≤ length before → (p : ℕ) → p < q → (placeIn index p c ≡ 0 → ⊥) → targetsOf t c p ≡ packedAt file (placeIn index p c)
 
 -- there are none, where no state is present
 pub targets-no : {file index : List ℕ} {c present : ℕ} {before : List ℕ} → present ≡ 0 → FillsTargets file index c present before before
-targets-no e = record { within = within-none; targets = λ room q h x. absurd (let z = zero-bit q in let y = ap (bitOf q) e in omega arith) }
+targets-no e = record { within = within-none; targets = λ room q h x ne. absurd (let z = zero-bit q in let y = ap (bitOf q) e in omega arith) }
 
 pub targets-none : {file index : List ℕ} {c : ℕ} {before : List ℕ} → TargetsTo file index c before 0 before
 targets-none = record { upTo = omega arith; within = within-none; targets = λ room p h. absurd (omega arith) }
 
-module _ {file index : List ℕ} {c : ℕ} {before : List ℕ} {q : ℕ} {t : List ℕ} (so : TargetsTo file index c before q t) (l : c < maxConstructors) where
-  pub targets-more : q < maxStates → (place v : ℕ) → IsPlaceIn index q c place → v ≡ packedAt file place → v < 65536 → (after : List ℕ) → after ≡ stored t (targetsBase + c * maxStates + q) v → TargetsTo file index c before (q + 1) after
-  targets-more h place v is ev small after ea =
-      record { upTo = omega arith; within = within-then (so .within) (within-store put (omega arith) (omega arith)); targets = λ room p k. at room p k (ℕ-discrete p q) }
-    where
-      put : Put t (targetsBase + c * maxStates + q) v after
-      put = record { is = ea }
+module _ {file index : List ℕ} {c : ℕ} {before : List ℕ} {q : ℕ} {t : List ℕ} (so : TargetsTo file index c before q t) where
+  module _ (l : c < maxConstructors) (h : q < maxStates) (place : ℕ) (is : IsPlaceIn index q c place) where
+    pub targets-more : (v : ℕ) → v ≡ packedAt file place → v < 65536 → (after : List ℕ) → after ≡ stored t (targetsBase + c * maxStates + q) v → TargetsTo file index c before (q + 1) after
+    targets-more v ev small after ea =
+        record { upTo = omega arith; within = within-then (so .within) (within-store put (omega arith) (omega arith)); targets = λ room p k ne. at room p k ne (ℕ-discrete p q) }
+      where
+        put : Put t (targetsBase + c * maxStates + q) v after
+        put = record { is = ea }
 
-      at : groupsAt ≤ length before → (p : ℕ) → p < q + 1 → Dec (p ≡ q) → targetsOf after c p ≡ packedAt file (placeIn index p c)
-      at room p k (no z) =
-          let y : (p ≡ q → ⊥) = z in
-          store-other put (targetsBase + c % maxConstructors * maxStates + p % maxStates) (λ e. z (omega arith)) ∙ so .targets room p (omega arith)
-      at room p k (yes z) =
-          let here : targetsBase + c % maxConstructors * maxStates + p % maxStates ≡ targetsBase + c * maxStates + q = omega arith in
-          let lt = so .within .long in
-          ap (λ x. getD after x 0) here ∙ store-here put small (omega arith) ∙ ev ∙ ap (packedAt file) (is .place h l ∙ ap (λ x. placeIn index x c) (sym z))
+        at : groupsAt ≤ length before → (p : ℕ) → p < q + 1 → (placeIn index p c ≡ 0 → ⊥) → Dec (p ≡ q) → targetsOf after c p ≡ packedAt file (placeIn index p c)
+        at room p k ne (no z) =
+            let y : (p ≡ q → ⊥) = z in
+            store-other put (targetsBase + c % maxConstructors * maxStates + p % maxStates) (λ e. z (omega arith)) ∙ so .targets room p (omega arith) ne
+        at room p k ne (yes z) =
+            let here : targetsBase + c % maxConstructors * maxStates + p % maxStates ≡ targetsBase + c * maxStates + q = omega arith in
+            let lt = so .within .long in
+            ap (λ x. getD after x 0) here ∙ store-here put small (omega arith) ∙ ev ∙ ap (packedAt file) (is .place h l ∙ ap (λ x. placeIn index x c) (sym z))
+
+    pub targets-pass : place ≡ 0 → TargetsTo file index c before (q + 1) t
+    targets-pass e = record { upTo = omega arith; within = so .within; targets = λ room p k ne. at room p k ne (ℕ-discrete p q) }
+      where
+        at : groupsAt ≤ length before → (p : ℕ) → p < q + 1 → (placeIn index p c ≡ 0 → ⊥) → Dec (p ≡ q) → targetsOf t c p ≡ packedAt file (placeIn index p c)
+        at room p k ne (yes z) = absurd (ne (ap (λ x. placeIn index x c) z ∙ sym (is .place h l) ∙ e))
+        at room p k ne (no z) = let y : (p ≡ q → ⊥) = z in so .targets room p (omega arith) ne
 
   pub targets-all : {present : ℕ} → maxStates ≤ q → FillsTargets file index c present before t
-  targets-all h = record { within = so .within; targets = λ room p k x. so .targets room p (omega arith) }
+  targets-all h = record { within = so .within; targets = λ room p k x ne. so .targets room p (omega arith) ne }
 
 -- All constructors.
 pub record AutomatonTo (file index : List ℕ) (constructors : ℕ) (before : List ℕ) (c : ℕ) (t : List ℕ) : Type 0 where
@@ -151,7 +159,7 @@ module _ {file index : List ℕ} {constructors : ℕ} {before : List ℕ} {c : �
                 let r = is rs ok ix few in
                 let s = arity-small ok c in
                 ap (λ x. getD e x 0) qq ∙ fills .within .outside (aritiesAt + c) (λ u v. omega arith) ∙ store-here pb (omega arith) (omega arith) ∙ r;
-            targets = λ q l x. fills .targets (omega arith) q l (subst (λ y. bitOf q y ≡ 1) present-is x);
+            targets = λ q l x. let there = subst (λ y. bitOf q y ≡ 1) present-is x in fills .targets (omega arith) q l there (ps .only q there);
           })
 
   pub automaton-all : maxConstructors ≤ c → FillsAutomaton file index constructors before t

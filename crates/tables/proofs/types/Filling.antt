@@ -2,7 +2,7 @@
 -- other cells as they were, so what is so of an earlier row stays so.
 use Prim.Native.Nat.{ℕ, _+_, _-_, _*_, _%_, _<_, _≤_}
 use native.Mathlib.Omega.{arith}
-use native.Mathlib.Decide.{ℕ-discrete}
+use native.Mathlib.Decide.{decLt, ℕ-discrete}
 use mathlib.Core.Path.{_≡_, refl, sym, ap, subst, _∙_}
 use mathlib.Core.Logic.{_⊎_, inl, inr}
 use mathlib.Core.List.{List}
@@ -16,7 +16,7 @@ use Rattle.marks.proofs.Bits.{zero-bit}
 use Rattle.tables.specs.Facts.{StateRow}
 use Rattle.tables.specs.Frames.{Within, Adds}
 use Rattle.tables.specs.reading.Cells.{rowAt, cellOf, endOf, memberOf, symbolOf, ownOf}
-use Rattle.tables.specs.types.Rows.{rowOf, goalOf, memberIn, Room, FillsStates, CountsMembers, FillsMembers, StatesAmong, ArrowsAmong, ArrowSays, Low, FillsArrow, TypeSays, FillsType, FillsTypes, FillsBindings}
+use Rattle.tables.specs.types.Rows.{rowOf, goalOf, memberIn, Room, FillsStates, CountsMembers, FillsMembers, StatesAmong, ArrowsAmong, AddsMember, ArrowSays, Low, FillsArrow, TypeSays, FillsType, FillsTypes, FillsBindings}
 use Rattle.tables.proofs.Frames.{Put, within-none, within-then, within-wider, store-long, store-here, store-other, within-store, row-apart, column-apart, other-row}
 
 -- The states.
@@ -69,113 +69,131 @@ module _ {before : List ℕ} {q : ℕ} {t : List ℕ} (so : StatesTo before q t)
   pub states-all : maxStates ≤ q → FillsStates before t
   states-all h = record { within = so .within; rows = λ l p k. so .rows l p (omega arith) }
 
+-- The states among members, and how many are arrows: none yet, and one member more.
+among-none : {t : List ℕ} {g : ℕ} → StatesAmong t g 0 0
+among-none = record { small = omega arith; in-set = λ j h. absurd (omega arith); only = λ q e. absurd (let z = zero-bit q in omega arith) }
+
+arrows-none : {t : List ℕ} {g : ℕ} → ArrowsAmong t g 0 0
+arrows-none = record { few = omega arith; none = λ e j h. absurd (omega arith) }
+
+module _ {t : List ℕ} {g j r : ℕ} (so : StatesAmong t g j r) (x : ℕ) (ex : memberOf t g j ≡ x) where
+  among-put : x < maxStates → (r′ : ℕ) → Adds r x r′ → StatesAmong t g (j + 1) r′
+  among-put l r′ is = record { small = is .small (so .small) l; in-set = λ i k m. there i k m (ℕ-discrete i j); only = λ q e. whose q (is .only l q e) }
+    where
+      there : (i : ℕ) → i < j + 1 → memberOf t g i < maxStates → Dec (i ≡ j) → bitOf (memberOf t g i) r′ ≡ 1
+      there i k m (yes z) = subst (λ y. bitOf y r′ ≡ 1) (sym ex ∙ ap (memberOf t g) (sym z)) (is .put l)
+      there i k m (no z) = let y : (i ≡ j → ⊥) = z in is .grows l (memberOf t g i) (so .in-set i (omega arith) m)
+
+      whose : (q : ℕ) → (bitOf q r ≡ 1) ⊎ (q ≡ x) → (i : ℕ) × (i < j + 1) × (memberOf t g i ≡ q)
+      whose q (inl e) = let (i, k, f) = so .only q e in (i, omega arith, f)
+      whose q (inr e) = (j, omega arith, ex ∙ sym e)
+
+  among-pass : maxStates ≤ x → StatesAmong t g (j + 1) r
+  among-pass l = record { small = so .small; in-set = λ i k m. there i k m (ℕ-discrete i j); only = λ q e. let (i, k, f) = so .only q e in (i, omega arith, f) }
+    where
+      there : (i : ℕ) → i < j + 1 → memberOf t g i < maxStates → Dec (i ≡ j) → bitOf (memberOf t g i) r ≡ 1
+      there i k m (yes z) = let e : memberOf t g i ≡ x = ap (memberOf t g) z ∙ ex in absurd (omega arith)
+      there i k m (no z) = let y : (i ≡ j → ⊥) = z in so .in-set i (omega arith) m
+
+module _ {t : List ℕ} {g j r : ℕ} (so : ArrowsAmong t g j r) where
+  arrows-one : ArrowsAmong t g (j + 1) (r + 1)
+  arrows-one = record { few = omega (arith, so .few); none = λ e. absurd (omega arith) }
+
+  arrows-pass : memberOf t g j < maxStates → ArrowsAmong t g (j + 1) r
+  arrows-pass l = record { few = omega (arith, so .few); none = λ e i k. small e i k (ℕ-discrete i j) }
+    where
+      small : r ≡ 0 → (i : ℕ) → i < j + 1 → Dec (i ≡ j) → memberOf t g i < maxStates
+      small e i k (yes z) = subst (λ y. y < maxStates) (ap (memberOf t g) (sym z)) l
+      small e i k (no z) = let y : (i ≡ j → ⊥) = z in so .none e i (omega arith)
+
+-- one member more, by what it is
+module _ {t : List ℕ} {g j states arrows x states′ arrows′ : ℕ} (is : AddsMember states arrows x states′ arrows′) (ex : memberOf t g j ≡ x) where
+  add-states : StatesAmong t g j states → StatesAmong t g (j + 1) states′
+  add-states so = by (decLt x maxStates)
+    where
+      by : Dec (x < maxStates) → StatesAmong t g (j + 1) states′
+      by (yes l) = among-put so x ex l states′ (is .state l .0)
+      by (no n) = let l : maxStates ≤ x = omega arith in subst (StatesAmong t g (j + 1)) (sym (is .arrow l .0)) (among-pass so x ex l)
+
+  add-arrows : ArrowsAmong t g j arrows → ArrowsAmong t g (j + 1) arrows′
+  add-arrows so = by (decLt x maxStates)
+    where
+      by : Dec (x < maxStates) → ArrowsAmong t g (j + 1) arrows′
+      by (yes l) = subst (ArrowsAmong t g (j + 1)) (sym (is .state l .1)) (arrows-pass so (omega arith))
+      by (no n) = let l : maxStates ≤ x = omega arith in subst (ArrowsAmong t g (j + 1)) (sym (is .arrow l .1)) (arrows-one so)
+
+-- the same members have the same states and arrows
+module _ {t after : List ℕ} {g many many′ r r′ : ℕ} (same : (j : ℕ) → j < many → memberOf after g j ≡ memberOf t g j) (em : many ≡ many′) (er : r ≡ r′) where
+  states-same : StatesAmong t g many r → StatesAmong after g many′ r′
+  states-same s =
+      let l = s .small in
+      record {
+        small = omega arith;
+        in-set = λ j h k. let is = same j (omega arith) in subst (λ x. bitOf x r′ ≡ 1) (sym is) (subst (λ x. bitOf (memberOf t g j) x ≡ 1) er (s .in-set j (omega arith) (subst (λ x. x < maxStates) is k)));
+        only = λ q e. let (j, h, f) = s .only q (subst (λ x. bitOf q x ≡ 1) (sym er) e) in (j, omega arith, same j h ∙ f);
+      }
+
+  arrows-same : ArrowsAmong t g many r → ArrowsAmong after g many′ r′
+  arrows-same s = let l = s .few in record { few = omega arith; none = λ z j h. subst (λ x. x < maxStates) (sym (same j (omega arith))) (s .none (omega arith) j (omega arith)) }
+
 -- The members of an arrow.
-pub record MembersTo (file : List ℕ) (start many m : ℕ) (before : List ℕ) (j : ℕ) (t : List ℕ) : Type 0 where
+pub record MembersTo (file : List ℕ) (start many m : ℕ) (before : List ℕ) (j : ℕ) (t : List ℕ) (states arrows : ℕ) : Type 0 where
   pub upTo : j ≤ many
   pub few : many ≤ maxMembers
   pub types : m < maxTypes
   pub within : Within (rowAt (rowOf m) + membersCell) (rowAt (rowOf m) + rowCells) before t
   pub member : Room (rowOf m) before → (i : ℕ) → i < j → memberIn file start i < m → memberOf t (rowOf m) i ≡ goalOf before (memberIn file start i)
+  pub count : arrows ≤ j
+  pub states-so : Room (rowOf m) before → StatesAmong t (rowOf m) j states
+  pub arrows-so : Room (rowOf m) before → ArrowsAmong t (rowOf m) j arrows
 
-pub members-none : {file : List ℕ} {start many m : ℕ} {before : List ℕ} → many ≤ maxMembers → m < maxTypes → MembersTo file start many m before 0 before
-members-none few types = record { upTo = omega arith; few = few; types = types; within = within-none; member = λ l i h. absurd (omega arith) }
+pub members-none : {file : List ℕ} {start many m : ℕ} {before : List ℕ} → many ≤ maxMembers → m < maxTypes → MembersTo file start many m before 0 before 0 0
+members-none few types = record { upTo = omega arith; few = few; types = types; within = within-none; member = λ l i h. absurd (omega arith); count = omega arith; states-so = λ l. among-none; arrows-so = λ l. arrows-none }
 
-module _ {file : List ℕ} {start many m : ℕ} {before : List ℕ} {j : ℕ} {t : List ℕ} (so : MembersTo file start many m before j t) where
-  pub members-more : j < many → (row w goal : ℕ) → row ≡ rowAt (rowOf m) → w ≡ memberIn file start j → goal ≡ goalOf t w → goal < 65536 → (after : List ℕ) → after ≡ stored t (row + (membersCell + j)) goal → MembersTo file start many m before (j + 1) after
-  members-more h row w goal er ew eg small after ea =
+module _ {file : List ℕ} {start many m : ℕ} {before : List ℕ} {j : ℕ} {t : List ℕ} {states arrows : ℕ} (so : MembersTo file start many m before j t states arrows) where
+  pub members-more : j < many → (row w goal : ℕ) → row ≡ rowAt (rowOf m) → w ≡ memberIn file start j → goal ≡ goalOf t w → goal < 65536 → (after : List ℕ) → after ≡ stored t (row + (membersCell + j)) goal → {states′ arrows′ : ℕ} → AddsMember states arrows goal states′ arrows′ → MembersTo file start many m before (j + 1) after states′ arrows′
+  members-more h row w goal er ew eg small after ea is =
       record {
         upTo = omega arith;
         few = so .few;
         types = so .types;
         within = within-then (so .within) (within-store put (omega arith) (omega (arith, so .few)));
         member = λ l i k below. at l i k below (ℕ-discrete i j);
+        count = omega (arith, is .few, so .count);
+        states-so = λ l. add-states is (new l j refl) (states-same old refl refl (so .states-so l));
+        arrows-so = λ l. add-arrows is (new l j refl) (arrows-same old refl refl (so .arrows-so l));
       }
     where
       put : Put t (row + (membersCell + j)) goal after
       put = record { is = ea }
 
-      at : Room (rowOf m) before → (i : ℕ) → i < j + 1 → memberIn file start i < m → Dec (i ≡ j) → memberOf after (rowOf m) i ≡ goalOf before (memberIn file start i)
-      at l i k below (no z) =
-          let y : (i ≡ j → ⊥) = z in
-          store-other put (rowAt (rowOf m) + (membersCell + i % maxMembers)) (λ e. z (omega (arith, so .few))) ∙ so .member l i (omega arith) below
-      at l i k below (yes z) =
+      old : (i : ℕ) → i < j → memberOf after (rowOf m) i ≡ memberOf t (rowOf m) i
+      old i k = store-other put (rowAt (rowOf m) + (membersCell + i % maxMembers)) (λ e. omega (arith, so .few))
+
+      new : Room (rowOf m) before → (i : ℕ) → i ≡ j → memberOf after (rowOf m) i ≡ goal
+      new l i z =
           let here : rowAt (rowOf m) + (membersCell + i % maxMembers) ≡ row + (membersCell + j) = omega (arith, so .few) in
-          let is : w ≡ memberIn file start i = ew ∙ ap (memberIn file start) (sym z) in
-          let old : goalOf t w ≡ goalOf before w = so .within .outside (rowAt (rowOf w) + goalCell) (λ a b. apart (omega arith) a b) in
-          ap (λ x. getD after x 0) here ∙ store-here put small (omega (arith, so .few, so .within .long)) ∙ eg ∙ old ∙ ap (goalOf before) is
+          ap (λ x. getD after x 0) here ∙ store-here put small (omega (arith, so .few, so .within .long))
+
+      at : Room (rowOf m) before → (i : ℕ) → i < j + 1 → memberIn file start i < m → Dec (i ≡ j) → memberOf after (rowOf m) i ≡ goalOf before (memberIn file start i)
+      at l i k below (no z) = let y : (i ≡ j → ⊥) = z in old i (omega arith) ∙ so .member l i (omega arith) below
+      at l i k below (yes z) =
+          let e : w ≡ memberIn file start i = ew ∙ ap (memberIn file start) (sym z) in
+          new l i z ∙ eg ∙ so .within .outside (rowAt (rowOf w) + goalCell) (λ a b. apart (omega arith) a b) ∙ ap (goalOf before) e
         where
           apart : w < m → rowAt (rowOf m) + membersCell ≤ rowAt (rowOf w) + goalCell → rowAt (rowOf w) + goalCell < rowAt (rowOf m) + rowCells → ⊥
           apart b x y = omega (arith, so .types)
 
-  pub members-all : many ≤ j → FillsMembers file start many m before t
-  members-all h = record { within = so .within; member = λ l i k. so .member l i (omega arith) }
-
--- The states among members, and how many are arrows.
-pub record StatesSo (t : List ℕ) (g many j r : ℕ) : Type 0 where
-  pub upTo : j ≤ many
-  pub among : StatesAmong t g j r
-
-pub among-none : {t : List ℕ} {g many : ℕ} → StatesSo t g many 0 0
-among-none = record { upTo = omega arith; among = record { small = omega arith; in-set = λ j h. absurd (omega arith); only = λ q e. absurd (let z = zero-bit q in omega arith) } }
-
-module _ {t : List ℕ} {g many j r : ℕ} (so : StatesSo t g many j r) (h : j < many) (x : ℕ) (ex : x ≡ memberOf t g j) where
-  pub among-put : x < maxStates → (r′ : ℕ) → Adds r x r′ → StatesSo t g many (j + 1) r′
-  among-put l r′ is =
+  pub members-all : many ≤ j → FillsMembers file start many m before t states arrows
+  members-all h =
+      let u = so .upTo in
+      let e : j ≡ many = omega arith in
       record {
-        upTo = omega arith;
-        among = record {
-          small = is .small (so .among .small) l;
-          in-set = λ i k m. there i k m (ℕ-discrete i j);
-          only = λ q e. whose q (is .only l q e);
-        };
+        within = so .within;
+        member = λ l i k. so .member l i (omega arith);
+        states-so = λ l. states-same (λ i k. refl) e refl (so .states-so l);
+        arrows-so = λ l. arrows-same (λ i k. refl) e refl (so .arrows-so l);
       }
-    where
-      there : (i : ℕ) → i < j + 1 → memberOf t g i < maxStates → Dec (i ≡ j) → bitOf (memberOf t g i) r′ ≡ 1
-      there i k m (yes z) = subst (λ y. bitOf y r′ ≡ 1) (ex ∙ ap (memberOf t g) (sym z)) (is .put l)
-      there i k m (no z) = let y : (i ≡ j → ⊥) = z in is .grows l (memberOf t g i) (so .among .in-set i (omega arith) m)
-
-      whose : (q : ℕ) → (bitOf q r ≡ 1) ⊎ (q ≡ x) → (i : ℕ) × (i < j + 1) × (memberOf t g i ≡ q)
-      whose q (inl e) = let (i, k, f) = so .among .only q e in (i, omega arith, f)
-      whose q (inr e) = (j, omega arith, sym ex ∙ sym e)
-
-  pub among-pass : maxStates ≤ x → StatesSo t g many (j + 1) r
-  among-pass l =
-      record {
-        upTo = omega arith;
-        among = record {
-          small = so .among .small;
-          in-set = λ i k m. there i k m (ℕ-discrete i j);
-          only = λ q e. let (i, k, f) = so .among .only q e in (i, omega arith, f);
-        };
-      }
-    where
-      there : (i : ℕ) → i < j + 1 → memberOf t g i < maxStates → Dec (i ≡ j) → bitOf (memberOf t g i) r ≡ 1
-      there i k m (yes z) = let e : memberOf t g i ≡ x = ap (memberOf t g) z ∙ sym ex in absurd (omega arith)
-      there i k m (no z) = let y : (i ≡ j → ⊥) = z in so .among .in-set i (omega arith) m
-
-pub among-all : {t : List ℕ} {g many j r : ℕ} → StatesSo t g many j r → many ≤ j → StatesAmong t g many r
-among-all {t} {g} {many} {j} {r} so h = let u = so .upTo in let e : j ≡ many = omega arith in subst (λ k. StatesAmong t g k r) e (so .among)
-
-pub record ArrowsSo (t : List ℕ) (g many j r : ℕ) : Type 0 where
-  pub upTo : j ≤ many
-  pub among : ArrowsAmong t g j r
-
-pub arrows-none : {t : List ℕ} {g many : ℕ} → ArrowsSo t g many 0 0
-arrows-none = record { upTo = omega arith; among = record { few = omega arith; none = λ e j h. absurd (omega arith) } }
-
-module _ {t : List ℕ} {g many j r : ℕ} (so : ArrowsSo t g many j r) (h : j < many) (x : ℕ) (ex : x ≡ memberOf t g j) where
-  pub arrows-one : ArrowsSo t g many (j + 1) (r + 1)
-  arrows-one = record { upTo = omega arith; among = record { few = omega (arith, so .among .few); none = λ e. absurd (omega arith) } }
-
-  pub arrows-pass : x < maxStates → ArrowsSo t g many (j + 1) r
-  arrows-pass l = record { upTo = omega arith; among = record { few = omega (arith, so .among .few); none = λ e i k. small e i k (ℕ-discrete i j) } }
-    where
-      small : r ≡ 0 → (i : ℕ) → i < j + 1 → Dec (i ≡ j) → memberOf t g i < maxStates
-      small e i k (yes z) = subst (λ y. y < maxStates) (ex ∙ ap (memberOf t g) (sym z)) l
-      small e i k (no z) = let y : (i ≡ j → ⊥) = z in so .among .none e i (omega arith)
-
-pub arrows-all : {t : List ℕ} {g many j r : ℕ} → ArrowsSo t g many j r → many ≤ j → ArrowsAmong t g many r
-arrows-all {t} {g} {many} {j} {r} so h = let u = so .upTo in let e : j ≡ many = omega arith in subst (λ k. ArrowsAmong t g k r) e (so .among)
 
 -- The bindings.
 pub record BindingsTo (file index : List ℕ) (bindings : ℕ) (before : List ℕ) (b : ℕ) (t : List ℕ) : Type 0 where
@@ -244,26 +262,11 @@ module _ {file index : List ℕ} {bindings : ℕ} {before : List ℕ} {b : ℕ} 
   bindings-all h = record { within = so .within; others = so .others; symbol = λ few l i k. so .symbol l i (omega arith); own = λ few l i k. so .own l i (omega arith) }
 
 -- The row of an arrow.
--- the same members have the same states and arrows
-states-same : {t after : List ℕ} {g many many′ r r′ : ℕ} → ((j : ℕ) → memberOf after g j ≡ memberOf t g j) → many ≡ many′ → r ≡ r′ → StatesAmong t g many r → StatesAmong after g many′ r′
-states-same {t} {after} {g} {many} {many′} {r} {r′} same em er s =
-    let l = s .small in
-    record {
-      small = omega arith;
-      in-set = λ j h k. subst (λ x. bitOf x r′ ≡ 1) (sym (same j)) (subst (λ x. bitOf (memberOf t g j) x ≡ 1) er (s .in-set j (omega arith) (subst (λ x. x < maxStates) (same j) k)));
-      only = λ q e. let (j, h, f) = s .only q (subst (λ x. bitOf q x ≡ 1) (sym er) e) in (j, omega arith, same j ∙ f);
-    }
-
-arrows-same : {t after : List ℕ} {g many many′ r r′ : ℕ} → ((j : ℕ) → memberOf after g j ≡ memberOf t g j) → many ≡ many′ → r ≡ r′ → ArrowsAmong t g many r → ArrowsAmong after g many′ r′
-arrows-same {t} {after} {g} {many} {many′} {r} {r′} same em er s =
-    let l = s .few in
-    record { few = omega arith; none = λ z j h. subst (λ x. x < maxStates) (sym (same j)) (s .none (omega arith) j (omega arith)) }
-
 module _ {file : List ℕ} {start len m : ℕ} {t : List ℕ} (types : m < maxTypes) where
   pub arrow-filled : (row w result end many states arrows : ℕ) → row ≡ rowAt (rowOf m) → w ≡ word file start → result ≡ goalOf t w → result < 65536 → end ≡ endOf t result → end < 65536 → CountsMembers len many
-      → (a b c d e f : List ℕ) → a ≡ stored t (row + 0) result → b ≡ stored a (row + 1) end → c ≡ stored b (row + 4) many → FillsMembers file start many m c d
-      → StatesAmong d (rowOf m) many states → ArrowsAmong d (rowOf m) many arrows → e ≡ stored d (row + 2) states → f ≡ stored e (row + 3) arrows → FillsArrow file start len m t f
-  arrow-filled row w result end many states arrows er ew eg small ee small′ counts a b c d e f ea eb ec ms ss as′ ed ef =
+      → (a b c d e f : List ℕ) → a ≡ stored t (row + 0) result → b ≡ stored a (row + 1) end → c ≡ stored b (row + 4) many → FillsMembers file start many m c d states arrows
+      → e ≡ stored d (row + 2) states → f ≡ stored e (row + 3) arrows → FillsArrow file start len m t f
+  arrow-filled row w result end many states arrows er ew eg small ee small′ counts a b c d e f ea eb ec ms ed ef =
       record {
         within = step;
         goal-same =
@@ -282,8 +285,8 @@ module _ {file : List ℕ} {start len m : ℕ} {t : List ℕ} (types : m < maxTy
               member = λ x y j k l.
                   let q = counts .many x y in
                   kept j ∙ ms .member (omega arith) j (omega arith) l ∙ front-row (rowOf (memberIn file start j)) goalCell (omega arith) (omega arith) ∙ sym (old (rowOf (memberIn file start j)) goalCell (omega arith) (omega arith));
-              states = λ x y. states-same kept (counts .many x y) (sym (store-other pf (rowAt g + 2) (λ z. omega arith) ∙ store-here pe (ss .small) (omega arith))) ss;
-              arrows = λ x y. arrows-same kept (counts .many x y) (sym (store-here pf (let q = counts .few in let p = as′ .few in omega arith) (omega arith))) as′;
+              states = λ x y. let ss = ms .states-so (omega arith) in states-same (λ j k. kept j) (counts .many x y) (sym (store-other pf (rowAt g + 2) (λ z. omega arith) ∙ store-here pe (ss .small) (omega arith))) ss;
+              arrows = λ x y. let as′ = ms .arrows-so (omega arith) in arrows-same (λ j k. kept j) (counts .many x y) (sym (store-here pf (let q = counts .few in let p = as′ .few in omega arith) (omega arith))) as′;
             };
       }
     where
@@ -389,8 +392,8 @@ module _ {i m : ℕ} (t after : List ℕ) (h : i < m) (same : (g k : ℕ) → g 
         end = λ l. here 1 (omega arith) ∙ s .end l ∙ sym (ap (endOf after) (goal (word file start) (omega arith)) ∙ same (goalOf t (word file start)) 1 (low (word file start) (omega arith)) (omega arith));
         many = λ x y. here 4 (omega arith) ∙ s .many x y;
         member = λ x y j k l. here (membersCell + j % maxMembers) (omega arith) ∙ s .member x y j k l ∙ sym (goal (memberIn file start j) (omega arith));
-        states = λ x y. states-same (λ j. here (membersCell + j % maxMembers) (omega arith)) refl (sym (here 2 (omega arith))) (s .states x y);
-        arrows = λ x y. arrows-same (λ j. here (membersCell + j % maxMembers) (omega arith)) refl (sym (here 3 (omega arith))) (s .arrows x y);
+        states = λ x y. states-same (λ j k. here (membersCell + j % maxMembers) (omega arith)) refl (sym (here 2 (omega arith))) (s .states x y);
+        arrows = λ x y. arrows-same (λ j k. here (membersCell + j % maxMembers) (omega arith)) refl (sym (here 3 (omega arith))) (s .arrows x y);
       }
     where
       here : (k : ℕ) → k < rowCells → cellOf after (rowOf i) k ≡ cellOf t (rowOf i) k

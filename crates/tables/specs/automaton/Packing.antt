@@ -26,10 +26,10 @@ pub record Presents (index : List ℕ) (constructors c r : ℕ) : Type 0 where
   pub in-set : c < constructors → (q : ℕ) → q < maxStates → (placeIn index q c ≡ 0 → ⊥) → bitOf q r ≡ 1
   pub only : (q : ℕ) → bitOf q r ≡ 1 → placeIn index q c ≡ 0 → ⊥
 
--- the targets of a constructor at each state that is present
+-- the targets of a constructor at each state that is present and has a transition
 pub record FillsTargets (file index : List ℕ) (c present : ℕ) (before after : List ℕ) : Type 0 where
   pub within : Within (targetsBase + c * maxStates) (targetsBase + c * maxStates + maxStates) before after
-  pub targets : groupsAt ≤ length before → (q : ℕ) → q < maxStates → bitOf q present ≡ 1 → targetsOf after c q ≡ packedAt file (placeIn index q c)
+  pub targets : groupsAt ≤ length before → (q : ℕ) → q < maxStates → bitOf q present ≡ 1 → (placeIn index q c ≡ 0 → ⊥) → targetsOf after c q ≡ packedAt file (placeIn index q c)
 
 -- what the table has of one constructor
 pub record ConstructorSays (file index : List ℕ) (constructors c : ℕ) (t : List ℕ) : Type 0 where

@@ -8,7 +8,7 @@ use Rattle.casefile.specs.Fields.{byte, word}
 use Rattle.index.specs.layout.Layout.{maxStates, maxTypes, maxBindings, maxMembers, typesAt, bindingsAt, rowsAt, rowCells, goalCell, symbolCell, ownCell, membersCell}
 use Rattle.marks.specs.Marks.{bitOf}
 use Rattle.tables.specs.Facts.{StateRow}
-use Rattle.tables.specs.Frames.{Within}
+use Rattle.tables.specs.Frames.{Within, Adds}
 use Rattle.tables.specs.reading.Cells.{rowAt, cellOf, resultOf, endOf, statesOf, arrowsOf, manyOf, memberOf, symbolOf, ownOf}
 
 -- the goal that type m is, and the row of a type
@@ -36,11 +36,6 @@ pub record CountsMembers (len r : ℕ) : Type 0 where
   pub few : r ≤ maxMembers
   pub many : 2 ≤ len → len ≤ 34 → r ≡ (len - 2) / 2
 
--- the members of type m
-pub record FillsMembers (file : List ℕ) (start many m : ℕ) (before after : List ℕ) : Type 0 where
-  pub within : Within (rowAt (rowOf m) + membersCell) (rowAt (rowOf m) + rowCells) before after
-  pub member : Room (rowOf m) before → (j : ℕ) → j < many → memberIn file start j < m → memberOf after (rowOf m) j ≡ goalOf before (memberIn file start j)
-
 -- the states among the first members of a goal, as bits
 pub record StatesAmong (t : List ℕ) (g many r : ℕ) : Type 0 where
   pub small : r < 65536
@@ -51,6 +46,19 @@ pub record StatesAmong (t : List ℕ) (g many r : ℕ) : Type 0 where
 pub record ArrowsAmong (t : List ℕ) (g many r : ℕ) : Type 0 where
   pub few : r ≤ many
   pub none : r ≡ 0 → (j : ℕ) → j < many → memberOf t g j < maxStates
+
+-- the states among members and how many are arrows, with one member more
+pub record AddsMember (states arrows x states′ arrows′ : ℕ) : Type 0 where
+  pub few : arrows′ ≤ arrows + 1
+  pub state : x < maxStates → Adds states x states′ × (arrows′ ≡ arrows)
+  pub arrow : maxStates ≤ x → (states′ ≡ states) × (arrows′ ≡ arrows + 1)
+
+-- the members of type m, the states among them and how many are arrows
+pub record FillsMembers (file : List ℕ) (start many m : ℕ) (before after : List ℕ) (states arrows : ℕ) : Type 0 where
+  pub within : Within (rowAt (rowOf m) + membersCell) (rowAt (rowOf m) + rowCells) before after
+  pub member : Room (rowOf m) before → (j : ℕ) → j < many → memberIn file start j < m → memberOf after (rowOf m) j ≡ goalOf before (memberIn file start j)
+  pub states-so : Room (rowOf m) before → StatesAmong after (rowOf m) many states
+  pub arrows-so : Room (rowOf m) before → ArrowsAmong after (rowOf m) many arrows
 
 -- the row of an arrow, type m, whose payload begins at a place and has a length: its parts are those of earlier rows, where they are earlier
 pub record ArrowSays (file : List ℕ) (start len m : ℕ) (t : List ℕ) : Type 0 where

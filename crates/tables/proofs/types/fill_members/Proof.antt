@@ -1,4 +1,4 @@
--- `fill_members` meets its contract. The invariant: the members before j are entered.
+-- `fill_members` meets its contract. The invariant: the members before j are entered, and what there is among them.
 use Prim.Native.Nat.{_-_}
 use Rattle.tables.proofs.types.Filling.{MembersTo, members-none, members-more, members-all}
 use borrow.Author.Needs.{needs}
@@ -7,10 +7,10 @@ use Rattle.tables.proofs.types.fill_members.Statement.{statement}
 use Rattle.tables.proofs.types.fill_members.Tie as tie
 
 abbrev Inv-loop : tie.InvT-loop
-Inv-loop file start many m t₀ row j₀ t j = MembersTo file start many m t₀ j t
+Inv-loop file start many m t₀ row among₀ j₀ t among j = MembersTo file start many m t₀ j t (among .states) (among .arrows)
 
 abbrev μ-loop : tie.MeasureT-loop
-μ-loop file start many m t₀ row j₀ t j = many - j
+μ-loop file start many m t₀ row among₀ j₀ t among j = many - j
 
 add-row-at : tie.Need-add-row-at Inv-loop μ-loop
 add-row-at c = search needs
@@ -45,14 +45,17 @@ add-store-2 c = omega (arith, c .before .before .before .before .before .before 
 store-requires : tie.Need-store-requires Inv-loop μ-loop
 store-requires c κs = search needs
 
+with-member-requires : tie.Need-with-member-requires Inv-loop μ-loop
+with-member-requires c κs = omega (arith, c .before .before .before .before .before .before .before .before .loop .inv .count, c .before .before .before .before .before .before .before .loop-test .taken, c .before .before .before .before .before .before .before .before .before .before .before .before .pre .1)
+
 add-j : tie.Need-add-j Inv-loop μ-loop
-add-j c = omega (arith, c .before .before .before .before .before .before .before .loop-test .taken)
+add-j c = omega (arith, c .before .before .before .before .before .before .before .before .loop-test .taken)
 
 loop-less : tie.Need-loop-less Inv-loop μ-loop
-loop-less c = omega (arith, c .before .before .before .before .before .before .before .loop-test .taken)
+loop-less c = omega (arith, c .before .before .before .before .before .before .before .before .loop-test .taken)
 
 loop-again : tie.Need-loop-again Inv-loop μ-loop
-loop-again c = members-more (c .before .before .before .before .before .before .before .before .loop .inv) (c .before .before .before .before .before .before .before .loop-test .taken) _ _ _ (c .before .before .before .before .before .before .before .before .before .row-at .ensures .0) (c .before .before .before .before .before .word-at .ensures .value) (c .before .before .before .before .goal-of .ensures .0) (c .before .before .before .before .goal-of .ensures .1) _ (c .before .before .store .ensures)
+loop-again c = members-more (c .before .before .before .before .before .before .before .before .before .loop .inv) (c .before .before .before .before .before .before .before .before .loop-test .taken) _ _ _ (c .before .before .before .before .before .before .before .before .before .before .row-at .ensures .0) (c .before .before .before .before .before .before .word-at .ensures .value) (c .before .before .before .before .before .goal-of .ensures .0) (c .before .before .before .before .before .goal-of .ensures .1) _ (c .before .before .before .store .ensures) (c .with-member .ensures)
 
 same-length : tie.Need-same-length Inv-loop μ-loop
 same-length c = c .before .loop .inv .within .long
@@ -77,6 +80,7 @@ fill-members-spec =
     add-store
     add-store-2
     store-requires
+    with-member-requires
     add-j
     loop-less
     loop-again
