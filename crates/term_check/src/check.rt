@@ -2,6 +2,7 @@
 use crate::heads::alone;
 use crate::heads::candidate;
 use crate::heads::goes_down;
+use crate::heads::listed;
 use crate::heads::look;
 use crate::heads::targets_for;
 use crate::heads::wanted;
@@ -18,7 +19,6 @@ use crate::parts::learn_in;
 use crate::parts::note_in;
 use crate::parts::outlook_on;
 use answers::Outlook;
-use index::layout::FEW;
 use index::layout::MAX_NODES;
 use index::layout::NO_TARGETS;
 use index::layout::NONE;
@@ -132,27 +132,20 @@ fn check_target(t: &[u16], r: &[u32], w: &mut [u32], at: usize, goal: usize) -> 
     check_term(&*t, &*r, w, at, goal)
 }
 
-// Whether a nonterminal's term has a goal: one of its kept bindings leads to it, and the arguments have what its type asks for. All that
-// lead to the goal are tried; where there are many, first the one that served last for this nonterminal.
+// Whether a nonterminal's term has a goal: one of its kept bindings leads to it, and the arguments have what its type asks for. Where it
+// has arguments, the binding is tried first that served last for this nonterminal.
 fn check_bound(t: &[u16], r: &[u32], w: &mut [u32], at: usize, goal: usize, node: Node) -> bool
     requires { ⌜ at < maxNodes ⌝ }
     ensures { λ b. ⌜ (length (now (w .exit)) ≡ length (now (w .entry))) × (node ≡ nodeAt (now (t .entry)) (baseIn (now (r .entry))) at → node .tag ≡ 1 → ChecksTerm (caseOf (now (t .entry)) (now (r .entry))) (answersOf (now (r .entry)) (now (w .entry))) (usersOf (now (r .entry)) (now (w .entry))) at goal (answersOf (now (r .entry)) (now (w .exit))) (usersOf (now (r .entry)) (now (w .exit))) b) ⌝ }
 {
-    let row = TEST_CELLS + goal % ROW_LIMIT * (number_in(r, TEST_WORDS) % WORDS_LIMIT);
-    let high = group_of(t, node.number % ROW_LIMIT + 1);
-    let mut from = group_of(t, node.number);
     let mut c = NONE;
-    if from + FEW < high {
+    if node.count != 0 {
         c = head_hint(r, w, node.number, goal);
     }
-    while from <= high {
-        if try_binding(&*t, &*r, w, at, goal, node, c) {
-            return true;
-        }
-        c = next_in(r, row, from, high);
-        from = c + 1;
+    if try_binding(&*t, &*r, w, at, goal, node, c) {
+        return true;
     }
-    false
+    check_listed(&*t, &*r, w, at, goal, node)
 }
 
 // Whether binding c serves: it is kept, it leads to the goal, and the arguments have what its type asks for. That it serves is noted.
@@ -168,17 +161,41 @@ fn try_binding(
     requires { ⌜ at < maxNodes ⌝ }
     ensures { λ b. ⌜ (length (now (w .exit)) ≡ length (now (w .entry))) × Tries (caseOf (now (t .entry)) (now (r .entry))) (answersOf (now (r .entry)) (now (w .entry))) (usersOf (now (r .entry)) (now (w .entry))) at goal node c (answersOf (now (r .entry)) (now (w .exit))) (usersOf (now (r .entry)) (now (w .exit))) b ⌝ }
 {
-    let count = node.count;
-    let ty = candidate(t, r, node.number, count, goal, c);
+    let ty = candidate(t, r, node.number, node.count, goal, c);
     if ty == NONE {
         return false;
     }
-    if !check_args(&*t, &*r, w, at + 1, count, ty) {
+    if !check_args(&*t, &*r, w, at + 1, node.count, ty) {
         return false;
     }
     note_in(r, w, node.closed, c);
-    hint_in(r, w, at, node.number, goal, c);
     true
+}
+
+// Whether one of the kept bindings of a nonterminal that lead to a goal serves. That it serves is noted, and is a hint.
+fn check_listed(t: &[u16], r: &[u32], w: &mut [u32], at: usize, goal: usize, node: Node) -> bool
+    requires { ⌜ at < maxNodes ⌝ }
+    ensures { λ b. ⌜ (length (now (w .exit)) ≡ length (now (w .entry))) × (node ≡ nodeAt (now (t .entry)) (baseIn (now (r .entry))) at → node .tag ≡ 1 → ChecksTerm (caseOf (now (t .entry)) (now (r .entry))) (answersOf (now (r .entry)) (now (w .entry))) (usersOf (now (r .entry)) (now (w .entry))) at goal (answersOf (now (r .entry)) (now (w .exit))) (usersOf (now (r .entry)) (now (w .exit))) b) ⌝ }
+{
+    let row = TEST_CELLS + goal % ROW_LIMIT * (number_in(r, TEST_WORDS) % WORDS_LIMIT);
+    let high = group_of(t, node.number % ROW_LIMIT + 1);
+    let mut from = group_of(t, node.number);
+    while from < high {
+        let c = next_in(r, row, from, high);
+        from = c + 1;
+        if high <= c {
+            return false;
+        }
+        let ty = listed(t, r, node.number, node.count, goal, c);
+        if ty != NONE {
+            if check_args(&*t, &*r, w, at + 1, node.count, ty) {
+                note_in(r, w, node.closed, c);
+                hint_in(r, w, at, node.number, goal, c);
+                return true;
+            }
+        }
+    }
+    false
 }
 
 // Whether a parameter's term has a goal: one of the members given for it leads to it.

@@ -34,7 +34,25 @@ ghost use mathlib.Core.Bool.{true};
 ghost use Rattle.index.specs.layout.Layout.{maxStates, noNumber};
 ghost use Rattle.tables.specs.reading.Cells.{offOf};
 ghost use Rattle.term_check.specs.Worlds.{caseOf, answersOf};
-ghost use Rattle.term_check.specs.heads.Heads.{IsCandidate, Matches, IsTargets, Alone, Seen};
+ghost use Rattle.term_check.specs.heads.Heads.{IsCandidate, IsListed, Matches, IsTargets, Alone, Seen};
+
+// The type of binding c, which is in the set of a goal, where it is one of a nonterminal whose type with arrows off is the goal; else
+// NONE.
+pub fn listed(t: &[u16], r: &[u32], number: usize, count: usize, goal: usize, c: usize) -> usize
+    ensures { λ s. ⌜ IsListed (caseOf (now (t .entry)) (now (r .entry))) number count goal c s ⌝ }
+{
+    if number_in(r, TEST_BINDINGS) <= c {
+        return NONE;
+    }
+    if symbol_of(t, c) != number {
+        return NONE;
+    }
+    let ty = own_of(t, c);
+    if off(t, ty, count) != goal {
+        return NONE;
+    }
+    ty
+}
 
 // The type of binding c, where it is a kept one of a nonterminal whose type with arrows off is the goal; else NONE.
 pub fn candidate(t: &[u16], r: &[u32], number: usize, count: usize, goal: usize, c: usize) -> usize
@@ -47,14 +65,7 @@ pub fn candidate(t: &[u16], r: &[u32], number: usize, count: usize, goal: usize,
     if !is_in(r, TEST_CELLS + goal % ROW_LIMIT * words, c) {
         return NONE;
     }
-    if symbol_of(t, c) != number {
-        return NONE;
-    }
-    let ty = own_of(t, c);
-    if off(t, ty, count) != goal {
-        return NONE;
-    }
-    ty
+    listed(t, r, number, count, goal, c)
 }
 
 // Whether a goal takes targets, so many that are packed in a number, one after another to a state.

@@ -1,4 +1,4 @@
--- A nonterminal in front: its kept bindings are tried, first by hints, then all that lead to the goal.
+-- A nonterminal in front: its kept bindings are tried, first by a hint, then all that lead to the goal.
 use Prim.Native.Nat.{ℕ, suc, _+_, _-_, _*_, _%_, _<_, _≤_}
 use native.Mathlib.Omega.{arith}
 use native.Mathlib.Decide.{decLt, ℕ-discrete}
@@ -9,7 +9,8 @@ use mathlib.Core.List.{List}
 use mathlib.Core.Option.{some}
 use Rattle.scheme.specs.Terms.{nt, Term, node, Terms, countᵗ}
 use Rattle.scheme.specs.Types.{Ty}
-use Rattle.index.specs.layout.Layout.{noNumber, rowLimit}
+use lib.ListN.{getD}
+use Rattle.index.specs.layout.Layout.{noNumber, rowLimit, wordsLimit, testWords}
 use Rattle.marks.specs.Marks.{In, FindsNext}
 use Rattle.tables.specs.reading.Cells.{groupOf, nodeAt}
 use Rattle.tables.specs.declared.reading.Node.{Node}
@@ -88,14 +89,14 @@ module _ (x : Case) (memo users : List ℕ) (at goal : ℕ) (a : Node) where
     pub keeps : Keeps x memo users memo′ users′
     pub fails : (w : World) → Ready x w memo users → (c : ℕ) → groupOf (x .t) (a .number) ≤ c → c < from → Fails w at goal a c
 
-  -- the same but for the one that is to be tried, which is the last of them where any have been
+  -- the same but for the one that is to be tried, which is the last of them
   pub record Tried (memo′ users′ : List ℕ) (from c : ℕ) : Type 0 where
     pub keeps : Keeps x memo users memo′ users′
-    pub last : (from ≡ suc c) ⊎ (from ≡ groupOf (x .t) (a .number))
+    pub last : from ≡ suc c
     pub fails : (w : World) → Ready x w memo users → (d : ℕ) → groupOf (x .t) (a .number) ≤ d → d < from → (d ≡ c → ⊥) → Fails w at goal a d
 
-  pub tried-start : (from c : ℕ) → from ≡ groupOf (x .t) (a .number) → Tried memo users from c
-  tried-start from c e = record { keeps = keeps-all x memo users; last = inr e; fails = λ w r d l h ne. absurd (omega arith) }
+  pub failed-start : (from : ℕ) → from ≡ groupOf (x .t) (a .number) → Failed memo users from
+  failed-start from e = record { keeps = keeps-all x memo users; fails = λ w r d l h. absurd (omega arith) }
 
   module _ {memo′ users′ : List ℕ} {from c : ℕ} (t : Tried memo′ users′ from c) where
     -- it does not serve either
@@ -119,11 +120,16 @@ module _ (x : Case) (memo users : List ℕ) (at goal : ℕ) (a : Node) where
       pub tried-fails : b ≡ false → Failed memo″ users″ from
       tried-fails e = failed-more memo″ users″ (keeps-on (t .keeps) (told ea et .keeps)) (λ w r. told ea et .no e w (ready-on (t .keeps) r))
 
+    -- none of those before the end serves
+    pub tried-none : (high : ℕ) → high < from → Failed memo′ users′ high
+    tried-none high l = record { keeps = t .keeps; fails = λ w r d low h. t .fails w r d low (omega arith) (λ e. let k = t .last in omega arith) }
+
+  module _ {memo′ users′ : List ℕ} {from : ℕ} (f : Failed memo′ users′ from) where
     -- no binding of the nonterminal serves
-    pub tried-end : (high : ℕ) → high ≡ groupOf (x .t) (a .number % rowLimit + 1) → high < from → a ≡ nodeAt (x .t) (baseIn (x .test)) at → a .tag ≡ 1 → ChecksTerm x memo users at goal memo′ users′ false
-    tried-end high eh l ea et =
+    pub failed-end : (high : ℕ) → high ≡ groupOf (x .t) (a .number % rowLimit + 1) → high ≤ from → a ≡ nodeAt (x .t) (baseIn (x .test)) at → a .tag ≡ 1 → ChecksTerm x memo users at goal memo′ users′ false
+    failed-end high eh l ea et =
         record {
-          keeps = t .keeps;
+          keeps = f .keeps;
           yes = λ y. absurd (true≢false (sym y));
           no = λ y w r u here σ g has. none w r u σ g has (split-term x w (r .setting) a at ea u here);
         }
@@ -138,18 +144,13 @@ module _ (x : Case) (memo users : List ℕ) (at goal : ℕ) (a : Node) where
             let (low, below) = r .setting .bindings .grouped c′ inside in
             let low′ : groupOf (x .t) (a .number) ≤ c′ = subst (λ f. groupOf (x .t) f ≤ c′) symbol low in
             let below′ : c′ < high = subst (λ k. c′ < k) (sym (eh ∙ next-group (a .number))) (subst (λ f. c′ < groupOf (x .t) (suc f)) symbol below) in
-            t .fails w r c′ low′ (omega arith) (λ e. other c′ low′ below′ e (t .last)) σ g ts al count few
+            f .fails w r c′ low′ (omega arith) σ g ts al count few
             (record { inside = inside; is-kept = kept; symbol = symbol; rest = subst (λ k. off k (bindingAt (w .rs) c′ .type) ≡ some σ) count rest }) args
-          where
-            other : (d : ℕ) → groupOf (x .t) (a .number) ≤ d → d < high → d ≡ c → (from ≡ suc c) ⊎ (from ≡ groupOf (x .t) (a .number)) → ⊥
-            other d low h e (inl f) = omega arith
-            other d low h e (inr f) = omega arith
 
-  module _ {memo′ users′ : List ℕ} {from : ℕ} (f : Failed memo′ users′ from) where
     -- the next one that leads to the goal
     pub try-next : (c high from′ row : ℕ) → row ≡ goal % rowLimit * wordsIn (x .test) → FindsNext (x .sets) row from high c → from′ ≡ suc c → Tried memo′ users′ from′ c
     try-next c high from′ row er next ef =
-        record { keeps = f .keeps; last = inl ef; fails = λ w r d l h ne. by w r d l (omega arith) ne (decLt d from) }
+        record { keeps = f .keeps; last = ef; fails = λ w r d l h ne. by w r d l (omega arith) ne (decLt d from) }
       where
         by : (w : World) → Ready x w memo users → (d : ℕ) → groupOf (x .t) (a .number) ≤ d → d ≤ c → (d ≡ c → ⊥) → Dec (d < from) → Fails w at goal a d
         by w r d l h ne (yes k) σ g ts al count few leads args = f .fails w r d l k σ g ts al count few leads args
@@ -159,8 +160,12 @@ module _ (x : Case) (memo users : List ℕ) (at goal : ℕ) (a : Node) where
             next .passed d (omega arith) (omega arith) (subst (λ k. In (x .sets) k d) (sym e) (r .setting .candidates .all-in d (leads .inside) (leads .is-kept) (a .count) goal σ few (leads .rest) g))
 
 -- a binding that serves decides
-pub served : {x : Case} {memo users memo′ users′ : List ℕ} (at : ℕ) {goal : ℕ} {a : Node} {c : ℕ} → a ≡ nodeAt (x .t) (baseIn (x .test)) at → a .tag ≡ 1 → Tries x memo users at goal a c memo′ users′ true → ChecksTerm x memo users at goal memo′ users′ true
-served at ea et told = record { keeps = told ea et .keeps; yes = λ y. told ea et .yes y; no = λ y. absurd (true≢false y) }
+pub served : {x : Case} {memo users memo′ users′ : List ℕ} (at : ℕ) {goal : ℕ} {a : Node} {c : ℕ} → a ≡ nodeAt (x .t) (baseIn (x .test)) at → a .tag ≡ 1 → {b : Bool} → Tries x memo users at goal a c memo′ users′ b → b ≡ true → ChecksTerm x memo users at goal memo′ users′ true
+served at ea et told e = record { keeps = told ea et .keeps; yes = λ y. told ea et .yes e; no = λ y. absurd (true≢false y) }
+
+-- what is found below the end is in the set of the goal
+pub next-listed : (sets test : List ℕ) (goal k from high c : ℕ) → k ≡ getD test testWords 0 → FindsNext sets (goal % rowLimit * (k % wordsLimit)) from high c → c < high → In sets (goal % rowLimit * wordsIn test) c
+next-listed sets test goal k from high c e next h = subst (λ m. In sets (goal % rowLimit * (m % wordsLimit)) c) e (next .found h .1)
 
 -- what is found stands behind where the search began
 pub next-behind : (words : List ℕ) (row from high c : ℕ) → FindsNext words row from high c → from ≤ high → from ≤ c

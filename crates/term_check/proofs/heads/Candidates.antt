@@ -4,6 +4,7 @@ use native.Mathlib.Omega.{arith}
 use native.Mathlib.Nat.{mul-le-mul}
 use mathlib.Core.Path.{_≡_, refl, sym, ap₂, subst, _∙_}
 use mathlib.Core.Bool.{Bool, true, false}
+use mathlib.Core.List.{List}
 use lib.ListN.{getD}
 use Rattle.scheme.specs.Types.{Ty}
 use Rattle.index.specs.layout.Layout.{rowLimit, wordsLimit, testWords, noNumber}
@@ -17,6 +18,10 @@ use Rattle.term_check.proofs.Goals.{goal-below, goal-there, off-is, off
 
 pub row-fits : (g k : ℕ) → g % rowLimit * (k % wordsLimit) ≤ 128961
 row-fits g k = mul-le-mul {n₁ = g % rowLimit} {m₁ = k % wordsLimit} {n₂ = 2047} {m₂ = 63} (omega arith) (omega arith)
+
+-- a binding that is in the set of a goal, by the numbers of the test
+pub in-set : (sets test : List ℕ) (goal c m : ℕ) (b : Bool) → m ≡ getD test testWords 0 → Decides sets (goal % rowLimit * (m % wordsLimit)) c b → b ≡ true → In sets (goal % rowLimit * wordsIn test) c
+in-set sets test goal c m b e d t = subst (λ k. In sets (goal % rowLimit * (k % wordsLimit)) c) e (d .yes t)
 
 module _ (x : Case) (number n goal c : ℕ) where
   missing : ((w : World) → Setting x w → (σ : Ty) → Goal (w .rs) goal σ → n < 256 → Leads w number n σ c → ⊥) → IsCandidate x number n goal c noNumber
@@ -41,15 +46,14 @@ module _ (x : Case) (number n goal c : ℕ) where
       let own = subst (λ j. Goal (w .rs) j (bindingAt (w .rs) c .type)) (sym e) (s .bindings .own c (l .inside)) in
       d (o ∙ off-number (s .types) n ty goal (bindingAt (w .rs) c .type) σ own g (l .rest)))
 
-  pub leading : (m words f ty r : ℕ) (b : Bool)
-      → m ≡ totalIn (x .test) → c < m → words ≡ getD (x .test) testWords 0 → Decides (x .sets) (goal % rowLimit * (words % wordsLimit)) c b → b ≡ true
+  pub leading : (m f ty r : ℕ) → m ≡ totalIn (x .test) → c < m → In (x .sets) (goal % rowLimit * wordsIn (x .test)) c
       → f ≡ symbolOf (x .t) c → f ≡ number → ty ≡ ownOf (x .t) c → r ≡ offOf (x .t) n ty → r ≡ goal → IsCandidate x number n goal c ty
-  leading m words f ty r b all h e d is-in fs fn own o rest =
+  leading m f ty r all h is-in fs fn own o rest =
       record {
         leads = λ ne w s σ g. (
           record {
             inside = inside w s;
-            is-kept = s .candidates .kept-only c goal (inside w s) (goal-below (s .types) g) (subst (λ a. In (x .sets) a c) (place words e w s σ g) (d .yes is-in));
+            is-kept = s .candidates .kept-only c goal (inside w s) (goal-below (s .types) g) (subst (λ a. In (x .sets) a c) (place (getD (x .test) testWords 0) refl w s σ g) is-in);
             symbol = sym (s .bindings .symbol c (inside w s)) ∙ sym fs ∙ fn;
             rest = off-is (s .types) n ty goal (bindingAt (w .rs) c .type) σ (owns w s) g (sym o ∙ rest);
           },

@@ -1,6 +1,6 @@
 -- What our own crates promise each other; nothing here has to be believed.
 -- The types of a head against a goal, and what is known of an argument without a check.
-use Prim.Native.Nat.{ℕ, suc, _/_, _%_, _^_, _<_}
+use Prim.Native.Nat.{ℕ, suc, _*_, _/_, _%_, _^_, _<_}
 use mathlib.Core.Path.{_≡_}
 use mathlib.Core.Bool.{Bool, true, false}
 use mathlib.Core.List.{List}
@@ -10,13 +10,13 @@ use Rattle.scheme.specs.Terms.{Terms, countᵗ}
 use Rattle.scheme.specs.Types.{Ty, state, takes, final}
 use Rattle.scheme.specs.Flags.{isKept}
 use Rattle.casefile.specs.Tables.{transitionsOf, targetsAt}
-use Rattle.index.specs.layout.Layout.{maxStates, noNumber, noTargets}
-use Rattle.marks.specs.Marks.{bitOf}
+use Rattle.index.specs.layout.Layout.{maxStates, rowLimit, noNumber, noTargets}
+use Rattle.marks.specs.Marks.{bitOf, In}
 use Rattle.tables.specs.reading.Cells.{nodeAt}
 use Rattle.tables.specs.declared.reading.Node.{Node}
 use Rattle.tables.specs.Facts.{Goal, AllAt, TypesAre, bindingAt, off}
 use Rattle.answers.specs.declared.Outlook.{Outlook}
-use Rattle.term_check.specs.notes.Notes.{baseIn}
+use Rattle.term_check.specs.notes.Notes.{baseIn, wordsIn}
 use Rattle.term_check.specs.Worlds.{Args, Case, World, Has, Setting, Ready, Tells, Yes, No, Targets, total}
 
 -- binding c is kept, it is one of a nonterminal, and its type with arrows off is σ
@@ -40,6 +40,10 @@ Tries x memo users at goal a c memo′ users′ r =
 pub record IsCandidate (x : Case) (number n goal c r : ℕ) : Type 0 where
   pub leads : (r ≡ noNumber → ⊥) → (w : World) → Setting x w → (σ : Ty) → Goal (w .rs) goal σ → Leads w number n σ c × Goal (w .rs) r (bindingAt (w .rs) c .type)
   pub misses : r ≡ noNumber → (w : World) → Setting x w → (σ : Ty) → Goal (w .rs) goal σ → n < 256 → Leads w number n σ c → ⊥
+
+-- so it is of a binding that is in the set of the goal
+abbrev pub IsListed : Case → ℕ → ℕ → ℕ → ℕ → ℕ → Type 0
+IsListed x number n goal c r = In (x .sets) (goal % rowLimit * wordsIn (x .test)) c → IsCandidate x number n goal c r
 
 -- r says whether a goal takes targets, so many that are packed in a number, to a state
 pub record Matches (t : List ℕ) (goal targets left : ℕ) (r : Bool) : Type 0 where

@@ -1,7 +1,8 @@
 -- `candidate` meets its contract.
 use native.Mathlib.Omega.{arith}
+use denote.Ref.{now}
 use borrow.Author.Tests.{not-true, not-false}
-use Rattle.term_check.proofs.heads.Candidates.{row-fits, past-all, not-in-set, other-symbol, other-rest, leading}
+use Rattle.term_check.proofs.heads.Candidates.{row-fits, past-all, not-in-set, in-set}
 use Rattle.index.specs.layout.Layout.{testCells}
 use Rattle.term_check.proofs.heads.Sets.{decides-behind}
 use borrow.Author.Needs.{needs}
@@ -29,25 +30,11 @@ is-in-requires c κs = search needs
 returns-2 : tie.Need-returns-2
 returns-2 c = not-in-set _ _ _ _ _ _ _ (c .before .before .number-in2 .ensures .0) (decides-behind _ testCells _ _ _ (c .before .is-in .ensures)) (not-true _ (c .if2 .taken))
 
-symbol-of-requires : tie.Need-symbol-of-requires
-symbol-of-requires c κs = search needs
+listed-requires : tie.Need-listed-requires
+listed-requires c κs = search needs
 
 returns-3 : tie.Need-returns-3
-returns-3 c = other-symbol _ _ _ _ _ _ (c .before .symbol-of .ensures .0) (c .if3 .taken)
-
-own-of-requires : tie.Need-own-of-requires
-own-of-requires c κs = search needs
-
-off-requires : tie.Need-off-requires
-off-requires c κs = search needs
-
-returns-4 : tie.Need-returns-4
-returns-4 c = other-rest _ _ _ _ _ _ _ (c .before .before .own-of .ensures .0) (c .before .off .ensures) (c .if4 .taken)
-
-returns-5 : tie.Need-returns-5
-returns-5 c =
-    leading _ _ _ _ _ _ _ _ _ _ _ (c .before .before .before .before .before .before .before .before .before .number-in .ensures .0) (c .before .before .before .before .before .before .before .before .if1 .left) (c .before .before .before .before .before .before .before .number-in2 .ensures .0) (decides-behind _ testCells _ _ _ (c .before .before .before .before .before .before .is-in .ensures)) (not-false _ (c .before .before .before .before .before .if2 .left))
-    (c .before .before .before .before .symbol-of .ensures .0) (c .before .before .before .if3 .left) (c .before .before .own-of .ensures .0) (c .before .off .ensures) (c .if4 .left)
+returns-3 c = c .listed .ensures (in-set _ (now (c .before .before .before .before .before .before .before .before .args .r)) _ _ _ _ (c .before .before .before .number-in2 .ensures .0) (decides-behind _ testCells _ _ _ (c .before .before .is-in .ensures)) (not-false _ (c .before .if2 .left)))
 
 pub candidate-spec : {M : Type 1} → statement M
 candidate-spec =
@@ -60,9 +47,5 @@ candidate-spec =
     add-is-in
     is-in-requires
     returns-2
-    symbol-of-requires
-    returns-3
-    own-of-requires
-    off-requires
-    returns-4
-    returns-5)
+    listed-requires
+    returns-3)

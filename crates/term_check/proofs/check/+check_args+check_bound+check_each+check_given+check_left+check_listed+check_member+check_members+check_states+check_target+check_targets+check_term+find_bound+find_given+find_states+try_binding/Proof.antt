@@ -17,7 +17,7 @@ use Rattle.term_check.proofs.heads.Sets.{next-behind-sets}
 use Rattle.term_check.proofs.check.Keeping.{node-by, next-by, closed-by, tells-on}
 use Rattle.term_check.proofs.check.Arguments.{args-none, args-stuck, args-lack, args-rest}
 use Rattle.term_check.proofs.check.Targets.{targets-none, targets-stuck, targets-lack, targets-rest, down-none, down}
-use Rattle.term_check.proofs.check.Bound.{try-misses, try-lacks, try-serves, tried-start, tried-serves, tried-fails, tried-end, try-next, served, next-behind}
+use Rattle.term_check.proofs.check.Bound.{try-misses, try-lacks, try-serves, failed-start, tried-serves, tried-fails, tried-none, failed-end, try-next, served, next-behind, next-listed}
 use Rattle.term_check.proofs.check.Bound as Bound
 use Rattle.term_check.proofs.check.Given.{given-start, given-none, given-end, member-misses, member-fails, member-has}
 use Rattle.term_check.proofs.check.Given as Given
@@ -30,49 +30,52 @@ use borrow.Fn.Kinds.{In}
 use borrow.Fn.PlainCycle.{Measures, is, falls, and}
 use Rattle.term_check.proofs.check.check_args.Reads as check-args
 use Rattle.term_check.proofs.check.check_args.Kinds as check-args-kinds
-use Rattle.term_check.proofs.check.+check_args+check_bound+check_each+check_given+check_left+check_member+check_members+check_states+check_target+check_targets+check_term+find_bound+find_given+find_states+try_binding.Lts-check_args as check-args-lts
+use Rattle.term_check.proofs.check.+check_args+check_bound+check_each+check_given+check_left+check_listed+check_member+check_members+check_states+check_target+check_targets+check_term+find_bound+find_given+find_states+try_binding.Lts-check_args as check-args-lts
 use Rattle.term_check.proofs.check.check_bound.Reads as check-bound
 use Rattle.term_check.proofs.check.check_bound.Kinds as check-bound-kinds
-use Rattle.term_check.proofs.check.+check_args+check_bound+check_each+check_given+check_left+check_member+check_members+check_states+check_target+check_targets+check_term+find_bound+find_given+find_states+try_binding.Lts-check_bound as check-bound-lts
+use Rattle.term_check.proofs.check.+check_args+check_bound+check_each+check_given+check_left+check_listed+check_member+check_members+check_states+check_target+check_targets+check_term+find_bound+find_given+find_states+try_binding.Lts-check_bound as check-bound-lts
 use Rattle.term_check.proofs.check.check_each.Reads as check-each
 use Rattle.term_check.proofs.check.check_each.Kinds as check-each-kinds
-use Rattle.term_check.proofs.check.+check_args+check_bound+check_each+check_given+check_left+check_member+check_members+check_states+check_target+check_targets+check_term+find_bound+find_given+find_states+try_binding.Lts-check_each as check-each-lts
+use Rattle.term_check.proofs.check.+check_args+check_bound+check_each+check_given+check_left+check_listed+check_member+check_members+check_states+check_target+check_targets+check_term+find_bound+find_given+find_states+try_binding.Lts-check_each as check-each-lts
 use Rattle.term_check.proofs.check.check_given.Reads as check-given
 use Rattle.term_check.proofs.check.check_given.Kinds as check-given-kinds
-use Rattle.term_check.proofs.check.+check_args+check_bound+check_each+check_given+check_left+check_member+check_members+check_states+check_target+check_targets+check_term+find_bound+find_given+find_states+try_binding.Lts-check_given as check-given-lts
+use Rattle.term_check.proofs.check.+check_args+check_bound+check_each+check_given+check_left+check_listed+check_member+check_members+check_states+check_target+check_targets+check_term+find_bound+find_given+find_states+try_binding.Lts-check_given as check-given-lts
 use Rattle.term_check.proofs.check.check_left.Reads as check-left
 use Rattle.term_check.proofs.check.check_left.Kinds as check-left-kinds
-use Rattle.term_check.proofs.check.+check_args+check_bound+check_each+check_given+check_left+check_member+check_members+check_states+check_target+check_targets+check_term+find_bound+find_given+find_states+try_binding.Lts-check_left as check-left-lts
+use Rattle.term_check.proofs.check.+check_args+check_bound+check_each+check_given+check_left+check_listed+check_member+check_members+check_states+check_target+check_targets+check_term+find_bound+find_given+find_states+try_binding.Lts-check_left as check-left-lts
+use Rattle.term_check.proofs.check.check_listed.Reads as check-listed
+use Rattle.term_check.proofs.check.check_listed.Kinds as check-listed-kinds
+use Rattle.term_check.proofs.check.+check_args+check_bound+check_each+check_given+check_left+check_listed+check_member+check_members+check_states+check_target+check_targets+check_term+find_bound+find_given+find_states+try_binding.Lts-check_listed as check-listed-lts
 use Rattle.term_check.proofs.check.check_member.Reads as check-member
 use Rattle.term_check.proofs.check.check_member.Kinds as check-member-kinds
-use Rattle.term_check.proofs.check.+check_args+check_bound+check_each+check_given+check_left+check_member+check_members+check_states+check_target+check_targets+check_term+find_bound+find_given+find_states+try_binding.Lts-check_member as check-member-lts
+use Rattle.term_check.proofs.check.+check_args+check_bound+check_each+check_given+check_left+check_listed+check_member+check_members+check_states+check_target+check_targets+check_term+find_bound+find_given+find_states+try_binding.Lts-check_member as check-member-lts
 use Rattle.term_check.proofs.check.check_members.Reads as check-members
 use Rattle.term_check.proofs.check.check_members.Kinds as check-members-kinds
-use Rattle.term_check.proofs.check.+check_args+check_bound+check_each+check_given+check_left+check_member+check_members+check_states+check_target+check_targets+check_term+find_bound+find_given+find_states+try_binding.Lts-check_members as check-members-lts
+use Rattle.term_check.proofs.check.+check_args+check_bound+check_each+check_given+check_left+check_listed+check_member+check_members+check_states+check_target+check_targets+check_term+find_bound+find_given+find_states+try_binding.Lts-check_members as check-members-lts
 use Rattle.term_check.proofs.check.check_states.Reads as check-states
 use Rattle.term_check.proofs.check.check_states.Kinds as check-states-kinds
-use Rattle.term_check.proofs.check.+check_args+check_bound+check_each+check_given+check_left+check_member+check_members+check_states+check_target+check_targets+check_term+find_bound+find_given+find_states+try_binding.Lts-check_states as check-states-lts
+use Rattle.term_check.proofs.check.+check_args+check_bound+check_each+check_given+check_left+check_listed+check_member+check_members+check_states+check_target+check_targets+check_term+find_bound+find_given+find_states+try_binding.Lts-check_states as check-states-lts
 use Rattle.term_check.proofs.check.check_target.Reads as check-target
 use Rattle.term_check.proofs.check.check_target.Kinds as check-target-kinds
-use Rattle.term_check.proofs.check.+check_args+check_bound+check_each+check_given+check_left+check_member+check_members+check_states+check_target+check_targets+check_term+find_bound+find_given+find_states+try_binding.Lts-check_target as check-target-lts
+use Rattle.term_check.proofs.check.+check_args+check_bound+check_each+check_given+check_left+check_listed+check_member+check_members+check_states+check_target+check_targets+check_term+find_bound+find_given+find_states+try_binding.Lts-check_target as check-target-lts
 use Rattle.term_check.proofs.check.check_targets.Reads as check-targets
 use Rattle.term_check.proofs.check.check_targets.Kinds as check-targets-kinds
-use Rattle.term_check.proofs.check.+check_args+check_bound+check_each+check_given+check_left+check_member+check_members+check_states+check_target+check_targets+check_term+find_bound+find_given+find_states+try_binding.Lts-check_targets as check-targets-lts
+use Rattle.term_check.proofs.check.+check_args+check_bound+check_each+check_given+check_left+check_listed+check_member+check_members+check_states+check_target+check_targets+check_term+find_bound+find_given+find_states+try_binding.Lts-check_targets as check-targets-lts
 use Rattle.term_check.proofs.check.check_term.Reads as check-term
 use Rattle.term_check.proofs.check.check_term.Kinds as check-term-kinds
-use Rattle.term_check.proofs.check.+check_args+check_bound+check_each+check_given+check_left+check_member+check_members+check_states+check_target+check_targets+check_term+find_bound+find_given+find_states+try_binding.Lts-check_term as check-term-lts
+use Rattle.term_check.proofs.check.+check_args+check_bound+check_each+check_given+check_left+check_listed+check_member+check_members+check_states+check_target+check_targets+check_term+find_bound+find_given+find_states+try_binding.Lts-check_term as check-term-lts
 use Rattle.term_check.proofs.check.find_bound.Reads as find-bound
 use Rattle.term_check.proofs.check.find_bound.Kinds as find-bound-kinds
-use Rattle.term_check.proofs.check.+check_args+check_bound+check_each+check_given+check_left+check_member+check_members+check_states+check_target+check_targets+check_term+find_bound+find_given+find_states+try_binding.Lts-find_bound as find-bound-lts
+use Rattle.term_check.proofs.check.+check_args+check_bound+check_each+check_given+check_left+check_listed+check_member+check_members+check_states+check_target+check_targets+check_term+find_bound+find_given+find_states+try_binding.Lts-find_bound as find-bound-lts
 use Rattle.term_check.proofs.check.find_given.Reads as find-given
 use Rattle.term_check.proofs.check.find_given.Kinds as find-given-kinds
-use Rattle.term_check.proofs.check.+check_args+check_bound+check_each+check_given+check_left+check_member+check_members+check_states+check_target+check_targets+check_term+find_bound+find_given+find_states+try_binding.Lts-find_given as find-given-lts
+use Rattle.term_check.proofs.check.+check_args+check_bound+check_each+check_given+check_left+check_listed+check_member+check_members+check_states+check_target+check_targets+check_term+find_bound+find_given+find_states+try_binding.Lts-find_given as find-given-lts
 use Rattle.term_check.proofs.check.find_states.Reads as find-states
 use Rattle.term_check.proofs.check.find_states.Kinds as find-states-kinds
-use Rattle.term_check.proofs.check.+check_args+check_bound+check_each+check_given+check_left+check_member+check_members+check_states+check_target+check_targets+check_term+find_bound+find_given+find_states+try_binding.Lts-find_states as find-states-lts
+use Rattle.term_check.proofs.check.+check_args+check_bound+check_each+check_given+check_left+check_listed+check_member+check_members+check_states+check_target+check_targets+check_term+find_bound+find_given+find_states+try_binding.Lts-find_states as find-states-lts
 use Rattle.term_check.proofs.check.try_binding.Reads as try-binding
 use Rattle.term_check.proofs.check.try_binding.Kinds as try-binding-kinds
-use Rattle.term_check.proofs.check.+check_args+check_bound+check_each+check_given+check_left+check_member+check_members+check_states+check_target+check_targets+check_term+find_bound+find_given+find_states+try_binding.Lts-try_binding as try-binding-lts
+use Rattle.term_check.proofs.check.+check_args+check_bound+check_each+check_given+check_left+check_listed+check_member+check_members+check_states+check_target+check_targets+check_term+find_bound+find_given+find_states+try_binding.Lts-try_binding as try-binding-lts
 use Rattle.marks.proofs.next_in.Reads as next-in-reads
 use Rattle.tables.proofs.reading.arrows_of.Reads as arrows-of-reads
 use Rattle.tables.proofs.reading.group_of.Reads as group-of-reads
@@ -85,6 +88,7 @@ use Rattle.tables.proofs.reading.states_of.Reads as states-of-reads
 use Rattle.term_check.proofs.heads.alone.Reads as alone-reads
 use Rattle.term_check.proofs.heads.candidate.Reads as candidate-reads
 use Rattle.term_check.proofs.heads.goes_down.Reads as goes-down-reads
+use Rattle.term_check.proofs.heads.listed.Reads as listed-reads
 use Rattle.term_check.proofs.heads.look.Reads as look-reads
 use Rattle.term_check.proofs.heads.targets_for.Reads as targets-for-reads
 use Rattle.term_check.proofs.heads.wanted.Reads as wanted-reads
@@ -100,10 +104,10 @@ use Rattle.term_check.proofs.notes.number_in.Reads as number-in-reads
 use Rattle.term_check.proofs.parts.learn_in.Reads as learn-in-reads
 use Rattle.term_check.proofs.parts.note_in.Reads as note-in-reads
 use Rattle.term_check.proofs.parts.outlook_on.Reads as outlook-on-reads
-use Rattle.term_check.proofs.check.+check_args+check_bound+check_each+check_given+check_left+check_member+check_members+check_states+check_target+check_targets+check_term+find_bound+find_given+find_states+try_binding.{
+use Rattle.term_check.proofs.check.+check_args+check_bound+check_each+check_given+check_left+check_listed+check_member+check_members+check_states+check_target+check_targets+check_term+find_bound+find_given+find_states+try_binding.{
   statement,
 }
-use Rattle.term_check.proofs.check.+check_args+check_bound+check_each+check_given+check_left+check_member+check_members+check_states+check_target+check_targets+check_term+find_bound+find_given+find_states+try_binding.Tie.{
+use Rattle.term_check.proofs.check.+check_args+check_bound+check_each+check_given+check_left+check_listed+check_member+check_members+check_states+check_target+check_targets+check_term+find_bound+find_given+find_states+try_binding.Tie.{
   close,
 }
 
@@ -121,6 +125,9 @@ abbrev μ-check-given : Measures 3 check-given-kinds.ps ℕ
 
 abbrev μ-check-left : Measures 3 check-left-kinds.ps ℕ
 μ-check-left κs a = (18446744073709551616 - a .1 .1 .1 .0) * 16 + 7
+
+abbrev μ-check-listed : Measures 3 check-listed-kinds.ps ℕ
+μ-check-listed κs a = (18446744073709551616 - a .1 .1 .1 .0) * 16 + 3
 
 abbrev μ-check-member : Measures 3 check-member-kinds.ps ℕ
 μ-check-member κs a = (18446744073709551616 - a .1 .1 .1 .0) * 16 + 6
@@ -191,6 +198,18 @@ check-left-at t =
 abbrev check-left-below : ℕ → In 3 check-left-kinds.ps
 check-left-below t =
     and 3 check-left-kinds.ps (falls 3 check-left-kinds.ps _<_ μ-check-left t) check-left.Pre
+
+abbrev check-listed-at : ℕ → In 3 check-listed-kinds.ps
+check-listed-at t =
+    and 3 check-listed-kinds.ps (is 3 check-listed-kinds.ps μ-check-listed t) check-listed.Pre
+
+abbrev check-listed-below : ℕ → In 3 check-listed-kinds.ps
+check-listed-below t =
+    and
+    3
+    check-listed-kinds.ps
+    (falls 3 check-listed-kinds.ps _<_ μ-check-listed t)
+    check-listed.Pre
 
 abbrev check-member-at : ℕ → In 3 check-member-kinds.ps
 check-member-at t =
@@ -298,7 +317,7 @@ check-args-claims t =
 
 abbrev check-bound-claims : ℕ → check-bound-lts.Claims
 check-bound-claims t =
-    (number-in-reads.Asked, number-in-reads.Learnt, group-of-reads.Asked, group-of-reads.Learnt, head-hint-reads.Asked, head-hint-reads.Learnt, try-binding-below t, try-binding.Post, next-in-reads.Asked, next-in-reads.Learnt)
+    (head-hint-reads.Asked, head-hint-reads.Learnt, try-binding-below t, try-binding.Post, check-listed-below t, check-listed.Post)
 
 abbrev check-each-claims : ℕ → check-each-lts.Claims
 check-each-claims t =
@@ -311,6 +330,10 @@ check-given-claims t =
 abbrev check-left-claims : ℕ → check-left-lts.Claims
 check-left-claims t =
     (number-in-reads.Asked, number-in-reads.Learnt, node-of-reads.Asked, node-of-reads.Learnt, left-of-reads.Asked, left-of-reads.Learnt, lowest-reads.Asked, lowest-reads.Learnt, check-term-below t, check-term.Post, with-bit-reads.Asked, with-bit-reads.Learnt, learn-in-reads.Asked, learn-in-reads.Learnt, without-bit-reads.Asked, without-bit-reads.Learnt)
+
+abbrev check-listed-claims : ℕ → check-listed-lts.Claims
+check-listed-claims t =
+    (number-in-reads.Asked, number-in-reads.Learnt, group-of-reads.Asked, group-of-reads.Learnt, next-in-reads.Asked, next-in-reads.Learnt, listed-reads.Asked, listed-reads.Learnt, check-args-below t, check-args.Post, note-in-reads.Asked, note-in-reads.Learnt, hint-in-reads.Asked, hint-in-reads.Learnt)
 
 abbrev check-member-claims : ℕ → check-member-lts.Claims
 check-member-claims t =
@@ -350,7 +373,7 @@ find-states-claims t =
 
 abbrev try-binding-claims : ℕ → try-binding-lts.Claims
 try-binding-claims t =
-    (candidate-reads.Asked, candidate-reads.Learnt, check-args-below t, check-args.Post, note-in-reads.Asked, note-in-reads.Learnt, hint-in-reads.Asked, hint-in-reads.Learnt)
+    (candidate-reads.Asked, candidate-reads.Learnt, check-args-below t, check-args.Post, note-in-reads.Asked, note-in-reads.Learnt)
 
 abbrev check-args-Inv-loop : check-args-lts.InvT-loop
 check-args-Inv-loop t r w₀ at count ty base here₀ rest₀ left₀ w here rest left = (length w ≡ length w₀) × (at ≤ here) × ((memo′ users′ : List ℕ) (b : Bool) → ChecksArgs (caseOf t r) (answersOf r w) (usersOf r w) here left rest memo′ users′ b → ChecksArgs (caseOf t r) (answersOf r w₀) (usersOf r w₀) at count ty memo′ users′ b)
@@ -400,65 +423,26 @@ check-args-same-length-3 t c = c .before .loop .inv .0
 check-args-returns-3 : (t : ℕ) → check-args-lts.Need-returns-3 (check-args-claims t) (check-args-at t) check-args.Post check-args-Inv-loop check-args-μ-loop
 check-args-returns-3 t c = (c .before .loop .inv .0, c .before .loop .inv .2 _ _ _ (args-none _ _ _ (c .before .loop .here) _ _ (c .loop-test .left)))
 
-abbrev check-bound-Inv-loop : check-bound-lts.InvT-loop
-check-bound-Inv-loop t r w₀ at goal node row high from₀ c₀ w from c = (length w ≡ length w₀) × (node ≡ nodeAt t (baseIn r) at → node .tag ≡ 1 → Bound.Tried (caseOf t r) (answersOf r w₀) (usersOf r w₀) at goal node (answersOf r w) (usersOf r w) from c)
-
-abbrev check-bound-μ-loop : check-bound-lts.MeasureT-loop
-check-bound-μ-loop t r w₀ at goal node row high from₀ c₀ w from c = high + 1 - from
-
-check-bound-number-in-requires : (t : ℕ) → check-bound-lts.Need-number-in-requires (check-bound-claims t) (check-bound-at t) check-bound.Post check-bound-Inv-loop check-bound-μ-loop
-check-bound-number-in-requires t c κs = search needs
-
-check-bound-mul-row : (t : ℕ) → check-bound-lts.Need-mul-row (check-bound-claims t) (check-bound-at t) check-bound.Post check-bound-Inv-loop check-bound-μ-loop
-check-bound-mul-row t c = let p = row-fits (c .before .before .before .before .args .goal) (c .number-in .result) in omega arith
-
-check-bound-add-row : (t : ℕ) → check-bound-lts.Need-add-row (check-bound-claims t) (check-bound-at t) check-bound.Post check-bound-Inv-loop check-bound-μ-loop
-check-bound-add-row t c = let p = row-fits (c .before .before .before .before .args .goal) (c .number-in .result) in omega arith
-
-check-bound-add-group-of : (t : ℕ) → check-bound-lts.Need-add-group-of (check-bound-claims t) (check-bound-at t) check-bound.Post check-bound-Inv-loop check-bound-μ-loop
-check-bound-add-group-of t c = search needs
-
-check-bound-group-of-requires : (t : ℕ) → check-bound-lts.Need-group-of-requires (check-bound-claims t) (check-bound-at t) check-bound.Post check-bound-Inv-loop check-bound-μ-loop
-check-bound-group-of-requires t c κs = search needs
-
-check-bound-group-of-requires-2 : (t : ℕ) → check-bound-lts.Need-group-of-requires-2 (check-bound-claims t) (check-bound-at t) check-bound.Post check-bound-Inv-loop check-bound-μ-loop
-check-bound-group-of-requires-2 t c κs = search needs
-
-check-bound-add-if1 : (t : ℕ) → check-bound-lts.Need-add-if1 (check-bound-claims t) (check-bound-at t) check-bound.Post check-bound-Inv-loop check-bound-μ-loop
-check-bound-add-if1 t c = let h = c .group-of2 .ensures .1 in omega arith
-
-check-bound-head-hint-requires : (t : ℕ) → check-bound-lts.Need-head-hint-requires (check-bound-claims t) (check-bound-at t) check-bound.Post check-bound-Inv-loop check-bound-μ-loop
+check-bound-head-hint-requires : (t : ℕ) → check-bound-lts.Need-head-hint-requires (check-bound-claims t) (check-bound-at t) check-bound.Post
 check-bound-head-hint-requires t c κs = search needs
 
-check-bound-loop-holds : (t : ℕ) → check-bound-lts.Need-loop-holds (check-bound-claims t) (check-bound-at t) check-bound.Post check-bound-Inv-loop check-bound-μ-loop
-check-bound-loop-holds t c = (refl, λ ea et. tried-start _ _ _ _ _ _ _ _ (c .before .group-of2 .ensures .0))
+check-bound-try-binding-requires : (t : ℕ) → check-bound-lts.Need-try-binding-requires (check-bound-claims t) (check-bound-at t) check-bound.Post
+check-bound-try-binding-requires t c κs = let p = c .before .before .before .before .before .before .pre .0 in (omega arith, c .before .before .before .before .before .before .pre .1)
 
-check-bound-try-binding-requires : (t : ℕ) → check-bound-lts.Need-try-binding-requires (check-bound-claims t) (check-bound-at t) check-bound.Post check-bound-Inv-loop check-bound-μ-loop
-check-bound-try-binding-requires t c κs = let p = c .before .before .before .before .before .before .before .before .before .before .before .pre .0 in (omega arith, c .before .before .before .before .before .before .before .before .before .before .before .pre .1)
+check-bound-same-length : (t : ℕ) → check-bound-lts.Need-same-length (check-bound-claims t) (check-bound-at t) check-bound.Post
+check-bound-same-length t c = c .before .before .before .try-binding .ensures .0
 
-check-bound-same-length : (t : ℕ) → check-bound-lts.Need-same-length (check-bound-claims t) (check-bound-at t) check-bound.Post check-bound-Inv-loop check-bound-μ-loop
-check-bound-same-length t c = c .before .before .before .try-binding .ensures .0 ∙ c .before .before .before .before .before .before .loop .inv .0
+check-bound-returns : (t : ℕ) → check-bound-lts.Need-returns (check-bound-claims t) (check-bound-at t) check-bound.Post
+check-bound-returns t c = (c .before .before .before .try-binding .ensures .0, λ ea et. served _ ea et (c .before .before .before .try-binding .ensures .1) (c .if2 .taken))
 
-check-bound-returns : (t : ℕ) → check-bound-lts.Need-returns (check-bound-claims t) (check-bound-at t) check-bound.Post check-bound-Inv-loop check-bound-μ-loop
-check-bound-returns t c = (c .before .before .before .try-binding .ensures .0 ∙ c .before .before .before .before .before .before .loop .inv .0, λ ea et. tried-serves _ _ _ _ _ _ (c .before .before .before .before .before .before .loop .inv .1 ea et) _ _ _ ea et (c .before .before .before .try-binding .ensures .1) (c .if2 .taken))
+check-bound-check-listed-requires : (t : ℕ) → check-bound-lts.Need-check-listed-requires (check-bound-claims t) (check-bound-at t) check-bound.Post
+check-bound-check-listed-requires t c κs = let p = c .before .before .before .before .before .before .before .before .before .before .before .pre .0 in (omega arith, c .before .before .before .before .before .before .before .before .before .before .before .pre .1)
 
-check-bound-next-in-requires : (t : ℕ) → check-bound-lts.Need-next-in-requires (check-bound-claims t) (check-bound-at t) check-bound.Post check-bound-Inv-loop check-bound-μ-loop
-check-bound-next-in-requires t c κs = search needs
+check-bound-same-length-2 : (t : ℕ) → check-bound-lts.Need-same-length-2 (check-bound-claims t) (check-bound-at t) check-bound.Post
+check-bound-same-length-2 t c = c .before .before .check-listed .ensures .0 ∙ c .before .before .before .before .before .before .before .try-binding .ensures .0
 
-check-bound-add-from : (t : ℕ) → check-bound-lts.Need-add-from (check-bound-claims t) (check-bound-at t) check-bound.Post check-bound-Inv-loop check-bound-μ-loop
-check-bound-add-from t c = let w = c .next-in .ensures .within in let h = c .before .before .before .before .before .before .before .before .before .before .group-of .ensures .1 in omega arith
-
-check-bound-loop-less : (t : ℕ) → check-bound-lts.Need-loop-less (check-bound-claims t) (check-bound-at t) check-bound.Post check-bound-Inv-loop check-bound-μ-loop
-check-bound-loop-less t c = let h = c .before .before .before .before .before .before .loop-test .taken in let b = next-behind _ _ _ _ _ (c .next-in .ensures) h in omega arith
-
-check-bound-loop-again : (t : ℕ) → check-bound-lts.Need-loop-again (check-bound-claims t) (check-bound-at t) check-bound.Post check-bound-Inv-loop check-bound-μ-loop
-check-bound-loop-again t c = (c .before .before .before .before .try-binding .ensures .0 ∙ c .before .before .before .before .before .before .before .loop .inv .0, λ ea et. try-next _ _ _ _ _ _ (tried-fails _ _ _ _ _ _ (c .before .before .before .before .before .before .before .loop .inv .1 ea et) _ _ _ ea et (c .before .before .before .before .try-binding .ensures .1) (c .before .if2 .left)) _ _ _ _ (ap (λ k. (c .before .before .before .before .before .before .before .before .before .before .before .before .before .before .before .before .args .goal) % rowLimit * (k % wordsLimit)) (c .before .before .before .before .before .before .before .before .before .before .before .before .number-in .ensures .0)) (next-behind-sets _ testCells _ _ _ _ (c .next-in .ensures)) (omega arith))
-
-check-bound-same-length-2 : (t : ℕ) → check-bound-lts.Need-same-length-2 (check-bound-claims t) (check-bound-at t) check-bound.Post check-bound-Inv-loop check-bound-μ-loop
-check-bound-same-length-2 t c = c .before .loop .inv .0
-
-check-bound-returns-2 : (t : ℕ) → check-bound-lts.Need-returns-2 (check-bound-claims t) (check-bound-at t) check-bound.Post check-bound-Inv-loop check-bound-μ-loop
-check-bound-returns-2 t c = (c .before .loop .inv .0, λ ea et. tried-end _ _ _ _ _ _ (c .before .loop .inv .1 ea et) _ (c .before .before .before .before .group-of .ensures .0) (omega (arith, c .loop-test .left)) ea et)
+check-bound-returns-2 : (t : ℕ) → check-bound-lts.Need-returns-2 (check-bound-claims t) (check-bound-at t) check-bound.Post
+check-bound-returns-2 t c = (c .before .before .check-listed .ensures .0 ∙ c .before .before .before .before .before .before .before .try-binding .ensures .0, λ ea et. tells-on (c .before .before .before .before .before .before .before .try-binding .ensures .1 ea et .keeps) (c .before .before .check-listed .ensures .1 ea et))
 
 abbrev check-each-Inv-loop : check-each-lts.InvT-loop
 check-each-Inv-loop t r w₀ at ty closed many known₀ word₀ j₀ w known word j = (length w ≡ length w₀) × Asked (caseOf t r) (answersOf r w₀) (usersOf r w₀) at ty (answersOf r w) (usersOf r w) j × Recalled (caseOf t r) (answersOf r w₀) (usersOf r w₀) at ty (usersOf r w) word known
@@ -652,6 +636,84 @@ check-left-same-length-2 t c = c .before .before .learn-in2 .ensures .0 ∙ c .b
 check-left-returns-2 : (t : ℕ) → check-left-lts.Need-returns-2 (check-left-claims t) (check-left-at t) check-left.Post check-left-Inv-loop check-left-μ-loop
 check-left-returns-2 t c = (c .before .before .learn-in2 .ensures .0 ∙ c .before .before .before .before .before .loop .inv .0, λ m u f. all-moved _ _ _ _ _ _ _ _ _ (c .before .before .learn-in2 .ensures .1) (left-end _ _ _ _ _ (c .before .before .before .before .before .loop .inv .1 m u f) _ (closed-by _ (now (c .before .before .before .before .before .before .before .before .before .before .before .before .args .r)) _ _ _ (c .before .before .before .before .before .before .before .before .number-in .ensures .0) (c .before .before .before .before .before .before .before .node-of .ensures)) (c .before .before .before .before .loop-test .left) _ (c .before .before .learn-in2 .ensures .2)))
 
+abbrev check-listed-Inv-loop : check-listed-lts.InvT-loop
+check-listed-Inv-loop t r w₀ at goal node row high from₀ w from = (length w ≡ length w₀) × (node ≡ nodeAt t (baseIn r) at → node .tag ≡ 1 → Bound.Failed (caseOf t r) (answersOf r w₀) (usersOf r w₀) at goal node (answersOf r w) (usersOf r w) from)
+
+abbrev check-listed-μ-loop : check-listed-lts.MeasureT-loop
+check-listed-μ-loop t r w₀ at goal node row high from₀ w from = high - from
+
+check-listed-number-in-requires : (t : ℕ) → check-listed-lts.Need-number-in-requires (check-listed-claims t) (check-listed-at t) check-listed.Post check-listed-Inv-loop check-listed-μ-loop
+check-listed-number-in-requires t c κs = search needs
+
+check-listed-mul-row : (t : ℕ) → check-listed-lts.Need-mul-row (check-listed-claims t) (check-listed-at t) check-listed.Post check-listed-Inv-loop check-listed-μ-loop
+check-listed-mul-row t c = let p = row-fits (c .before .before .before .before .args .goal) (c .number-in .result) in omega arith
+
+check-listed-add-row : (t : ℕ) → check-listed-lts.Need-add-row (check-listed-claims t) (check-listed-at t) check-listed.Post check-listed-Inv-loop check-listed-μ-loop
+check-listed-add-row t c = let p = row-fits (c .before .before .before .before .args .goal) (c .number-in .result) in omega arith
+
+check-listed-add-group-of : (t : ℕ) → check-listed-lts.Need-add-group-of (check-listed-claims t) (check-listed-at t) check-listed.Post check-listed-Inv-loop check-listed-μ-loop
+check-listed-add-group-of t c = search needs
+
+check-listed-group-of-requires : (t : ℕ) → check-listed-lts.Need-group-of-requires (check-listed-claims t) (check-listed-at t) check-listed.Post check-listed-Inv-loop check-listed-μ-loop
+check-listed-group-of-requires t c κs = search needs
+
+check-listed-group-of-requires-2 : (t : ℕ) → check-listed-lts.Need-group-of-requires-2 (check-listed-claims t) (check-listed-at t) check-listed.Post check-listed-Inv-loop check-listed-μ-loop
+check-listed-group-of-requires-2 t c κs = search needs
+
+check-listed-loop-holds : (t : ℕ) → check-listed-lts.Need-loop-holds (check-listed-claims t) (check-listed-at t) check-listed.Post check-listed-Inv-loop check-listed-μ-loop
+check-listed-loop-holds t c = (refl, λ ea et. failed-start _ _ _ _ _ _ _ (c .group-of2 .ensures .0))
+
+check-listed-next-in-requires : (t : ℕ) → check-listed-lts.Need-next-in-requires (check-listed-claims t) (check-listed-at t) check-listed.Post check-listed-Inv-loop check-listed-μ-loop
+check-listed-next-in-requires t c κs = search needs
+
+check-listed-add-from : (t : ℕ) → check-listed-lts.Need-add-from (check-listed-claims t) (check-listed-at t) check-listed.Post check-listed-Inv-loop check-listed-μ-loop
+check-listed-add-from t c = let w = c .next-in .ensures .within in let h = c .before .before .before .before .group-of .ensures .1 in omega arith
+
+check-listed-same-length : (t : ℕ) → check-listed-lts.Need-same-length (check-listed-claims t) (check-listed-at t) check-listed.Post check-listed-Inv-loop check-listed-μ-loop
+check-listed-same-length t c = c .before .before .before .loop .inv .0
+
+check-listed-returns : (t : ℕ) → check-listed-lts.Need-returns (check-listed-claims t) (check-listed-at t) check-listed.Post check-listed-Inv-loop check-listed-μ-loop
+check-listed-returns t c = (c .before .before .before .loop .inv .0, λ ea et. failed-end _ _ _ _ _ _ (tried-none _ _ _ _ _ _ (try-next _ _ _ _ _ _ (c .before .before .before .loop .inv .1 ea et) _ _ ((c .before .next-in .result) + 1) _ (ap (λ k. (c .before .before .before .before .before .before .before .before .before .before .before .args .goal) % rowLimit * (k % wordsLimit)) (c .before .before .before .before .before .before .before .number-in .ensures .0)) (next-behind-sets _ testCells _ _ _ _ (c .before .next-in .ensures)) (omega arith)) (c .before .before .before .before .before .group-of .result) (let h = c .if1 .taken in omega arith)) _ (c .before .before .before .before .before .group-of .ensures .0) (omega arith) ea et)
+
+check-listed-listed-requires : (t : ℕ) → check-listed-lts.Need-listed-requires (check-listed-claims t) (check-listed-at t) check-listed.Post check-listed-Inv-loop check-listed-μ-loop
+check-listed-listed-requires t c κs = search needs
+
+check-listed-add-check-args : (t : ℕ) → check-listed-lts.Need-add-check-args (check-listed-claims t) (check-listed-at t) check-listed.Post check-listed-Inv-loop check-listed-μ-loop
+check-listed-add-check-args t c = let h = c .before .before .before .before .before .before .before .before .before .before .before .before .before .before .pre .1 in omega arith
+
+check-listed-check-args-requires : (t : ℕ) → check-listed-lts.Need-check-args-requires (check-listed-claims t) (check-listed-at t) check-listed.Post check-listed-Inv-loop check-listed-μ-loop
+check-listed-check-args-requires t c κs = let p = c .before .before .before .before .before .before .before .before .before .before .before .before .before .before .pre .0 in let h = c .before .before .before .before .before .before .before .before .before .before .before .before .before .before .pre .1 in (omega arith, Prim.tt)
+
+check-listed-note-in-requires : (t : ℕ) → check-listed-lts.Need-note-in-requires (check-listed-claims t) (check-listed-at t) check-listed.Post check-listed-Inv-loop check-listed-μ-loop
+check-listed-note-in-requires t c κs = search needs
+
+check-listed-hint-in-requires : (t : ℕ) → check-listed-lts.Need-hint-in-requires (check-listed-claims t) (check-listed-at t) check-listed.Post check-listed-Inv-loop check-listed-μ-loop
+check-listed-hint-in-requires t c κs = search needs
+
+check-listed-same-length-2 : (t : ℕ) → check-listed-lts.Need-same-length-2 (check-listed-claims t) (check-listed-at t) check-listed.Post check-listed-Inv-loop check-listed-μ-loop
+check-listed-same-length-2 t c = c .before .before .hint-in .ensures .0 ∙ c .before .before .before .before .before .before .note-in .ensures .0 ∙ c .before .before .before .before .before .before .before .before .before .before .before .check-args .ensures .0 ∙ c .before .before .before .before .before .before .before .before .before .before .before .before .before .before .before .before .before .before .loop .inv .0
+
+check-listed-returns-2 : (t : ℕ) → check-listed-lts.Need-returns-2 (check-listed-claims t) (check-listed-at t) check-listed.Post check-listed-Inv-loop check-listed-μ-loop
+check-listed-returns-2 t c = (c .before .before .hint-in .ensures .0 ∙ c .before .before .before .before .before .before .note-in .ensures .0 ∙ c .before .before .before .before .before .before .before .before .before .before .before .check-args .ensures .0 ∙ c .before .before .before .before .before .before .before .before .before .before .before .before .before .before .before .before .before .before .loop .inv .0, λ ea et. tried-serves _ _ _ _ _ _ (try-next _ _ _ _ _ _ (c .before .before .before .before .before .before .before .before .before .before .before .before .before .before .before .before .before .before .loop .inv .1 ea et) _ _ ((c .before .before .before .before .before .before .before .before .before .before .before .before .before .before .before .before .next-in .result) + 1) _ (ap (λ k. (c .before .before .before .before .before .before .before .before .before .before .before .before .before .before .before .before .before .before .before .before .before .before .before .before .before .before .args .goal) % rowLimit * (k % wordsLimit)) (c .before .before .before .before .before .before .before .before .before .before .before .before .before .before .before .before .before .before .before .before .before .before .number-in .ensures .0)) (next-behind-sets _ testCells _ _ _ _ (c .before .before .before .before .before .before .before .before .before .before .before .before .before .before .before .before .next-in .ensures)) (omega arith)) _ _ _ ea et (tries-moved _ _ _ _ _ _ _ _ _ _ _ _ (c .before .before .hint-in .ensures .1 ∙ c .before .before .before .before .before .before .note-in .ensures .1) (c .before .before .hint-in .ensures .2) (try-serves _ _ _ _ _ _ _ _ (c .before .before .before .before .before .before .before .before .before .before .before .before .before .before .listed .ensures (next-listed _ (now (c .before .before .before .before .before .before .before .before .before .before .before .before .before .before .before .before .before .before .before .before .before .before .before .before .before .before .args .r)) _ _ _ _ _ (c .before .before .before .before .before .before .before .before .before .before .before .before .before .before .before .before .before .before .before .before .before .before .number-in .ensures .0) (next-behind-sets _ testCells _ _ _ _ (c .before .before .before .before .before .before .before .before .before .before .before .before .before .before .before .before .next-in .ensures)) (c .before .before .before .before .before .before .before .before .before .before .before .before .before .before .before .if1 .left))) (c .before .before .before .before .before .before .before .before .before .before .before .before .before .if2 .taken) ((c .before .before .before .before .before .before .before .before .before .before .before .before .before .before .before .before .before .before .before .before .before .before .before .before .before .before .args .at) + 1) (omega arith) _ _ _ (c .before .before .before .before .before .before .before .before .before .before .before .check-args .ensures .1) (c .before .before .before .before .before .before .before .before .if3 .taken) _ (c .before .before .before .before .before .before .note-in .ensures .2))) refl)
+
+check-listed-loop-less : (t : ℕ) → check-listed-lts.Need-loop-less (check-listed-claims t) (check-listed-at t) check-listed.Post check-listed-Inv-loop check-listed-μ-loop
+check-listed-loop-less t c = let h = c .before .before .before .before .before .before .before .before .before .loop-test .taken in let b = next-behind _ _ _ _ _ (c .before .before .before .before .before .before .before .before .next-in .ensures) (omega arith) in omega arith
+
+check-listed-loop-again : (t : ℕ) → check-listed-lts.Need-loop-again (check-listed-claims t) (check-listed-at t) check-listed.Post check-listed-Inv-loop check-listed-μ-loop
+check-listed-loop-again t c = (c .before .before .before .check-args .ensures .0 ∙ c .before .before .before .before .before .before .before .before .before .before .loop .inv .0, λ ea et. tried-fails _ _ _ _ _ _ (try-next _ _ _ _ _ _ (c .before .before .before .before .before .before .before .before .before .before .loop .inv .1 ea et) _ _ ((c .before .before .before .before .before .before .before .before .next-in .result) + 1) _ (ap (λ k. (c .before .before .before .before .before .before .before .before .before .before .before .before .before .before .before .before .before .before .args .goal) % rowLimit * (k % wordsLimit)) (c .before .before .before .before .before .before .before .before .before .before .before .before .before .before .number-in .ensures .0)) (next-behind-sets _ testCells _ _ _ _ (c .before .before .before .before .before .before .before .before .next-in .ensures)) (omega arith)) _ _ _ ea et (try-lacks _ _ _ _ _ _ _ _ (c .before .before .before .before .before .before .listed .ensures (next-listed _ (now (c .before .before .before .before .before .before .before .before .before .before .before .before .before .before .before .before .before .before .args .r)) _ _ _ _ _ (c .before .before .before .before .before .before .before .before .before .before .before .before .before .before .number-in .ensures .0) (next-behind-sets _ testCells _ _ _ _ (c .before .before .before .before .before .before .before .before .next-in .ensures)) (c .before .before .before .before .before .before .before .if1 .left))) (c .before .before .before .before .before .if2 .taken) ((c .before .before .before .before .before .before .before .before .before .before .before .before .before .before .before .before .before .before .args .at) + 1) (omega arith) _ _ _ (c .before .before .before .check-args .ensures .1) (c .if3 .left)) refl)
+
+check-listed-loop-less-2 : (t : ℕ) → check-listed-lts.Need-loop-less-2 (check-listed-claims t) (check-listed-at t) check-listed.Post check-listed-Inv-loop check-listed-μ-loop
+check-listed-loop-less-2 t c = let h = c .before .before .before .before .loop-test .taken in let b = next-behind _ _ _ _ _ (c .before .before .before .next-in .ensures) (omega arith) in omega arith
+
+check-listed-loop-again-2 : (t : ℕ) → check-listed-lts.Need-loop-again-2 (check-listed-claims t) (check-listed-at t) check-listed.Post check-listed-Inv-loop check-listed-μ-loop
+check-listed-loop-again-2 t c = (c .before .before .before .before .before .loop .inv .0, λ ea et. tried-fails _ _ _ _ _ _ (try-next _ _ _ _ _ _ (c .before .before .before .before .before .loop .inv .1 ea et) _ _ ((c .before .before .before .next-in .result) + 1) _ (ap (λ k. (c .before .before .before .before .before .before .before .before .before .before .before .before .before .args .goal) % rowLimit * (k % wordsLimit)) (c .before .before .before .before .before .before .before .before .before .number-in .ensures .0)) (next-behind-sets _ testCells _ _ _ _ (c .before .before .before .next-in .ensures)) (omega arith)) _ _ _ ea et (try-misses _ _ _ _ _ _ _ _ (c .before .listed .ensures (next-listed _ (now (c .before .before .before .before .before .before .before .before .before .before .before .before .before .args .r)) _ _ _ _ _ (c .before .before .before .before .before .before .before .before .before .number-in .ensures .0) (next-behind-sets _ testCells _ _ _ _ (c .before .before .before .next-in .ensures)) (c .before .before .if1 .left))) (c .if2 .left)) refl)
+
+check-listed-same-length-3 : (t : ℕ) → check-listed-lts.Need-same-length-3 (check-listed-claims t) (check-listed-at t) check-listed.Post check-listed-Inv-loop check-listed-μ-loop
+check-listed-same-length-3 t c = c .before .loop .inv .0
+
+check-listed-returns-3 : (t : ℕ) → check-listed-lts.Need-returns-3 (check-listed-claims t) (check-listed-at t) check-listed.Post check-listed-Inv-loop check-listed-μ-loop
+check-listed-returns-3 t c = (c .before .loop .inv .0, λ ea et. failed-end _ _ _ _ _ _ (c .before .loop .inv .1 ea et) _ (c .before .before .before .group-of .ensures .0) (c .loop-test .left) ea et)
+
 check-member-returns : (t : ℕ) → check-member-lts.Need-returns (check-member-claims t) (check-member-at t) check-member.Post
 check-member-returns t c = (refl, term-past _ _ _ _ _ (c .if1 .taken))
 
@@ -707,7 +769,7 @@ check-member-same-length-4 : (t : ℕ) → check-member-lts.Need-same-length-4 (
 check-member-same-length-4 t c = c .before .before .note-in .ensures .0 ∙ c .before .before .before .before .before .before .before .check-args .ensures .0
 
 check-member-returns-5 : (t : ℕ) → check-member-lts.Need-returns-5 (check-member-claims t) (check-member-at t) check-member.Post
-check-member-returns-5 t c = (c .before .before .note-in .ensures .0 ∙ c .before .before .before .before .before .before .before .check-args .ensures .0, served _ (node-by _ (now (c .before .before .before .before .before .before .before .before .before .before .before .before .before .before .before .before .before .before .before .before .before .args .r)) _ _ _ (c .before .before .before .before .before .before .before .before .before .before .before .before .before .before .before .before .number-in .ensures .0) (c .before .before .before .before .before .before .before .before .before .before .before .before .before .before .before .node-of .ensures)) (c .before .before .before .before .before .before .before .before .before .before .before .before .before .if2 .left) (tries-moved _ _ _ _ _ _ _ _ _ _ _ _ (c .before .before .note-in .ensures .1) refl (try-serves _ _ _ _ _ _ _ _ (c .before .before .before .before .before .before .before .before .before .before .candidate .ensures) (c .before .before .before .before .before .before .before .before .before .if3 .left) ((c .before .before .before .before .before .before .before .before .before .before .before .before .before .before .before .before .before .before .before .before .before .args .at) + 1) (omega arith) _ _ _ (c .before .before .before .before .before .before .before .check-args .ensures .1) (not-false _ (c .before .before .before .before .if4 .left)) _ (c .before .before .note-in .ensures .2))))
+check-member-returns-5 t c = (c .before .before .note-in .ensures .0 ∙ c .before .before .before .before .before .before .before .check-args .ensures .0, served _ (node-by _ (now (c .before .before .before .before .before .before .before .before .before .before .before .before .before .before .before .before .before .before .before .before .before .args .r)) _ _ _ (c .before .before .before .before .before .before .before .before .before .before .before .before .before .before .before .before .number-in .ensures .0) (c .before .before .before .before .before .before .before .before .before .before .before .before .before .before .before .node-of .ensures)) (c .before .before .before .before .before .before .before .before .before .before .before .before .before .if2 .left) (tries-moved _ _ _ _ _ _ _ _ _ _ _ _ (c .before .before .note-in .ensures .1) refl (try-serves _ _ _ _ _ _ _ _ (c .before .before .before .before .before .before .before .before .before .before .candidate .ensures) (c .before .before .before .before .before .before .before .before .before .if3 .left) ((c .before .before .before .before .before .before .before .before .before .before .before .before .before .before .before .before .before .before .before .before .before .args .at) + 1) (omega arith) _ _ _ (c .before .before .before .before .before .before .before .check-args .ensures .1) (not-false _ (c .before .before .before .before .if4 .left)) _ (c .before .before .note-in .ensures .2))) refl)
 
 check-members-states-of-requires : (t : ℕ) → check-members-lts.Need-states-of-requires (check-members-claims t) (check-members-at t) check-members.Post
 check-members-states-of-requires t c κs = search needs
@@ -1099,24 +1161,22 @@ try-binding-returns-2 t c = (c .before .before .before .check-args .ensures .0, 
 try-binding-note-in-requires : (t : ℕ) → try-binding-lts.Need-note-in-requires (try-binding-claims t) (try-binding-at t) try-binding.Post
 try-binding-note-in-requires t c κs = search needs
 
-try-binding-hint-in-requires : (t : ℕ) → try-binding-lts.Need-hint-in-requires (try-binding-claims t) (try-binding-at t) try-binding.Post
-try-binding-hint-in-requires t c κs = search needs
-
 try-binding-same-length-2 : (t : ℕ) → try-binding-lts.Need-same-length-2 (try-binding-claims t) (try-binding-at t) try-binding.Post
-try-binding-same-length-2 t c = c .before .before .hint-in .ensures .0 ∙ c .before .before .before .before .before .before .note-in .ensures .0 ∙ c .before .before .before .before .before .before .before .before .before .before .before .check-args .ensures .0
+try-binding-same-length-2 t c = c .before .before .note-in .ensures .0 ∙ c .before .before .before .before .before .before .before .check-args .ensures .0
 
 try-binding-returns-3 : (t : ℕ) → try-binding-lts.Need-returns-3 (try-binding-claims t) (try-binding-at t) try-binding.Post
-try-binding-returns-3 t c = (c .before .before .hint-in .ensures .0 ∙ c .before .before .before .before .before .before .note-in .ensures .0 ∙ c .before .before .before .before .before .before .before .before .before .before .before .check-args .ensures .0, tries-moved _ _ _ _ _ _ _ _ _ _ _ _ (c .before .before .hint-in .ensures .1 ∙ c .before .before .before .before .before .before .note-in .ensures .1) (c .before .before .hint-in .ensures .2) (try-serves _ _ _ _ _ _ _ _ (c .before .before .before .before .before .before .before .before .before .before .before .before .before .before .candidate .ensures) (c .before .before .before .before .before .before .before .before .before .before .before .before .before .if1 .left) ((c .before .before .before .before .before .before .before .before .before .before .before .before .before .before .before .before .before .before .args .at) + 1) (omega arith) _ _ _ (c .before .before .before .before .before .before .before .before .before .before .before .check-args .ensures .1) (not-false _ (c .before .before .before .before .before .before .before .before .if2 .left)) _ (c .before .before .before .before .before .before .note-in .ensures .2)))
+try-binding-returns-3 t c = (c .before .before .note-in .ensures .0 ∙ c .before .before .before .before .before .before .before .check-args .ensures .0, tries-moved _ _ _ _ _ _ _ _ _ _ _ _ (c .before .before .note-in .ensures .1) refl (try-serves _ _ _ _ _ _ _ _ (c .before .before .before .before .before .before .before .before .before .before .candidate .ensures) (c .before .before .before .before .before .before .before .before .before .if1 .left) ((c .before .before .before .before .before .before .before .before .before .before .before .before .before .before .args .at) + 1) (omega arith) _ _ _ (c .before .before .before .before .before .before .before .check-args .ensures .1) (not-false _ (c .before .before .before .before .if2 .left)) _ (c .before .before .note-in .ensures .2)))
 
-pub +check-args+check-bound+check-each+check-given+check-left+check-member+check-members+check-states+check-target+check-targets+check-term+find-bound+find-given+find-states+try-binding-spec :
+pub +check-args+check-bound+check-each+check-given+check-left+check-listed+check-member+check-members+check-states+check-target+check-targets+check-term+find-bound+find-given+find-states+try-binding-spec :
     {M : Type 1} → statement M
-+check-args+check-bound+check-each+check-given+check-left+check-member+check-members+check-states+check-target+check-targets+check-term+find-bound+find-given+find-states+try-binding-spec =
++check-args+check-bound+check-each+check-given+check-left+check-listed+check-member+check-members+check-states+check-target+check-targets+check-term+find-bound+find-given+find-states+try-binding-spec =
     close
     μ-check-args
     μ-check-bound
     μ-check-each
     μ-check-given
     μ-check-left
+    μ-check-listed
     μ-check-member
     μ-check-members
     μ-check-states
@@ -1149,24 +1209,11 @@ pub +check-args+check-bound+check-each+check-given+check-left+check-member+check
     (λ t. check-bound-lts.spec (check-bound-claims t)
     (check-bound-at t)
     check-bound.Post
-    check-bound-Inv-loop
-    check-bound-μ-loop
-    (check-bound-number-in-requires t)
-    (check-bound-mul-row t)
-    (check-bound-add-row t)
-    (check-bound-add-group-of t)
-    (check-bound-group-of-requires t)
-    (check-bound-group-of-requires-2 t)
-    (check-bound-add-if1 t)
     (check-bound-head-hint-requires t)
-    (check-bound-loop-holds t)
     (check-bound-try-binding-requires t)
     (check-bound-same-length t)
     (check-bound-returns t)
-    (check-bound-next-in-requires t)
-    (check-bound-add-from t)
-    (check-bound-loop-less t)
-    (check-bound-loop-again t)
+    (check-bound-check-listed-requires t)
     (check-bound-same-length-2 t)
     (check-bound-returns-2 t))
     (λ t. check-each-lts.spec (check-each-claims t)
@@ -1242,6 +1289,35 @@ pub +check-args+check-bound+check-each+check-given+check-left+check-member+check
     (check-left-learn-in-requires-2 t)
     (check-left-same-length-2 t)
     (check-left-returns-2 t))
+    (λ t. check-listed-lts.spec (check-listed-claims t)
+    (check-listed-at t)
+    check-listed.Post
+    check-listed-Inv-loop
+    check-listed-μ-loop
+    (check-listed-number-in-requires t)
+    (check-listed-mul-row t)
+    (check-listed-add-row t)
+    (check-listed-add-group-of t)
+    (check-listed-group-of-requires t)
+    (check-listed-group-of-requires-2 t)
+    (check-listed-loop-holds t)
+    (check-listed-next-in-requires t)
+    (check-listed-add-from t)
+    (check-listed-same-length t)
+    (check-listed-returns t)
+    (check-listed-listed-requires t)
+    (check-listed-add-check-args t)
+    (check-listed-check-args-requires t)
+    (check-listed-note-in-requires t)
+    (check-listed-hint-in-requires t)
+    (check-listed-same-length-2 t)
+    (check-listed-returns-2 t)
+    (check-listed-loop-less t)
+    (check-listed-loop-again t)
+    (check-listed-loop-less-2 t)
+    (check-listed-loop-again-2 t)
+    (check-listed-same-length-3 t)
+    (check-listed-returns-3 t))
     (λ t. check-member-lts.spec (check-member-claims t)
     (check-member-at t)
     check-member.Post
@@ -1421,6 +1497,5 @@ pub +check-args+check-bound+check-each+check-given+check-left+check-member+check
     (try-binding-same-length t)
     (try-binding-returns-2 t)
     (try-binding-note-in-requires t)
-    (try-binding-hint-in-requires t)
     (try-binding-same-length-2 t)
     (try-binding-returns-3 t)
