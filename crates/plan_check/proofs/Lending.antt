@@ -5,8 +5,6 @@ use native.Mathlib.Nat.{mul-le-mul, max-le}
 use mathlib.Core.Path.{_≡_, refl}
 use mathlib.Core.Bool.{Bool, true, false}
 use mathlib.Core.List.{List, [], _∷_}
-use borrow.Author.Tests.{leb-true}
-use lib.Dec.{leb}
 use lib.ListN.{length, getD, replicate}
 use Rattle.scheme.specs.Lists.{any}
 use Rattle.scheme.specs.Reduction.{Plan}
@@ -105,11 +103,11 @@ module _ {file index counts ends lent : List ℕ} where
       }
 
   -- a frame that has room for the nodes, types and bindings of the file, by its length and the counts
-  pub case-judged : {nodes types bindings many total : ℕ} → length file / nodeBytes ≤ nodes → leb many types ≡ true → leb total bindings ≡ true → many ≡ getD counts 7 0 → total ≡ getD counts 8 0
+  pub case-judged : {nodes types bindings many total : ℕ} → length file / nodeBytes ≤ nodes → many ≤ types → total ≤ bindings → many ≡ getD counts 7 0 → total ≡ getD counts 8 0
       → {marks : List ℕ} {accepted : Bool} {kept offered rounds : ℕ} {v : Verdict} → JudgesWithin nodes types bindings file index counts ends lent marks accepted kept offered rounds
       → v ≡ ofBindings accepted kept offered rounds → JudgesBindingCase file index counts ends lent marks v
   unfolding number
-  case-judged {types = types} {bindings} {many} {total} n t b et eb judges e =
+  case-judged n t b et eb judges e =
       record {
         accepted = _;
         kept = _;
@@ -119,7 +117,7 @@ module _ {file index counts ends lent : List ℕ} where
             let room = file-room file ok in
             let counted-types = known .entries Kind.type .counted in
             let counted-bindings = known .entries Kind.binding .counted in
-            judges .judged (omega arith) (omega (arith, leb-true many types t)) (omega (arith, leb-true total bindings b)) lens known ok;
+            judges .judged (omega arith) (omega arith) (omega arith) lens known ok;
         is-verdict = e;
       }
 

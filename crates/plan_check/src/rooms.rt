@@ -20,24 +20,17 @@ ghost use mathlib.Core.Bool.{true};
 ghost use Prim.Native.Nat.{_≤_};
 ghost use Rattle.plan_check.specs.Promises.{HasRoom};
 
-// Whether a file with so many nodes, types and bindings has room where there is room for so many.
-fn within(
-    nodes: usize,
-    types: usize,
-    bindings: usize,
-    most_nodes: usize,
-    most_types: usize,
-    most_bindings: usize,
-) -> bool
-    ensures { λ r. ⌜ (r ≡ true → (nodes ≤ most_nodes) × (types ≤ most_types) × (bindings ≤ most_bindings)) ⌝ }
+// Whether there is room for so many nodes, types and bindings where there is room for n nodes, m types and b bindings.
+fn within(nodes: usize, types: usize, bindings: usize, n: usize, m: usize, b: usize) -> bool
+    ensures { λ r. ⌜ (r ≡ true → (nodes ≤ n) × (types ≤ m) × (bindings ≤ b)) ⌝ }
 {
-    if most_nodes < nodes {
+    if n < nodes {
         return false;
     }
-    if most_types < types {
+    if m < types {
         return false;
     }
-    bindings <= most_bindings
+    bindings <= b
 }
 
 // Whether a frame has room for so many nodes, types and bindings; the last one has room for every file.
