@@ -300,9 +300,6 @@ pub const HEAD_HINTS_AT: usize = HINTS / 2;
 
 pub const HINT_STRIDE: usize = 61;
 
-// A nonterminal of no more bindings is gone through without a hint.
-pub const FEW: usize = 8;
-
 // The frames of a binding case, the smallest first; behind these the one that has room for every file.
 pub const TINY_FRAME: usize = 0;
 
