@@ -75,9 +75,9 @@ adds w k =
           let e : shifted (k % 32) ≡ 2 ^ k = ap shifted low ∙ shifted-is k (omega arith) in
           subst (λ x. bitOr w x < 65536) (sym e) (or-lt 16 w (2 ^ k) h p);
       put = λ l. subst (λ j. bitOf j (bitOr w (shifted (k % 32))) ≡ 1) (low l) (put-same w (k % 32) (omega arith));
-      grows = λ l q h. put-grows w (k % 32) (omega arith) q h;
+      grows = λ q h. put-grows w (k % 32) (omega arith) q h;
       only = λ l q h. subst (λ j. (bitOf q w ≡ 1) ⊎ (q ≡ j)) (low l) (put-only w (k % 32) (omega arith) q h);
     }
   where
-    low : k < 16 → k % 32 ≡ k
+    low : k < 32 → k % 32 ≡ k
     low l = omega arith

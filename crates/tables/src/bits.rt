@@ -1,4 +1,4 @@
-// A set of at most 16 numbers as the bits of a number.
+// A set of numbers below 32 as the bits of a word.
 use index::layout::WORD;
 ghost use Rattle.tables.specs.Frames.{Adds};
 

@@ -1,7 +1,6 @@
 // Sets of goals below 32 as the bits of a word.
 use index::layout::WORD;
-ghost use mathlib.Core.Path.{_≡_};
-ghost use Rattle.term_check.specs.masks.Masks.{HasBit, Lowest, Puts, TakesOut, Leaves};
+ghost use Rattle.term_check.specs.masks.Masks.{HasBit, Lowest, TakesOut, Leaves};
 
 // Whether a word has bit k.
 pub fn has_bit(word: u32, k: usize) -> bool
@@ -15,13 +14,6 @@ pub fn lowest(word: u32) -> usize
     ensures { λ r. ⌜ Lowest word r ⌝ }
 {
     u32::trailing_zeros(word) as usize
-}
-
-// A word with bit k put in.
-pub fn with_bit(word: u32, k: usize) -> u32
-    ensures { λ r. ⌜ Puts word k r ⌝ }
-{
-    word | (1u32 << ((k % WORD) as u32))
 }
 
 // A word with bit k taken out.

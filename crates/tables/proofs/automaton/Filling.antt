@@ -36,11 +36,11 @@ presents-none = record { upTo = omega arith; small = omega arith; in-set = λ p 
 module _ {index : List ℕ} {c q r : ℕ} (so : PresentsTo index c q r) (h : q < maxStates) (l : c < maxConstructors) (place : ℕ) (is : IsPlaceIn index q c place) where
   pub presents-put : (place ≡ 0 → ⊥) → (r′ : ℕ) → Adds r q r′ → PresentsTo index c (q + 1) r′
   presents-put ne r′ put =
-      record { upTo = omega arith; small = put .small (so .small) h; in-set = λ p k d. there p k d (ℕ-discrete p q); only = λ p e. whose p (put .only h p e) }
+      record { upTo = omega arith; small = put .small (so .small) h; in-set = λ p k d. there p k d (ℕ-discrete p q); only = λ p e. whose p (put .only (omega arith) p e) }
     where
       there : (p : ℕ) → p < q + 1 → (placeIn index p c ≡ 0 → ⊥) → Dec (p ≡ q) → bitOf p r′ ≡ 1
-      there p k d (yes z) = subst (λ x. bitOf x r′ ≡ 1) (sym z) (put .put h)
-      there p k d (no z) = let y : (p ≡ q → ⊥) = z in put .grows h p (so .in-set p (omega arith) d)
+      there p k d (yes z) = subst (λ x. bitOf x r′ ≡ 1) (sym z) (put .put (omega arith))
+      there p k d (no z) = let y : (p ≡ q → ⊥) = z in put .grows p (so .in-set p (omega arith) d)
 
       whose : (p : ℕ) → (bitOf p r ≡ 1) ⊎ (p ≡ q) → placeIn index p c ≡ 0 → ⊥
       whose p (inl e) f = so .only p e f

@@ -78,11 +78,11 @@ arrows-none = record { few = omega arith; none = λ e j h. absurd (omega arith) 
 
 module _ {t : List ℕ} {g j r : ℕ} (so : StatesAmong t g j r) (x : ℕ) (ex : memberOf t g j ≡ x) where
   among-put : x < maxStates → (r′ : ℕ) → Adds r x r′ → StatesAmong t g (j + 1) r′
-  among-put l r′ is = record { small = is .small (so .small) l; in-set = λ i k m. there i k m (ℕ-discrete i j); only = λ q e. whose q (is .only l q e) }
+  among-put l r′ is = record { small = is .small (so .small) l; in-set = λ i k m. there i k m (ℕ-discrete i j); only = λ q e. whose q (is .only (omega arith) q e) }
     where
       there : (i : ℕ) → i < j + 1 → memberOf t g i < maxStates → Dec (i ≡ j) → bitOf (memberOf t g i) r′ ≡ 1
-      there i k m (yes z) = subst (λ y. bitOf y r′ ≡ 1) (sym ex ∙ ap (memberOf t g) (sym z)) (is .put l)
-      there i k m (no z) = let y : (i ≡ j → ⊥) = z in is .grows l (memberOf t g i) (so .in-set i (omega arith) m)
+      there i k m (yes z) = subst (λ y. bitOf y r′ ≡ 1) (sym ex ∙ ap (memberOf t g) (sym z)) (is .put (omega arith))
+      there i k m (no z) = let y : (i ≡ j → ⊥) = z in is .grows (memberOf t g i) (so .in-set i (omega arith) m)
 
       whose : (q : ℕ) → (bitOf q r ≡ 1) ⊎ (q ≡ x) → (i : ℕ) × (i < j + 1) × (memberOf t g i ≡ q)
       whose q (inl e) = let (i, k, f) = so .only q e in (i, omega arith, f)

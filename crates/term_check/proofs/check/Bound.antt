@@ -21,6 +21,7 @@ use Rattle.term_check.specs.Worlds.{Case, World, Has, Setting, Ready, In
 use Rattle.term_check.proofs.Goals.{goal-below}
 use Rattle.term_check.proofs.Rules.{bound-has, bound-had}
 use Rattle.term_check.proofs.Places.{behind-head}
+use Rattle.term_check.proofs.heads.Candidates.{in-set}
 use Rattle.term_check.proofs.check.Keeping.{includes-less, keeps-all, keeps-on, keeps-note, ready-on}
 
 -- the head of the term at a node, by the node's tag and number
@@ -165,7 +166,7 @@ served at ea et told e = record { keeps = told ea et .keeps; yes = λ y. told ea
 
 -- what is found below the end is in the set of the goal
 pub next-listed : (sets test : List ℕ) (goal k from high c : ℕ) → k ≡ getD test testWords 0 → FindsNext sets (goal % rowLimit * (k % wordsLimit)) from high c → c < high → In sets (goal % rowLimit * wordsIn test) c
-next-listed sets test goal k from high c e next h = subst (λ m. In sets (goal % rowLimit * (m % wordsLimit)) c) e (next .found h .1)
+next-listed sets test goal k from high c e next h = in-set sets test goal c k e (next .found h .1)
 
 -- what is found stands behind where the search began
 pub next-behind : (words : List ℕ) (row from high c : ℕ) → FindsNext words row from high c → from ≤ high → from ≤ c

@@ -19,7 +19,8 @@ use Rattle.answers.specs.declared.Outlook.{Outlook}
 use Rattle.tables.specs.reading.Cells.{manyOf, memberOf, statesOf, arrowsOf}
 use Rattle.tables.specs.Facts.{Goal, of-state, At}
 use Rattle.term_check.specs.notes.Notes.{wideIn, stampOf}
-use Rattle.term_check.specs.masks.Masks.{HasBit, Puts, Leaves}
+use Rattle.tables.specs.Frames.{Adds}
+use Rattle.term_check.specs.masks.Masks.{HasBit, Leaves}
 use Rattle.term_check.specs.heads.Heads.{Seen}
 use Rattle.term_check.specs.Worlds.{Case, World, Has, Ready, Includes, Yes, No, Keeps, ChecksTerm, ChecksMembers, MembersNo, ChecksAll, LooksOn, shut}
 use Rattle.term_check.proofs.Goals.{state-below}
@@ -200,7 +201,7 @@ module _ (x : Case) (memo users : List ℕ) (at g : ℕ) where
         recalled-yes d e j′ ej = had-more memo′ users′ (keeps-all x memo′ users′) (λ w r. is .yes w r goal (sym ew) (d .yes e)) j′ ej
 
       -- it is checked, and what was found is remembered
-      module _ (closed : Bool) (ec : closed ≡ shut x at) (bit : ℕ) (puts : Puts 0 (goal % wordBits) bit) (memo″ users″ : List ℕ) (b : Bool) (told : ChecksTerm x memo′ users′ at goal memo″ users″ b) (memo‴ : List ℕ) where
+      module _ (closed : Bool) (ec : closed ≡ shut x at) (bit : ℕ) (puts : Adds 0 (goal % wordBits) bit) (memo″ users″ : List ℕ) (b : Bool) (told : ChecksTerm x memo′ users′ at goal memo″ users″ b) (memo‴ : List ℕ) where
         only : (h : ℕ) → h / wordBits ≡ goal / wordBits → bitOf (h % wordBits) bit ≡ 1 → goal ≡ h
         only h e o = go (puts .only (omega arith) (h % wordBits) o)
           where

@@ -9,7 +9,8 @@ use Rattle.index.specs.layout.Layout.{wordBits}
 use Rattle.marks.specs.Marks.{bitOf}
 use Rattle.marks.proofs.Bits.{zero-bit}
 use Rattle.answers.specs.Answers.{Learns}
-use Rattle.term_check.specs.masks.Masks.{Lowest, Puts, TakesOut, Leaves}
+use Rattle.tables.specs.Frames.{Adds}
+use Rattle.term_check.specs.masks.Masks.{Lowest, TakesOut, Leaves}
 use Rattle.term_check.specs.notes.Notes.{wideIn, stampOf}
 use Rattle.term_check.specs.Worlds.{Case, World, Ready, Yes, No, Keeps, ChecksTerm, ChecksAll, Finds, shut}
 use Rattle.term_check.proofs.check.Keeping.{yes-more, ready-on, keeps-all, keeps-on, keeps-learn}
@@ -24,7 +25,7 @@ module _ (x : Case) (memo users : List ℕ) (at : ℕ) where
     finds-on = record { keeps = keeps-on (f .keeps) k; found = λ w r q b. yes-more x w users′ users″ (k .grows) at q (f .found w r q b) }
 
     -- one more
-    pub finds-more : (q had′ : ℕ) → q < wordBits → Puts had q had′ → ((w : World) → Ready x w memo′ users′ → Yes x w users″ at q) → Finds x memo users at memo″ users″ had′
+    pub finds-more : (q had′ : ℕ) → q < wordBits → Adds had q had′ → ((w : World) → Ready x w memo′ users′ → Yes x w users″ at q) → Finds x memo users at memo″ users″ had′
     finds-more q had′ l puts yes-q = record { keeps = keeps-on (f .keeps) k; found = λ w r p b. go w r p (puts .only l p b) }
       where
         go : (w : World) → Ready x w memo users → (p : ℕ) → (bitOf p had ≡ 1) ⊎ (p ≡ q) → Yes x w users″ at p
@@ -63,7 +64,7 @@ module _ (x : Case) (memo users : List ℕ) (at asked : ℕ) where
 
     -- the next one is checked
     module _ (nz : left ≡ 0 → ⊥) (q : ℕ) (is : Lowest left q) (memo″ users″ : List ℕ) (b : Bool) (told : ChecksTerm x memo′ users′ at q memo″ users″ b) where
-      pub left-more : b ≡ true → (had′ left′ : ℕ) → Puts had q had′ → TakesOut left q left′ → Left memo″ users″ had′ left′
+      pub left-more : b ≡ true → (had′ left′ : ℕ) → Adds had q had′ → TakesOut left q left′ → Left memo″ users″ had′ left′
       left-more e had′ left′ puts out =
           record {
             finds = finds-more x memo users at (s .finds) (told .keeps) q had′ (is .within nz) puts (told .yes e);
@@ -79,7 +80,7 @@ module _ (x : Case) (memo users : List ℕ) (at asked : ℕ) where
               by (inl k) = inl k
               by (inr f) = inr (subst (λ k. bitOf k had′ ≡ 1) (sym f) (puts .put (is .within nz)))
 
-      pub left-fails : b ≡ false → (known : ℕ) → Puts had q known → (memo‴ : List ℕ) → Learns memo″ (wideIn (x .test)) (stampOf (x .test) closed) at 0 known had memo‴ → ChecksAll x memo users at asked memo‴ users″ false
+      pub left-fails : b ≡ false → (known : ℕ) → Adds had q known → (memo‴ : List ℕ) → Learns memo″ (wideIn (x .test)) (stampOf (x .test) closed) at 0 known had memo‴ → ChecksAll x memo users at asked memo‴ users″ false
       left-fails e known puts memo‴ learns =
           record {
             keeps =

@@ -20,8 +20,8 @@ pub row-fits : (g k : ℕ) → g % rowLimit * (k % wordsLimit) ≤ 128961
 row-fits g k = mul-le-mul {n₁ = g % rowLimit} {m₁ = k % wordsLimit} {n₂ = 2047} {m₂ = 63} (omega arith) (omega arith)
 
 -- a binding that is in the set of a goal, by the numbers of the test
-pub in-set : (sets test : List ℕ) (goal c m : ℕ) (b : Bool) → m ≡ getD test testWords 0 → Decides sets (goal % rowLimit * (m % wordsLimit)) c b → b ≡ true → In sets (goal % rowLimit * wordsIn test) c
-in-set sets test goal c m b e d t = subst (λ k. In sets (goal % rowLimit * (k % wordsLimit)) c) e (d .yes t)
+pub in-set : (sets test : List ℕ) (goal c m : ℕ) → m ≡ getD test testWords 0 → In sets (goal % rowLimit * (m % wordsLimit)) c → In sets (goal % rowLimit * wordsIn test) c
+in-set sets test goal c m e i = subst (λ k. In sets (goal % rowLimit * (k % wordsLimit)) c) e i
 
 module _ (x : Case) (number n goal c : ℕ) where
   missing : ((w : World) → Setting x w → (σ : Ty) → Goal (w .rs) goal σ → n < 256 → Leads w number n σ c → ⊥) → IsCandidate x number n goal c noNumber

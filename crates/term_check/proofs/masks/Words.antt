@@ -4,13 +4,13 @@ use native.Mathlib.Omega.{arith}
 use mathlib.Core.Path.{_≡_, ap, subst, _∙_}
 use mathlib.Core.Logic.{_⊎_, inl, inr}
 use borrow.Author.Tests.{eqb-true, eqb-false}
-use lib.Bits.{bitAnd, bitOr, and-le-l}
+use lib.Bits.{bitAnd, and-le-l}
 use lib.Count.{trailingZeros}
 use lib.Dec.{eqb}
 use Rattle.marks.specs.Marks.{bitOf}
 use Rattle.marks.proofs.Bits.{bit-small, bit-two, zero-bit, and-bit, minus-bit, shifted, zeros-end, zeros-few}
-use Rattle.marks.proofs.Sets.{shifted-same, put-same, put-grows, put-only, out-fewer, out-stays}
-use Rattle.term_check.specs.masks.Masks.{HasBit, Lowest, Puts, TakesOut, Leaves}
+use Rattle.marks.proofs.Sets.{shifted-same, out-fewer, out-stays}
+use Rattle.term_check.specs.masks.Masks.{HasBit, Lowest, TakesOut, Leaves}
 
 pub bit-decided : (word k : ℕ) → HasBit word k (eqb (word / 2 ^ (k % 32) % 2) 1)
 bit-decided word k =
@@ -32,18 +32,6 @@ module _ (word k : ℕ) where
 
   here : k < 32 → k % 32 ≡ k
   here h = omega arith
-
-  pub bit-put : Puts word k (bitOr word (shifted (k % 32)))
-  bit-put =
-      record {
-        put = λ h. subst (λ i. bitOf i (bitOr word (shifted (k % 32))) ≡ 1) (here h) (put-same word (k % 32) low);
-        grows = put-grows word (k % 32) low;
-        only = λ h j e. at h j (put-only word (k % 32) low j e);
-      }
-    where
-      at : k < 32 → (j : ℕ) → (bitOf j word ≡ 1) ⊎ (j ≡ k % 32) → (bitOf j word ≡ 1) ⊎ (j ≡ k)
-      at h j (inl e) = inl e
-      at h j (inr e) = inr (e ∙ here h)
 
   pub bit-out : TakesOut word k (word - bitAnd word (shifted (k % 32)))
   bit-out =

@@ -17,12 +17,6 @@ pub record Lowest (word r : ℕ) : Type 0 where
   pub within : (word ≡ 0 → ⊥) → r < wordBits
   pub has : (word ≡ 0 → ⊥) → bitOf r word ≡ 1
 
--- bit k is put in; no other bit changed
-pub record Puts (word k r : ℕ) : Type 0 where
-  pub put : k < wordBits → bitOf k r ≡ 1
-  pub grows : (j : ℕ) → bitOf j word ≡ 1 → bitOf j r ≡ 1
-  pub only : k < wordBits → (j : ℕ) → bitOf j r ≡ 1 → (bitOf j word ≡ 1) ⊎ (j ≡ k)
-
 -- bit k is taken out; no other bit changed
 pub record TakesOut (word k r : ℕ) : Type 0 where
   pub fewer : (j : ℕ) → bitOf j r ≡ 1 → bitOf j word ≡ 1

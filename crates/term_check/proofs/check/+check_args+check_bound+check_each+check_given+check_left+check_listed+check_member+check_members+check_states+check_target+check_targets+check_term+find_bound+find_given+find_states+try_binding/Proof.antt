@@ -98,7 +98,7 @@ use Rattle.term_check.proofs.hints.node_hint.Reads as node-hint-reads
 use Rattle.term_check.proofs.masks.has_bit.Reads as has-bit-reads
 use Rattle.term_check.proofs.masks.left_of.Reads as left-of-reads
 use Rattle.term_check.proofs.masks.lowest.Reads as lowest-reads
-use Rattle.term_check.proofs.masks.with_bit.Reads as with-bit-reads
+use Rattle.tables.proofs.bits.with_bit.Reads as with-bit-reads
 use Rattle.term_check.proofs.masks.without_bit.Reads as without-bit-reads
 use Rattle.term_check.proofs.notes.number_in.Reads as number-in-reads
 use Rattle.term_check.proofs.parts.learn_in.Reads as learn-in-reads

@@ -1,6 +1,7 @@
 -- `candidate` meets its contract.
 use native.Mathlib.Omega.{arith}
 use denote.Ref.{now}
+use lib.ListN.{drop}
 use borrow.Author.Tests.{not-true, not-false}
 use Rattle.term_check.proofs.heads.Candidates.{row-fits, past-all, not-in-set, in-set}
 use Rattle.index.specs.layout.Layout.{testCells}
@@ -34,7 +35,7 @@ listed-requires : tie.Need-listed-requires
 listed-requires c κs = search needs
 
 returns-3 : tie.Need-returns-3
-returns-3 c = c .listed .ensures (in-set _ (now (c .before .before .before .before .before .before .before .before .args .r)) _ _ _ _ (c .before .before .before .number-in2 .ensures .0) (decides-behind _ testCells _ _ _ (c .before .before .is-in .ensures)) (not-false _ (c .before .if2 .left)))
+returns-3 c = c .listed .ensures (in-set (drop testCells (now (c .before .before .before .before .before .before .before .before .args .r))) (now (c .before .before .before .before .before .before .before .before .args .r)) (c .before .before .before .before .before .before .before .before .args .goal) (c .before .before .before .before .before .before .before .before .args .c) (c .before .before .before .number-in2 .result) (c .before .before .before .number-in2 .ensures .0) (decides-behind _ testCells _ _ _ (c .before .before .is-in .ensures) .yes (not-false _ (c .before .if2 .left))))
 
 pub candidate-spec : {M : Type 1} → statement M
 candidate-spec =

@@ -1,5 +1,4 @@
 -- `goes_down` meets its contract.
-use native.Mathlib.Omega.{arith}
 use mathlib.Core.Path.{sym}
 use mathlib.Core.Bool.{true≢false}
 use borrow.Author.Tests.{eqb-true}
