@@ -1,4 +1,6 @@
 // Sets of numbers as the bits of words: the words of a set begin at a place, and number n is bit n % 32 of word n / 32.
+pub mod briefs;
+
 use index::layout::WORD;
 ghost use mathlib.Core.Path.{_≡_};
 ghost use Prim.Native.Nat.{_+_};
