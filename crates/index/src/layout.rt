@@ -267,7 +267,7 @@ pub const ROW_LIMIT: usize = 2048;
 
 pub const PLACE_LIMIT: usize = 131072;
 
-// Then the nodes, three cells each: the tag, 4 where no parameter stands in its term, 8 for each argument; the number; the node behind.
+// Then the nodes, three cells each: the tag, and 4 for each argument; the number; the node behind.
 pub const NUMBER: usize = 1;
 
 pub const NEXT: usize = 2;

@@ -2,11 +2,11 @@
 -- What the flat table of a check says of a file's types, bindings, automaton and bodies.
 use Prim.Native.Nat.{ℕ, zero, suc, _+_, _*_, _/_, _%_, _^_, _<_, _≤_}
 use mathlib.Core.Path.{_≡_}
-use mathlib.Core.Bool.{Bool, true, false, _&&_}
+use mathlib.Core.Bool.{true}
 use mathlib.Core.List.{List, _++_, List·Memᴰ}
 use mathlib.Core.Option.{Option, none, some}
 use lib.ListN.{length, getD, drop}
-use Rattle.scheme.specs.Terms.{Head, con, nt, par, Term, node, Terms, []ᵗ, _∷ᵗ_, countᵗ, nodes}
+use Rattle.scheme.specs.Terms.{Head, con, nt, par, Term, node, Terms, countᵗ, nodes}
 use Rattle.scheme.specs.Prefix.{Node, flat, flats}
 use Rattle.scheme.specs.Types.{Ty, state, arrow, Tys, members, final}
 use Rattle.scheme.specs.Typing.{Binding}
@@ -85,17 +85,6 @@ pub record CandidatesAre (rs : List Record) (kept sets : List ℕ) (words : ℕ)
   pub kept-only : (b g : ℕ) → b < count Kind.binding rs → g < maxGoals → In sets (g * words) b → isKept (getD kept b 0) ≡ true
   pub chained : (b g : ℕ) → b < count Kind.binding rs → g < maxGoals → In sets (g * words) b → (k : ℕ) × (σ : Ty) × (k < 256) × (off k (bindingAt rs b .type) ≡ some σ) × Goal rs g σ
 
--- no parameter stands in a term
-unfoldable mutual
-  pub closed : Term → Bool
-  closed (node (con c) ts) = closeds ts
-  closed (node (nt f) ts) = closeds ts
-  closed (node (par i) ts) = false
-
-  pub closeds : Terms → Bool
-  closeds []ᵗ = true
-  closeds (t ∷ᵗ ts) = closed t && closeds ts
-
 -- term t stands at node i
 abbrev pub At : List Node → ℕ → Term → Type 0
 At ns i t = (rest : List Node) × (drop i ns ≡ flat t ++ rest)
@@ -117,7 +106,6 @@ pub record NodeIs (t : List ℕ) (base i : ℕ) (h : Head) (ts : Terms) : Type 0
   pub arguments : nodeAt t base i .count ≡ countᵗ ts
   pub few : countᵗ ts < 256
   pub behind : nodeAt t base i .next ≡ i + nodes (node h ts)
-  pub is-closed : nodeAt t base i .closed ≡ closed (node h ts)
 
 -- the nodes of a body
 abbrev pub NodesAre : List ℕ → ℕ → List Node → Type 0

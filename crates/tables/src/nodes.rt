@@ -1,5 +1,4 @@
-// The nodes of the bodies in the flat table: of each the tag, whether a parameter stands in its term, how many arguments; the number; the
-// node behind its term.
+// The nodes of the bodies in the flat table: of each the tag and how many arguments; the number; the node behind its term.
 use index::enter::store;
 use index::entries::place_at;
 use index::layout::MAX_NODES;
@@ -16,24 +15,14 @@ use records::fields::word_at;
 ghost use mathlib.Core.Path.{_≡_};
 ghost use Prim.Native.Nat.{_<_, _≤_};
 ghost use Rattle.index.specs.layout.Layout.{maxNodes};
-ghost use Rattle.tables.specs.nodes.Bodies.{headCell, ParAt, CountsNodes, EntersNode, FillsBody, FillsNodes};
+ghost use Rattle.tables.specs.nodes.Bodies.{headCell, CountsNodes, EntersNode, FillsBody, FillsNodes};
 
-// The head cell of a node, by its tag, how many arguments it has, the node behind its term and the first parameter from it on.
-fn head_of(tag: usize, count: usize, next: usize, par: usize) -> usize
+// The head cell of a node, by its tag and how many arguments it has.
+fn head_of(tag: usize, count: usize) -> usize
     requires { ⌜ count < 256 ⌝ }
-    ensures { λ r. ⌜ (r ≡ headCell tag count next par) × (r < 65536) ⌝ }
+    ensures { λ r. ⌜ (r ≡ headCell tag count) × (r < 65536) ⌝ }
 {
-    if next <= par {
-        return tag % 4 + 4 + 8 * count;
-    }
-    tag % 4 + 0 + 8 * count
-}
-
-// The first parameter from node i on, by the tag of node i and the first one behind it.
-fn par_at(tag: usize, i: usize, par: usize) -> usize
-    ensures { λ r. ⌜ ParAt tag i par r ⌝ }
-{
-    if tag == 2 { i } else { par }
+    tag % 4 + 4 * count
 }
 
 // The number of nodes of the payload at a place, 256 at most.
@@ -48,20 +37,20 @@ fn count_nodes(file: &[u8], start: usize) -> usize
 }
 
 // Enters a node whose bytes begin at a place.
-fn enter_node(file: &[u8], place: usize, next: usize, par: usize, cell: usize, t: &mut [u16])
+fn enter_node(file: &[u8], place: usize, next: usize, cell: usize, t: &mut [u16])
     requires { ⌜ (place < 1048576) × (next < 65536) × (cell < 4194304) ⌝ }
-    ensures { λ _. ⌜ EntersNode (now (file .entry)) place next par cell (now (t .entry)) (now (t .exit)) ⌝ }
+    ensures { λ _. ⌜ EntersNode (now (file .entry)) place next cell (now (t .entry)) (now (t .exit)) ⌝ }
 {
     let tag = byte_at(file, place);
     let number = word_at(file, place + 1);
     let count = byte_at(file, place + 3);
-    let head = head_of(tag, count, next, par);
+    let head = head_of(tag, count);
     store(t, cell, head);
     store(t, cell + NUMBER, number);
     store(t, cell + NEXT, next);
 }
 
-// Enters the nodes of a body, the last one first.
+// Enters the nodes of a body.
 fn fill_body(
     file: &[u8],
     start: usize,
@@ -74,14 +63,12 @@ fn fill_body(
     requires { ⌜ (start < 65536) × (n ≤ maxNodes) × (first < 65536) × (at < 4000000) ⌝ }
     ensures { λ _. ⌜ FillsBody (now (file .entry)) start n (now (ends .entry)) first at (now (t .entry)) (now (t .exit)) ⌝ }
 {
-    let mut par = n;
-    let mut i = n;
-    while 0 < i {
-        i = i - 1;
+    let mut i: usize = 0;
+    while i < n {
         let place = start + i * NODE;
         let next = place_at(ends, first + i);
-        par = par_at(byte_at(file, place), i, par);
-        enter_node(file, place, next, par, at + i * NODE_CELLS, t);
+        enter_node(file, place, next, at + i * NODE_CELLS, t);
+        i = i + 1;
     }
 }
 

@@ -28,10 +28,9 @@ ghost use mathlib.Core.Path.{_≡_};
 ghost use Prim.Native.Nat.{_<_};
 ghost use Rattle.tables.specs.reading.Cells.{rowAt, resultOf, endOf, statesOf, arrowsOf, manyOf, memberOf, symbolOf, ownOf, groupOf, offOf, presentOf, arityOf, targetsOf, nodeAt};
 
-// A node: its tag, whether no parameter stands in its term, how many arguments it has, its number, and the node behind its term.
+// A node: its tag, how many arguments it has, its number, and the node behind its term.
 pub struct Node {
     pub tag: usize,
-    pub closed: bool,
     pub count: usize,
     pub number: usize,
     pub next: usize,
@@ -160,8 +159,7 @@ pub fn node_of(t: &[u16], base: usize, i: usize) -> Node
     let next = place_at(t, cell + NEXT);
     Node {
         tag: head % 4,
-        closed: head / 4 % 2 == 1,
-        count: head / 8,
+        count: head / 4,
         number,
         next,
     }

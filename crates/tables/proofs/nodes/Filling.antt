@@ -1,28 +1,17 @@
--- The nodes of bodies as they are filled, one body after another and in each the last node first.
-use Prim.Native.Nat.{ℕ, _+_, _-_, _*_, _/_, _%_, _<_, _≤_}
+-- The nodes of bodies as they are filled, one body after another.
+use Prim.Native.Nat.{ℕ, _+_, _-_, _*_, _/_, _<_, _≤_}
 use native.Mathlib.Omega.{arith}
 use native.Mathlib.Decide.{ℕ-discrete}
 use mathlib.Core.Path.{_≡_, refl, sym, ap, subst, _∙_}
 use mathlib.Core.List.{List}
-use borrow.Author.Tests.{le-leb, lt-leb}
 use lib.ListN.{length, getD}
-use Rattle.scheme.specs.Lists.{if_then_else_}
 use Rattle.casefile.specs.Fields.{byte, word}
 use Rattle.records.specs.fields.Promises.{HasLength}
 use Rattle.index.specs.layout.Layout.{maxNonterminals, maxNodes, placeLimit, nodeCells, numberCell, nextCell}
 use Rattle.index.specs.enter.Entering.{stored}
 use Rattle.tables.specs.Frames.{Within}
-use Rattle.tables.specs.nodes.Bodies.{headCell, ParAt, CountsNodes, tagAt, FirstPar, EntersNode, NodeSays, BodySays, FillsBody, startOf, firstOf, Bodied, FillsNodes}
+use Rattle.tables.specs.nodes.Bodies.{headCell, CountsNodes, EntersNode, NodeSays, BodySays, FillsBody, startOf, firstOf, Bodied, FillsNodes}
 use Rattle.tables.proofs.Frames.{Put, within-none, within-then, within-wider, store-long, store-here, store-other, within-store}
-
--- the head cell
-pub head-closed : (tag count next par : ℕ) → next ≤ par → tag % 4 + 4 + 8 * count ≡ headCell tag count next par
-unfolding headCell
-head-closed tag count next par h = ap (λ b. tag % 4 + (if b then 4 else 0) + 8 * count) (sym (le-leb next par h))
-
-pub head-par : (tag count next par : ℕ) → par < next → tag % 4 + 0 + 8 * count ≡ headCell tag count next par
-unfolding headCell
-head-par tag count next par h = ap (λ b. tag % 4 + (if b then 4 else 0) + 8 * count) (sym (lt-leb next par h))
 
 -- the number of nodes
 module _ {file : List ℕ} {start len : ℕ} (is : HasLength file start len) where
@@ -33,12 +22,12 @@ module _ {file : List ℕ} {start len : ℕ} (is : HasLength file start len) whe
   nodes-few h = record { few = h; counted = λ l few. ap (λ x. x / 4) (is .headed l) }
 
 -- one node
-pub node-entered : {file : List ℕ} {t : List ℕ} (place next par cell tag number count head : ℕ) → next < 65536 → tag ≡ byte file place → number ≡ word file (place + 1) → number < 65536 → count ≡ byte file (place + 3) → head ≡ headCell tag count next par → head < 65536
-    → (a b c : List ℕ) → a ≡ stored t cell head → b ≡ stored a (cell + numberCell) number → c ≡ stored b (cell + nextCell) next → EntersNode file place next par cell t c
-node-entered {file} {t} place next par cell tag number count head small et en small′ ec eh small″ a b c ea eb ed =
+pub node-entered : {file : List ℕ} {t : List ℕ} (place next cell tag number count head : ℕ) → next < 65536 → tag ≡ byte file place → number ≡ word file (place + 1) → number < 65536 → count ≡ byte file (place + 3) → head ≡ headCell tag count → head < 65536
+    → (a b c : List ℕ) → a ≡ stored t cell head → b ≡ stored a (cell + numberCell) number → c ≡ stored b (cell + nextCell) next → EntersNode file place next cell t c
+node-entered {file} {t} place next cell tag number count head small et en small′ ec eh small″ a b c ea eb ed =
     record {
       within = within-then (within-store pa (omega arith) (omega arith)) (within-then (within-store pb (omega arith) (omega arith)) (within-store pc (omega arith) (omega arith)));
-      head = λ room. store-other pc cell (λ z. omega arith) ∙ store-other pb cell (λ z. omega arith) ∙ store-here pa small″ (omega arith) ∙ eh ∙ ap (λ x. headCell x count next par) et ∙ ap (λ x. headCell (byte file place) x next par) ec;
+      head = λ room. store-other pc cell (λ z. omega arith) ∙ store-other pb cell (λ z. omega arith) ∙ store-here pa small″ (omega arith) ∙ eh ∙ ap (λ x. headCell x count) et ∙ ap (headCell (byte file place)) ec;
       number = λ room. let la = store-long pa in store-other pc (cell + numberCell) (λ z. omega arith) ∙ store-here pb small′ (omega arith) ∙ en;
       behind = λ room. let la = store-long pa in let lb = store-long pb in store-here pc small (omega arith);
     }
@@ -53,72 +42,39 @@ node-entered {file} {t} place next par cell tag number count head small et en sm
     pc = record { is = ed }
 
 -- One body.
-pub record BodyTo (file : List ℕ) (start n : ℕ) (ends : List ℕ) (first at : ℕ) (before : List ℕ) (par i : ℕ) (t : List ℕ) : Type 0 where
+pub record BodyTo (file : List ℕ) (start n : ℕ) (ends : List ℕ) (first at : ℕ) (before : List ℕ) (i : ℕ) (t : List ℕ) : Type 0 where
   pub upTo : i ≤ n
-  pub first-par : FirstPar file start n i par
   pub within : Within at (at + n * nodeCells) before t
-  pub says : at + n * nodeCells ≤ length before → (j : ℕ) → i ≤ j → j < n → NodeSays file start n (getD ends (first + j) 0) j (at + j * nodeCells) t
+  pub says : at + n * nodeCells ≤ length before → (j : ℕ) → j < i → NodeSays file start (getD ends (first + j) 0) j (at + j * nodeCells) t
 
-pub body-none : {file : List ℕ} {start n : ℕ} {ends : List ℕ} {first at : ℕ} {before : List ℕ} → BodyTo file start n ends first at before n n before
-body-none = record { upTo = omega arith; first-par = record { from-on = omega arith; within = omega arith; none-before = λ j h l. absurd (omega arith); found = λ h. absurd (omega arith) }; within = within-none; says = λ room j h l. absurd (omega arith) }
+pub body-none : {file : List ℕ} {start n : ℕ} {ends : List ℕ} {first at : ℕ} {before : List ℕ} → BodyTo file start n ends first at before 0 before
+body-none = record { upTo = omega arith; within = within-none; says = λ room j h. absurd (omega arith) }
 
 -- a node stays while its cells stay
-node-stays : {file : List ℕ} {start n next i cell : ℕ} {t : List ℕ} (after : List ℕ) → ((k : ℕ) → cell ≤ k → k < cell + nodeCells → getD after k 0 ≡ getD t k 0) → NodeSays file start n next i cell t → NodeSays file start n next i cell after
+node-stays : {file : List ℕ} {start next i cell : ℕ} {t : List ℕ} (after : List ℕ) → ((k : ℕ) → cell ≤ k → k < cell + nodeCells → getD after k 0 ≡ getD t k 0) → NodeSays file start next i cell t → NodeSays file start next i cell after
 node-stays {cell = cell} after same s =
-    record { par = s .par; first-par = s .first-par; head = same cell (omega arith) (omega arith) ∙ s .head; number = same (cell + numberCell) (omega arith) (omega arith) ∙ s .number; behind = same (cell + nextCell) (omega arith) (omega arith) ∙ s .behind }
+    record { head = same cell (omega arith) (omega arith) ∙ s .head; number = same (cell + numberCell) (omega arith) (omega arith) ∙ s .number; behind = same (cell + nextCell) (omega arith) (omega arith) ∙ s .behind }
 
-module _ {file : List ℕ} {start n : ℕ} {ends : List ℕ} {first at : ℕ} {before : List ℕ} {par i : ℕ} {t : List ℕ} (so : BodyTo file start n ends first at before par i t) where
-  pub body-more : 0 < i → (tag next par′ : ℕ) → tag ≡ tagAt file start (i - 1) → next ≡ getD ends (first + (i - 1)) 0 → ParAt tag (i - 1) par par′ → (after : List ℕ)
-      → EntersNode file (start + (i - 1) * 4) next par′ (at + (i - 1) * nodeCells) t after → BodyTo file start n ends first at before par′ (i - 1) after
-  body-more h tag next par′ et en is after enters =
-      let u = so .upTo in
+module _ {file : List ℕ} {start n : ℕ} {ends : List ℕ} {first at : ℕ} {before : List ℕ} {i : ℕ} {t : List ℕ} (so : BodyTo file start n ends first at before i t) where
+  pub body-more : i < n → (next : ℕ) → next ≡ getD ends (first + i) 0 → (after : List ℕ) → EntersNode file (start + i * 4) next (at + i * nodeCells) t after → BodyTo file start n ends first at before (i + 1) after
+  body-more h next en after enters =
       record {
         upTo = omega arith;
-        first-par = first-here;
         within = within-then (so .within) (within-wider at (at + n * nodeCells) (omega arith) (omega arith) (enters .within));
-        says = λ room j l k. node room j l k (ℕ-discrete j (i - 1));
+        says = λ room j l. node room j l (ℕ-discrete j i);
       }
     where
-      first-here : FirstPar file start n (i - 1) par′
-      first-here = by (ℕ-discrete tag 2)
-        where
-          old : FirstPar file start n i par
-          old = so .first-par
-
-          by : Dec (tag ≡ 2) → FirstPar file start n (i - 1) par′
-          by (yes z) =
-              let e = is .here z in
-              let u = so .upTo in
-              record { from-on = omega arith; within = omega arith; none-before = λ j l k. absurd (omega arith); found = λ l. ap (tagAt file start) e ∙ sym et ∙ z }
-          by (no z) =
-              let e = is .behind z in
-              let a = old .from-on in
-              let b = old .within in
-              record { from-on = omega arith; within = omega arith; none-before = λ j l k. before-it j l (omega arith) (ℕ-discrete j (i - 1)); found = λ l. ap (tagAt file start) e ∙ old .found (omega arith) }
-            where
-              before-it : (j : ℕ) → i - 1 ≤ j → j < par → Dec (j ≡ i - 1) → tagAt file start j ≡ 2 → ⊥
-              before-it j l k (yes y) f = z (et ∙ ap (tagAt file start) (sym y) ∙ f)
-              before-it j l k (no y) f = let w : (j ≡ i - 1 → ⊥) = y in old .none-before j (omega arith) k f
-
-      node : at + n * nodeCells ≤ length before → (j : ℕ) → i - 1 ≤ j → j < n → Dec (j ≡ i - 1) → NodeSays file start n (getD ends (first + j) 0) j (at + j * nodeCells) after
-      node room j l k (no z) =
-          let y : (j ≡ i - 1 → ⊥) = z in
-          node-stays after (λ c a b. enters .within .outside c (λ p q. omega arith)) (so .says room j (omega arith) k)
-      node room j l k (yes z) =
+      node : at + n * nodeCells ≤ length before → (j : ℕ) → j < i + 1 → Dec (j ≡ i) → NodeSays file start (getD ends (first + j) 0) j (at + j * nodeCells) after
+      node room j l (no z) =
+          let y : (j ≡ i → ⊥) = z in
+          node-stays after (λ c a b. enters .within .outside c (λ p q. omega arith)) (so .says room j (omega arith))
+      node room j l (yes z) =
           let lt = so .within .long in
-          let u = so .upTo in
-          let room′ : at + (i - 1) * nodeCells + nodeCells ≤ length t = omega arith in
-          subst (λ x. NodeSays file start n (getD ends (first + x) 0) x (at + x * nodeCells) after) (sym z)
-          (record {
-            par = par′;
-            first-par = first-here;
-            head = enters .head room′ ∙ ap (λ x. headCell (tagAt file start (i - 1)) (byte file (start + (i - 1) * 4 + 3)) x par′) en;
-            number = enters .number room′;
-            behind = enters .behind room′ ∙ en;
-          })
+          let room′ : at + i * nodeCells + nodeCells ≤ length t = omega arith in
+          subst (λ x. NodeSays file start (getD ends (first + x) 0) x (at + x * nodeCells) after) (sym z) (record { head = enters .head room′; number = enters .number room′; behind = enters .behind room′ ∙ en })
 
-  pub body-all : i ≤ 0 → FillsBody file start n ends first at before t
-  body-all h = record { within = so .within; says = λ room j k. so .says room j (omega arith) k }
+  pub body-all : n ≤ i → FillsBody file start n ends first at before t
+  body-all h = record { within = so .within; says = λ room j k. so .says room j (omega arith) }
 
 -- All bodies.
 pub record NodesTo (file index ends firsts : List ℕ) (rules at : ℕ) (before : List ℕ) (f : ℕ) (t : List ℕ) : Type 0 where

@@ -4,7 +4,6 @@ use native.Mathlib.Omega.{arith}
 use mathlib.Core.Path.{_≡_, refl, sym, ap, _∙_}
 use mathlib.Core.List.{List}
 use borrow.Author.Tests.{eq-eqb, ne-eqb}
-use lib.Dec.{eqb}
 use lib.ListN.{getD}
 use Rattle.scheme.specs.Lists.{if_then_else_}
 use Rattle.index.specs.layout.Layout.{noNumber, numberCell, nextCell}
@@ -44,6 +43,6 @@ module _ (t : List ℕ) where
     left-end h = let u = w .up-to in let n : k - i ≡ 0 = omega arith in sym (ap (λ j. offOf t j g) n) ∙ w .same
 
   pub node-made : (base i head number next : ℕ) → head ≡ getD t (nodePlace base i) 0 → number ≡ getD t (nodePlace base i + numberCell) 0 → next ≡ getD t (nodePlace base i + nextCell) 0
-      → _≡_ {A = Node} (record { tag = head % 4; closed = eqb (head / 4 % 2) 1; count = head / 8; number = number; next = next }) (nodeAt t base i)
+      → _≡_ {A = Node} (record { tag = head % 4; count = head / 4; number = number; next = next }) (nodeAt t base i)
   unfolding nodeAt
   node-made base i head number next a b c = rw (a, b, c) refl

@@ -1,23 +1,16 @@
 -- What our own crates promise each other; nothing here has to be believed.
--- The nodes of bodies as they are filled, the last node of a body first: what each cell holds by the bytes of the file.
+-- The nodes of bodies as they are filled: what each cell holds by the bytes of the file.
 use Prim.Native.Nat.{ℕ, _+_, _-_, _*_, _/_, _%_, _<_, _≤_}
 use mathlib.Core.Path.{_≡_}
 use mathlib.Core.List.{List}
-use lib.Dec.{leb}
 use lib.ListN.{length, getD}
-use Rattle.scheme.specs.Lists.{if_then_else_}
 use Rattle.casefile.specs.Fields.{byte, word}
 use Rattle.index.specs.layout.Layout.{maxNonterminals, maxNodes, placeLimit, rulesAt, nodeCells, numberCell, nextCell}
 use Rattle.tables.specs.Frames.{Within}
 
--- the head cell of a node: its tag, 4 where the node behind its term is not past the first parameter, 8 for each argument
-unfoldable pub headCell : ℕ → ℕ → ℕ → ℕ → ℕ
-headCell tag count next par = tag % 4 + (if leb next par then 4 else 0) + 8 * count
-
--- the first parameter from node i on
-pub record ParAt (tag i par r : ℕ) : Type 0 where
-  pub here : tag ≡ 2 → r ≡ i
-  pub behind : (tag ≡ 2 → ⊥) → r ≡ par
+-- the head cell of a node: its tag, and 4 for each argument
+abbrev pub headCell : ℕ → ℕ → ℕ
+headCell tag count = tag % 4 + 4 * count
 
 -- r is the number of nodes of the payload at a place, 256 at most
 pub record CountsNodes (file : List ℕ) (start r : ℕ) : Type 0 where
@@ -28,30 +21,21 @@ pub record CountsNodes (file : List ℕ) (start r : ℕ) : Type 0 where
 abbrev pub tagAt : List ℕ → ℕ → ℕ → ℕ
 tagAt file start i = byte file (start + i * 4)
 
--- of n nodes, the first parameter from node i on; n where there is none
-pub record FirstPar (file : List ℕ) (start n i r : ℕ) : Type 0 where
-  pub from-on : i ≤ r
-  pub within : r ≤ n
-  pub none-before : (j : ℕ) → i ≤ j → j < r → tagAt file start j ≡ 2 → ⊥
-  pub found : r < n → tagAt file start r ≡ 2
-
 -- one node in three cells
-pub record EntersNode (file : List ℕ) (place next par cell : ℕ) (before after : List ℕ) : Type 0 where
+pub record EntersNode (file : List ℕ) (place next cell : ℕ) (before after : List ℕ) : Type 0 where
   pub within : Within cell (cell + nodeCells) before after
-  pub head : cell + nodeCells ≤ length before → getD after cell 0 ≡ headCell (byte file place) (byte file (place + 3)) next par
+  pub head : cell + nodeCells ≤ length before → getD after cell 0 ≡ headCell (byte file place) (byte file (place + 3))
   pub number : cell + nodeCells ≤ length before → getD after (cell + numberCell) 0 ≡ word file (place + 1)
   pub behind : cell + nodeCells ≤ length before → getD after (cell + nextCell) 0 ≡ next
 
-pub record NodeSays (file : List ℕ) (start n next i cell : ℕ) (t : List ℕ) : Type 0 where
-  pub par : ℕ
-  pub first-par : FirstPar file start n i par
-  pub head : getD t cell 0 ≡ headCell (tagAt file start i) (byte file (start + i * 4 + 3)) next par
+pub record NodeSays (file : List ℕ) (start next i cell : ℕ) (t : List ℕ) : Type 0 where
+  pub head : getD t cell 0 ≡ headCell (tagAt file start i) (byte file (start + i * 4 + 3))
   pub number : getD t (cell + numberCell) 0 ≡ word file (start + i * 4 + 1)
   pub behind : getD t (cell + nextCell) 0 ≡ next
 
 -- the n nodes of a body
 abbrev pub BodySays : List ℕ → ℕ → ℕ → List ℕ → ℕ → ℕ → List ℕ → Type 0
-BodySays file start n ends first at t = (i : ℕ) → i < n → NodeSays file start n (getD ends (first + i) 0) i (at + i * nodeCells) t
+BodySays file start n ends first at t = (i : ℕ) → i < n → NodeSays file start (getD ends (first + i) 0) i (at + i * nodeCells) t
 
 pub record FillsBody (file : List ℕ) (start n : ℕ) (ends : List ℕ) (first at : ℕ) (before after : List ℕ) : Type 0 where
   pub within : Within at (at + n * nodeCells) before after

@@ -67,4 +67,4 @@ nodePlace base i = base % placeLimit + i % maxNodes * nodeCells
 unfoldable pub nodeAt : List ℕ → ℕ → ℕ → Node
 nodeAt t base i =
     let head = getD t (nodePlace base i) 0 in
-    record { tag = head % 4; closed = eqb (head / 4 % 2) 1; count = head / 8; number = getD t (nodePlace base i + numberCell) 0; next = getD t (nodePlace base i + nextCell) 0 }
+    record { tag = head % 4; count = head / 4; number = getD t (nodePlace base i + numberCell) 0; next = getD t (nodePlace base i + nextCell) 0 }

@@ -38,10 +38,10 @@ store-requires-3 : tie.Need-store-requires-3
 store-requires-3 c κs = search needs
 
 same-length : tie.Need-same-length
-same-length c = (node-entered _ _ _ _ _ _ _ _ (c .before .before .before .before .before .before .before .before .before .before .before .before .before .before .before .before .before .before .pre .1) (c .before .before .before .before .before .before .before .before .before .before .before .before .before .before .before .byte-at .ensures .value) (c .before .before .before .before .before .before .before .before .before .before .before .before .before .before .word-at .ensures .value) (c .before .before .before .before .before .before .before .before .before .before .before .before .before .before .word-at .ensures .bound) (c .before .before .before .before .before .before .before .before .before .before .before .before .before .byte-at2 .ensures .value) (c .before .before .before .before .before .before .before .before .before .before .before .before .head-of .ensures .0) (c .before .before .before .before .before .before .before .before .before .before .before .before .head-of .ensures .1) _ _ _ (c .before .before .before .before .before .before .before .before .before .before .store .ensures) (c .before .before .before .before .before .before .store2 .ensures) (c .before .before .store3 .ensures)) .within .long
+same-length c = (node-entered _ _ _ _ _ _ _ (c .before .before .before .before .before .before .before .before .before .before .before .before .before .before .before .before .before .before .pre .1) (c .before .before .before .before .before .before .before .before .before .before .before .before .before .before .before .byte-at .ensures .value) (c .before .before .before .before .before .before .before .before .before .before .before .before .before .before .word-at .ensures .value) (c .before .before .before .before .before .before .before .before .before .before .before .before .before .before .word-at .ensures .bound) (c .before .before .before .before .before .before .before .before .before .before .before .before .before .byte-at2 .ensures .value) (c .before .before .before .before .before .before .before .before .before .before .before .before .head-of .ensures .0) (c .before .before .before .before .before .before .before .before .before .before .before .before .head-of .ensures .1) _ _ _ (c .before .before .before .before .before .before .before .before .before .before .store .ensures) (c .before .before .before .before .before .before .store2 .ensures) (c .before .before .store3 .ensures)) .within .long
 
 returns : tie.Need-returns
-returns c = node-entered _ _ _ _ _ _ _ _ (c .before .before .before .before .before .before .before .before .before .before .before .before .before .before .before .before .before .before .pre .1) (c .before .before .before .before .before .before .before .before .before .before .before .before .before .before .before .byte-at .ensures .value) (c .before .before .before .before .before .before .before .before .before .before .before .before .before .before .word-at .ensures .value) (c .before .before .before .before .before .before .before .before .before .before .before .before .before .before .word-at .ensures .bound) (c .before .before .before .before .before .before .before .before .before .before .before .before .before .byte-at2 .ensures .value) (c .before .before .before .before .before .before .before .before .before .before .before .before .head-of .ensures .0) (c .before .before .before .before .before .before .before .before .before .before .before .before .head-of .ensures .1) _ _ _ (c .before .before .before .before .before .before .before .before .before .before .store .ensures) (c .before .before .before .before .before .before .store2 .ensures) (c .before .before .store3 .ensures)
+returns c = node-entered _ _ _ _ _ _ _ (c .before .before .before .before .before .before .before .before .before .before .before .before .before .before .before .before .before .before .pre .1) (c .before .before .before .before .before .before .before .before .before .before .before .before .before .before .before .byte-at .ensures .value) (c .before .before .before .before .before .before .before .before .before .before .before .before .before .before .word-at .ensures .value) (c .before .before .before .before .before .before .before .before .before .before .before .before .before .before .word-at .ensures .bound) (c .before .before .before .before .before .before .before .before .before .before .before .before .before .byte-at2 .ensures .value) (c .before .before .before .before .before .before .before .before .before .before .before .before .head-of .ensures .0) (c .before .before .before .before .before .before .before .before .before .before .before .before .head-of .ensures .1) _ _ _ (c .before .before .before .before .before .before .before .before .before .before .store .ensures) (c .before .before .before .before .before .before .store2 .ensures) (c .before .before .store3 .ensures)
 
 pub enter-node-spec : {M : Type 1} → statement M
 enter-node-spec =

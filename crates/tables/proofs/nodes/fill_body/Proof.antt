@@ -1,4 +1,5 @@
--- `fill_body` meets its contract. The invariant: the nodes from i on are entered, and `par` is the first parameter among them.
+-- `fill_body` meets its contract. The invariant: the nodes below i are entered.
+use Prim.Native.Nat.{_-_}
 use Rattle.tables.proofs.nodes.Filling.{BodyTo, body-none, body-more, body-all}
 use borrow.Author.Needs.{needs}
 use native.Mathlib.Omega.{arith}
@@ -6,49 +7,43 @@ use Rattle.tables.proofs.nodes.fill_body.Statement.{statement}
 use Rattle.tables.proofs.nodes.fill_body.Tie as tie
 
 abbrev Inv-loop : tie.InvT-loop
-Inv-loop file start n ends first at t₀ par₀ i₀ t par i = BodyTo file start n ends first at t₀ par i t
+Inv-loop file start n ends first at t₀ i₀ t i = BodyTo file start n ends first at t₀ i t
 
 abbrev μ-loop : tie.MeasureT-loop
-μ-loop file start n ends first at t₀ par₀ i₀ t par i = i
+μ-loop file start n ends first at t₀ i₀ t i = n - i
 
 loop-holds : tie.Need-loop-holds Inv-loop μ-loop
 loop-holds c = body-none
 
-sub-i : tie.Need-sub-i Inv-loop μ-loop
-sub-i c = search needs
-
 mul-place : tie.Need-mul-place Inv-loop μ-loop
-mul-place c = omega (arith, c .before .before .before .before .before .pre .1, c .before .loop .inv .upTo)
+mul-place c = omega (arith, c .before .before .before .before .before .pre .1, c .loop-test .taken)
 
 add-place : tie.Need-add-place Inv-loop μ-loop
-add-place c = omega (arith, c .before .before .before .before .before .pre .0, c .before .before .before .before .before .pre .1, c .before .loop .inv .upTo)
+add-place c = omega (arith, c .before .before .before .before .before .pre .0, c .before .before .before .before .before .pre .1, c .loop-test .taken)
 
 add-place-at : tie.Need-add-place-at Inv-loop μ-loop
-add-place-at c = omega (arith, c .before .before .before .before .before .pre .2, c .before .before .before .before .before .pre .1, c .before .loop .inv .upTo)
+add-place-at c = omega (arith, c .before .before .before .before .before .pre .2, c .before .before .before .before .before .pre .1, c .loop-test .taken)
 
 place-at-requires : tie.Need-place-at-requires Inv-loop μ-loop
 place-at-requires c κs = search needs
 
-byte-at-requires : tie.Need-byte-at-requires Inv-loop μ-loop
-byte-at-requires c κs = search needs
-
-par-at-requires : tie.Need-par-at-requires Inv-loop μ-loop
-par-at-requires c κs = search needs
-
 mul-enter-node : tie.Need-mul-enter-node Inv-loop μ-loop
-mul-enter-node c = omega (arith, c .before .before .before .before .before .before .before .before .pre .1, c .before .before .before .before .loop .inv .upTo)
+mul-enter-node c = omega (arith, c .before .before .before .before .before .before .pre .1, c .before .loop-test .taken)
 
 add-enter-node : tie.Need-add-enter-node Inv-loop μ-loop
-add-enter-node c = omega (arith, c .before .before .before .before .before .before .before .before .pre .3, c .before .before .before .before .before .before .before .before .pre .1, c .before .before .before .before .loop .inv .upTo)
+add-enter-node c = omega (arith, c .before .before .before .before .before .before .pre .3, c .before .before .before .before .before .before .pre .1, c .before .loop-test .taken)
 
 enter-node-requires : tie.Need-enter-node-requires Inv-loop μ-loop
-enter-node-requires c κs = (omega (arith, c .before .before .before .before .before .before .before .before .before .pre .0, c .before .before .before .before .before .before .before .before .before .pre .1, c .before .before .before .before .before .loop .inv .upTo), c .before .before .before .place-at .ensures .bound, omega (arith, c .before .before .before .before .before .before .before .before .before .pre .3, c .before .before .before .before .before .before .before .before .before .pre .1, c .before .before .before .before .before .loop .inv .upTo))
+enter-node-requires c κs = (omega (arith, c .before .before .before .before .before .before .before .pre .0, c .before .before .before .before .before .before .before .pre .1, c .before .before .loop-test .taken), c .before .place-at .ensures .bound, omega (arith, c .before .before .before .before .before .before .before .pre .3, c .before .before .before .before .before .before .before .pre .1, c .before .before .loop-test .taken))
+
+add-i : tie.Need-add-i Inv-loop μ-loop
+add-i c = omega (arith, c .before .before .before .before .before .before .before .before .before .before .pre .1, c .before .before .before .before .before .loop-test .taken)
 
 loop-less : tie.Need-loop-less Inv-loop μ-loop
-loop-less c = search needs
+loop-less c = omega (arith, c .before .before .before .before .before .loop-test .taken)
 
 loop-again : tie.Need-loop-again Inv-loop μ-loop
-loop-again c = body-more (c .before .before .before .before .before .before .before .before .loop .inv) (c .before .before .before .before .before .before .before .loop-test .taken) _ _ _ (c .before .before .before .before .before .byte-at .ensures .value) (c .before .before .before .before .before .before .place-at .ensures .value) (c .before .before .before .before .par-at .ensures) _ (c .before .before .enter-node .ensures)
+loop-again c = body-more (c .before .before .before .before .before .before .loop .inv) (c .before .before .before .before .before .loop-test .taken) _ (c .before .before .before .before .place-at .ensures .value) _ (c .before .before .enter-node .ensures)
 
 same-length : tie.Need-same-length Inv-loop μ-loop
 same-length c = c .before .loop .inv .within .long
@@ -63,16 +58,14 @@ fill-body-spec =
     Inv-loop
     μ-loop
     loop-holds
-    sub-i
     mul-place
     add-place
     add-place-at
     place-at-requires
-    byte-at-requires
-    par-at-requires
     mul-enter-node
     add-enter-node
     enter-node-requires
+    add-i
     loop-less
     loop-again
     same-length
