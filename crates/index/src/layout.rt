@@ -156,32 +156,26 @@ pub type Transitions = [[Row; MAX_CONSTRUCTORS]; MAX_STATES];
 // What stands for no state where a target is asked for.
 pub const NO_STATE: usize = 256;
 
-// The numbers of a test: the type of the binding as a goal; where the nodes of its body begin; the binding, and its body, as owners of
-// notes; the number of the test, and that of the tests of its body in this round; how many cells of answers a node has, how many words
-// a set of candidates and a column of users; how many bindings there are.
+// The numbers of a test: the type of the binding as a goal; where the nodes of its body begin; the binding, which owns what is noted; the
+// number of the test; how many cells of answers a node has, how many words a set of bindings; how many bindings there are; where users
+// and answers begin.
 pub const TEST_OWN: usize = 0;
 
 pub const TEST_BASE: usize = 1;
 
 pub const TEST_BINDING: usize = 2;
 
-pub const TEST_BODY: usize = 3;
+pub const TEST_STAMP: usize = 3;
 
-pub const TEST_STAMP: usize = 4;
+pub const TEST_WIDE: usize = 4;
 
-pub const TEST_SHARED: usize = 5;
+pub const TEST_WORDS: usize = 5;
 
-pub const TEST_WIDE: usize = 6;
+pub const TEST_BINDINGS: usize = 6;
 
-pub const TEST_WORDS: usize = 7;
+pub const TEST_USERS: usize = 7;
 
-pub const TEST_ACROSS: usize = 8;
-
-pub const TEST_BINDINGS: usize = 9;
-
-pub const TEST_USERS: usize = 10;
-
-pub const TEST_ANSWERS: usize = 11;
+pub const TEST_ANSWERS: usize = 8;
 
 // What a check reads begins with the numbers of the test; the sets of candidates stand behind so many cells.
 pub const TEST_CELLS: usize = 16;
@@ -286,12 +280,12 @@ pub const BINDING_WORDS: usize = MAX_BINDINGS / WORD;
 // The largest number of a test.
 pub const LAST_TEST: u32 = 4294967295;
 
-// The tables of a binding case at the limits: the flat table, the sets of candidates, the users, the hints.
+// The tables of a binding case at the limits: the flat table, the sets of candidates, the users with a brief each, the hints.
 pub const TABLE: usize = ROWS_AT + MAX_GOALS * ROW_CELLS + ENDS * NODE_CELLS;
 
 pub const SETS: usize = MAX_GOALS * BINDING_WORDS;
 
-pub const USERS: usize = MAX_BINDINGS * BINDING_WORDS;
+pub const USERS: usize = MAX_BINDINGS * (BINDING_WORDS + 1);
 
 pub const HINTS: usize = 8192;
 
@@ -331,7 +325,7 @@ pub const TINY_TABLE: usize = ROWS_AT + TINY_ROWS * ROW_CELLS + TINY_NODES * NOD
 
 pub const TINY_SETS: usize = TINY_GOALS * TINY_WORDS;
 
-pub const TINY_USERS: usize = TINY_BINDINGS * TINY_WORDS;
+pub const TINY_USERS: usize = TINY_BINDINGS * (TINY_WORDS + 1);
 
 pub const TINY_ANSWERS: usize = TINY_NODES * ((TINY_GOALS + WORD - 1) / WORD) * CELL;
 
@@ -352,7 +346,7 @@ pub const SMALL_TABLE: usize = ROWS_AT + SMALL_ROWS * ROW_CELLS + SMALL_NODES * 
 
 pub const SMALL_SETS: usize = SMALL_GOALS * SMALL_WORDS;
 
-pub const SMALL_USERS: usize = SMALL_BINDINGS * SMALL_WORDS;
+pub const SMALL_USERS: usize = SMALL_BINDINGS * (SMALL_WORDS + 1);
 
 pub const SMALL_ANSWERS: usize = MAX_NODES * ((SMALL_GOALS + WORD - 1) / WORD) * CELL;
 
@@ -373,7 +367,7 @@ pub const PLAIN_TABLE: usize = ROWS_AT + PLAIN_ROWS * ROW_CELLS + PLAIN_NODES * 
 
 pub const PLAIN_SETS: usize = PLAIN_GOALS * PLAIN_WORDS;
 
-pub const PLAIN_USERS: usize = PLAIN_BINDINGS * PLAIN_WORDS;
+pub const PLAIN_USERS: usize = PLAIN_BINDINGS * (PLAIN_WORDS + 1);
 
 pub const PLAIN_ANSWERS: usize = MAX_NODES * ((PLAIN_GOALS + WORD - 1) / WORD) * CELL;
 
@@ -394,7 +388,7 @@ pub const MIDDLE_TABLE: usize = ROWS_AT + MIDDLE_ROWS * ROW_CELLS + MIDDLE_NODES
 
 pub const MIDDLE_SETS: usize = MIDDLE_GOALS * MIDDLE_WORDS;
 
-pub const MIDDLE_USERS: usize = MIDDLE_BINDINGS * MIDDLE_WORDS;
+pub const MIDDLE_USERS: usize = MIDDLE_BINDINGS * (MIDDLE_WORDS + 1);
 
 pub const MIDDLE_ANSWERS: usize = MAX_NODES * ((MIDDLE_GOALS + WORD - 1) / WORD) * CELL;
 

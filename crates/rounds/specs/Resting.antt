@@ -16,7 +16,7 @@ use Rattle.casefile.specs.Tables.{planOf, automatonOf, bindingsOf}
 use Rattle.index.specs.layout.Layout.{maxStates, maxBindings}
 use Rattle.index.specs.Wholes.{Whole}
 use Rattle.rules.specs.reading.RuleBodies.{ruleOf, firstNode}
-use Rattle.marks.specs.Marks.{In}
+use Rattle.marks.specs.briefs.Briefs.{Marked}
 use Rattle.tables.specs.Facts.{bindingAt}
 use Rattle.tables.specs.Filling.{nodesFrom, wordsFor, TableIs}
 use Rattle.rounds.specs.declared.tested.Sizes.{Sizes}
@@ -45,9 +45,9 @@ pub record Frame (rs : List Record) (t firsts : List ℕ) (sizes : Sizes) : Type
   pub bindings-are : sizes .bindings ≡ total rs
   pub few-bindings : total rs ≤ maxBindings
 
--- binding c is noted for binding b: b is in the column of c
+-- binding c is noted for binding b: b is marked in the column of c, whose brief stands behind all columns
 abbrev pub Noted : List Record → List ℕ → ℕ → ℕ → Type 0
-Noted rs users b c = In users (c * wordsFor rs) b
+Noted rs users b c = Marked users (c * wordsFor rs) (total rs * wordsFor rs + c) b
 
 -- binding b holds whichever bindings are kept, so long as those are that are kept now and noted for it
 abbrev pub Rests : List Record → List ℕ → List ℕ → ℕ → Type 0
@@ -55,4 +55,4 @@ Rests rs kept users b = (flags : List ℕ) → ((c : ℕ) → c < total rs → i
 
 -- there is room for the notes
 abbrev pub Room : List Record → List ℕ → Type 0
-Room rs users = total rs * wordsFor rs ≤ length users
+Room rs users = total rs * wordsFor rs + total rs ≤ length users

@@ -1,12 +1,16 @@
 // Bindings that failed are dropped, and those that they served are marked for the next round.
 use crate::tested::Course;
 use crate::tested::Sizes;
+use index::layout::BINDING_WORDS;
 use index::layout::MAX_BINDINGS;
 use index::layout::ROW_LIMIT;
 use index::layout::TEST_CELLS;
 use index::layout::WORD;
 use marks::next_in;
+use marks::word_in;
 use tables::candidates::leave_sets;
+use term_check::masks::lowest;
+use term_check::masks::without_bit;
 use term_check::parts::from_of;
 use term_check::parts::split_of;
 ghost use mathlib.Core.Path.{_≡_};
@@ -17,26 +21,36 @@ ghost use Rattle.index.specs.layout.Layout.{testCells};
 ghost use Rattle.tables.specs.Filling.{LeavesSets};
 ghost use Rattle.term_check.specs.Worlds.{usersOf};
 ghost use Rattle.rounds.specs.tested.Tested.{Placed};
-ghost use Rattle.rounds.specs.dropping.Dropping.{Joins, Drops, DropsAll};
+ghost use Rattle.rounds.specs.dropping.Dropping.{JoinsWord, JoinsWords, Joins, Drops, DropsAll};
 
-// Joins the n words at a place to a set.
-fn join(words: &[u32], at: usize, n: usize, into: &mut [u32])
-    ensures { λ _. ⌜ Joins (now (words .entry)) at n (now (into .entry)) (now (into .exit)) ⌝ }
+// Joins a word to word k of a set.
+fn join_word(into: &mut [u32], k: usize, word: u32)
+    ensures { λ _. ⌜ JoinsWord k word (now (into .entry)) (now (into .exit)) ⌝ }
 {
-    if into.len() < n {
-        return;
+    if k < into.len() {
+        into[k] = into[k] | word;
     }
-    if words.len() < at {
-        return;
+}
+
+// Joins those words of a set at a place to another set whose bits are in a word.
+fn join_words(words: &[u32], at: usize, some: u32, into: &mut [u32])
+    ensures { λ _. ⌜ JoinsWords (now (words .entry)) at some (now (into .entry)) (now (into .exit)) ⌝ }
+{
+    let mut left = some;
+    while left != 0 {
+        let k = lowest(left);
+        left = without_bit(left, k);
+        join_word(into, k, word_in(words, at, k));
     }
-    if words.len() - at < n {
-        return;
-    }
-    let mut k: usize = 0;
-    while k < n {
-        into[k] = into[k] | words[at + k];
-        k = k + 1;
-    }
+}
+
+// Joins what is marked in a set at a place with a brief to what there is to do.
+fn join(words: &[u32], at: usize, brief: usize, into: &mut [u32])
+    ensures { λ _. ⌜ Joins (now (words .entry)) at brief (now (into .entry)) (now (into .exit)) ⌝ }
+{
+    let some = word_in(words, brief, 0);
+    join_words(words, at, some, into);
+    join_word(into, BINDING_WORDS, some);
 }
 
 // Sets a flag to 0.
@@ -58,13 +72,13 @@ fn leave(t: &[u16], b: usize, words: usize, r: &mut [u32])
     leave_sets(t, b, words, &mut r[TEST_CELLS..]);
 }
 
-// Joins the n words at a place of the users to a set.
-fn join_users(r: &[u32], w: &[u32], at: usize, n: usize, into: &mut [u32])
-    ensures { λ _. ⌜ Joins (usersOf (now (r .entry)) (now (w .entry))) at n (now (into .entry)) (now (into .exit)) ⌝ }
+// Joins what is marked at a place of the users with a brief to what there is to do.
+fn join_users(r: &[u32], w: &[u32], at: usize, brief: usize, into: &mut [u32])
+    ensures { λ _. ⌜ Joins (usersOf (now (r .entry)) (now (w .entry))) at brief (now (into .entry)) (now (into .exit)) ⌝ }
 {
     let split = split_of(r, w);
     let from = from_of(r, w);
-    join(&w[from..split], at, n, into);
+    join(&w[from..split], at, brief, into);
 }
 
 // Drops binding b: its flag, what it is a candidate for; those that it served are marked.
@@ -79,9 +93,11 @@ fn drop_binding(
 )
     ensures { λ _. ⌜ Placed (now (r .entry)) (now (r .exit)) × ((firsts : List ℕ) → Drops (now (t .entry)) firsts (usersOf (now (r .entry)) (now (w .entry))) sizes b (drop testCells (now (r .entry))) (now (flags .entry)) (now (todo .entry)) (drop testCells (now (r .exit))) (now (flags .exit)) (now (todo .exit))) ⌝ }
 {
-    let words = (sizes.bindings % ROW_LIMIT + (WORD - 1)) / WORD;
+    let total = sizes.bindings % ROW_LIMIT;
+    let words = (total + (WORD - 1)) / WORD;
+    let dropped = b % MAX_BINDINGS;
     drop_flag(flags, b);
-    join_users(r, w, b % MAX_BINDINGS * words, words, todo);
+    join_users(r, w, dropped * words, total * words + dropped, todo);
     leave(t, b, words, r);
 }
 

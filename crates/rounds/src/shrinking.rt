@@ -6,7 +6,7 @@ use crate::tested::Sizes;
 use crate::tested::retest;
 use index::layout::BINDING_WORDS;
 use index::layout::ROW_LIMIT;
-use marks::next_in;
+use marks::briefs::next_marked;
 use records::fields::byte_at;
 ghost use mathlib.Core.Path.{_≡_};
 ghost use Prim.Native.Nat.{_≤_};
@@ -43,10 +43,10 @@ fn turn(
         least: 0,
         past: 0,
     };
-    let mut b = next_in(todo, 0, 0, total);
+    let mut b = next_marked(todo, 0, BINDING_WORDS, 0, total);
     while b < total {
         n = retest(t, firsts, sizes, flags, r, w, failed, n, b);
-        b = next_in(todo, 0, b + 1, total);
+        b = next_marked(todo, 0, BINDING_WORDS, b + 1, total);
     }
     n
 }
@@ -103,7 +103,7 @@ pub fn shrink(
 {
     let total = sizes.bindings % ROW_LIMIT;
     all_kept(flags, total);
-    let mut todo = [4294967295u32; BINDING_WORDS];
+    let mut todo = [4294967295u32; BINDING_WORDS + 1];
     let mut rounds: usize = 0;
     let mut last: u32 = 0;
     while rounds <= total {
@@ -116,7 +116,7 @@ pub fn shrink(
             };
         }
         last = n.last;
-        todo = [0u32; BINDING_WORDS];
+        todo = [0u32; BINDING_WORDS + 1];
         drop_failed(t, w, sizes, &failed, r, flags, &mut todo, n);
         rounds = rounds + 1;
     }

@@ -98,11 +98,8 @@ fn holds(
         own as u32,
         base as u32,
         number as u32,
-        number as u32,
-        stamp,
         stamp,
         wide as u32,
-        words as u32,
         words as u32,
         (sizes.bindings % ROW_LIMIT) as u32,
     ];

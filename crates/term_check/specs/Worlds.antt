@@ -1,7 +1,7 @@
 -- What our own crates promise each other; nothing here has to be believed.
 -- The check of a term by the nodes of a body and the numbers of goals, and what its answers rest on. Section "Types and shrinking" of
 -- the scope: "Checking a term calls for its arguments, and each argument is again a term".
-use Prim.Native.Nat.{ℕ, _+_, _/_, _%_, _^_, _<_, _≤_, min}
+use Prim.Native.Nat.{ℕ, _+_, _*_, _/_, _%_, _^_, _<_, _≤_, min}
 use mathlib.Core.Path.{_≡_}
 use mathlib.Core.Logic.{_⊎_}
 use mathlib.Core.Bool.{Bool, true, false}
@@ -18,12 +18,11 @@ use Rattle.casefile.specs.Records.{Record}
 use Rattle.casefile.specs.Kinds.{Kind, count}
 use Rattle.casefile.specs.Tables.{automatonOf, bindingsOf}
 use Rattle.index.specs.layout.Layout.{maxBindings, wordBits, testUsers, testAnswers, testCells}
-use Rattle.marks.specs.Marks.{bitOf, In}
+use Rattle.marks.specs.Marks.{bitOf}
 use Rattle.answers.specs.Answers.{Says, Looks, Under}
 use Rattle.answers.specs.declared.Outlook.{Outlook}
-use Rattle.tables.specs.reading.Cells.{nodeAt}
-use Rattle.tables.specs.Facts.{Goal, TypesAre, BindingsAre, AutomatonIs, CandidatesAre, NodesAre, At, AllAt, off, closeds}
-use Rattle.term_check.specs.notes.Notes.{ownIn, baseIn, wideIn, wordsIn, totalIn, stampOf, ownerOf, columnOf}
+use Rattle.tables.specs.Facts.{Goal, TypesAre, BindingsAre, AutomatonIs, CandidatesAre, NodesAre, At, AllAt, off}
+use Rattle.term_check.specs.notes.Notes.{ownIn, baseIn, ownerIn, stampIn, wideIn, wordsIn, totalIn, columnOf, briefOf, Noted}
 
 -- each argument has every member that a type asks for, P saying what it is to have a type
 unfoldable pub Args : (Term → Ty → Type 0) → Terms → Ty → Type 0
@@ -61,10 +60,6 @@ pub record World : Type 0 where
   pub τ : Ty
   pub ns : List Node
 
--- no parameter stands in the term of a node, as the table says
-abbrev pub shut : Case → ℕ → Bool
-shut x i = nodeAt (x .t) (baseIn (x .test)) i .closed
-
 -- how many bindings there are
 abbrev pub total : World → ℕ
 total w = count Kind.binding (w .rs)
@@ -85,21 +80,23 @@ pub record Setting (x : Case) (w : World) : Type 0 where
   pub few-bindings : total w ≤ maxBindings
 
 -- there is room for the notes
-abbrev pub Room : Case → World → List ℕ → Type 0
-Room x w users = (c : ℕ) (closed : Bool) → c < total w → columnOf (x .test) c + ownerOf (x .test) closed / wordBits < length users
+pub record Room (x : Case) (w : World) (users : List ℕ) : Type 0 where
+  pub owner : ownerIn (x .test) < wordBits * wordBits
+  pub columns : (c : ℕ) → c < total w → columnOf (x .test) c + ownerIn (x .test) / wordBits < length users
+  pub briefs : (c : ℕ) → c < total w → briefOf (x .test) c < length users
 
--- binding c is kept, and it is noted: for the body, or for the binding under test where the term may have parameters
-pub record Rests (x : Case) (w : World) (users : List ℕ) (closed : Bool) (c : ℕ) : Type 0 where
+-- binding c is kept, and it is noted
+pub record Rests (x : Case) (w : World) (users : List ℕ) (c : ℕ) : Type 0 where
   pub is-kept : isKept (getD (w .kept) c 0) ≡ true
-  pub noted : In users (columnOf (x .test) c) (ownerOf (x .test) true) ⊎ ((closed ≡ false) × In users (columnOf (x .test) c) (ownerOf (x .test) false))
+  pub noted : Noted users (x .test) c
 
 -- some flags have all that is noted
-abbrev pub Includes : Case → World → List ℕ → Bool → List ℕ → Type 0
-Includes x w users closed flags = (c : ℕ) → c < total w → Rests x w users closed c → isKept (getD flags c 0) ≡ true
+abbrev pub Includes : Case → World → List ℕ → List ℕ → Type 0
+Includes x w users flags = (c : ℕ) → c < total w → Rests x w users c → isKept (getD flags c 0) ≡ true
 
 -- YES: the term at a node has a goal, whichever bindings are kept, so long as those that are noted are
 abbrev pub Yes : Case → World → List ℕ → ℕ → ℕ → Type 0
-Yes x w users i g = (flags : List ℕ) → Includes x w users (shut x i) flags → (u : Term) → At (w .ns) i u → (σ : Ty) → Goal (w .rs) g σ → Has w flags u σ
+Yes x w users i g = (flags : List ℕ) → Includes x w users flags → (u : Term) → At (w .ns) i u → (σ : Ty) → Goal (w .rs) g σ → Has w flags u σ
 
 -- NO: it has not, with all that are kept
 abbrev pub No : Case → World → ℕ → ℕ → Type 0
@@ -107,8 +104,8 @@ No x w i g = (u : Term) → At (w .ns) i u → (σ : Ty) → Goal (w .rs) g σ �
 
 -- all that is remembered is so
 pub record Right (x : Case) (w : World) (memo users : List ℕ) : Type 0 where
-  pub yes : (i g : ℕ) → Says memo (wideIn (x .test)) (stampOf (x .test) (shut x i)) i g true → Yes x w users i g
-  pub no : (i g : ℕ) → Says memo (wideIn (x .test)) (stampOf (x .test) (shut x i)) i g false → No x w i g
+  pub yes : (i g : ℕ) → Says memo (wideIn (x .test)) (stampIn (x .test)) i g true → Yes x w users i g
+  pub no : (i g : ℕ) → Says memo (wideIn (x .test)) (stampIn (x .test)) i g false → No x w i g
 
 -- the tables, the room, and what is remembered
 pub record Ready (x : Case) (w : World) (memo users : List ℕ) : Type 0 where
@@ -120,7 +117,7 @@ pub record Ready (x : Case) (w : World) (memo users : List ℕ) : Type 0 where
 pub record Keeps (x : Case) (memo users memo′ users′ : List ℕ) : Type 0 where
   pub long : length users′ ≡ length users
   pub grows : (i k : ℕ) → k < wordBits → bitOf k (getD users i 0) ≡ 1 → bitOf k (getD users′ i 0) ≡ 1
-  pub under : (bound : ℕ) → stampOf (x .test) true < bound → stampOf (x .test) false < bound → Under memo bound → Under memo′ bound
+  pub under : (bound : ℕ) → stampIn (x .test) < bound → Under memo bound → Under memo′ bound
   pub right : (w : World) → Ready x w memo users → Right x w memo′ users′
 
 -- r is the answer to a question, with what a yes and what a no say
@@ -135,7 +132,7 @@ ChecksTerm x memo users i g memo′ users′ r = Tells x memo users memo′ user
 
 -- the question for one argument and the members that an arrow asks for
 abbrev pub MembersYes : Case → World → List ℕ → ℕ → ℕ → Type 0
-MembersYes x w users i g = (a : Tys) (r : Ty) → Goal (w .rs) g (arrow a r) → (m : Ty) → List·Memᴰ m (members a) → (flags : List ℕ) → Includes x w users (shut x i) flags → (u : Term) → At (w .ns) i u → Has w flags u m
+MembersYes x w users i g = (a : Tys) (r : Ty) → Goal (w .rs) g (arrow a r) → (m : Ty) → List·Memᴰ m (members a) → (flags : List ℕ) → Includes x w users flags → (u : Term) → At (w .ns) i u → Has w flags u m
 
 abbrev pub MembersNo : Case → World → ℕ → ℕ → Type 0
 MembersNo x w i g = (a : Tys) (r : Ty) → Goal (w .rs) g (arrow a r) → (u : Term) → At (w .ns) i u → ((m : Ty) → List·Memᴰ m (members a) → Has w (w .kept) u m) → ⊥
@@ -159,8 +156,7 @@ LooksOn memo wide stamp at goal word known r = ((goal / wordBits ≡ word) × (r
 -- the question for the arguments from a node on, and a type that has an arrow for each
 abbrev pub ArgsYes : Case → World → List ℕ → ℕ → ℕ → ℕ → Type 0
 ArgsYes x w users first n g =
-    (closed : Bool) (flags : List ℕ) → Includes x w users closed flags → (ts : Terms) → AllAt (w .ns) first ts → countᵗ ts ≡ n → (closed ≡ true → closeds ts ≡ true)
-    → (υ ρ : Ty) → Goal (w .rs) g υ → off n υ ≡ some ρ → Args (Has w flags) ts υ
+    (flags : List ℕ) → Includes x w users flags → (ts : Terms) → AllAt (w .ns) first ts → countᵗ ts ≡ n → (υ ρ : Ty) → Goal (w .rs) g υ → off n υ ≡ some ρ → Args (Has w flags) ts υ
 
 abbrev pub ArgsNo : Case → World → ℕ → ℕ → ℕ → Type 0
 ArgsNo x w first n g = (ts : Terms) → AllAt (w .ns) first ts → countᵗ ts ≡ n → (υ ρ : Ty) → Goal (w .rs) g υ → off n υ ≡ some ρ → Args (Has w (w .kept)) ts υ → ⊥
@@ -174,8 +170,7 @@ Targets n targets qs = (n ≤ length qs) × ((k : ℕ) → k < n → getD qs k 0
 
 abbrev pub TargetsYes : Case → World → List ℕ → ℕ → ℕ → ℕ → Type 0
 TargetsYes x w users first n targets =
-    (closed : Bool) (flags : List ℕ) → Includes x w users closed flags → (ts : Terms) → AllAt (w .ns) first ts → countᵗ ts ≡ n → (closed ≡ true → closeds ts ≡ true)
-    → (qs : List ℕ) (q : ℕ) → Targets n targets qs → Args (Has w flags) ts (takes qs q)
+    (flags : List ℕ) → Includes x w users flags → (ts : Terms) → AllAt (w .ns) first ts → countᵗ ts ≡ n → (qs : List ℕ) (q : ℕ) → Targets n targets qs → Args (Has w flags) ts (takes qs q)
 
 abbrev pub TargetsNo : Case → World → ℕ → ℕ → ℕ → Type 0
 TargetsNo x w first n targets = (ts : Terms) → AllAt (w .ns) first ts → countᵗ ts ≡ n → (qs : List ℕ) (q : ℕ) → Targets n targets qs → Args (Has w (w .kept)) ts (takes qs q) → ⊥

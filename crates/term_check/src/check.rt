@@ -168,7 +168,7 @@ fn try_binding(
     if !check_args(&*t, &*r, w, at + 1, node.count, ty) {
         return false;
     }
-    note_in(r, w, node.closed, c);
+    note_in(r, w, c);
     true
 }
 
@@ -189,7 +189,7 @@ fn check_listed(t: &[u16], r: &[u32], w: &mut [u32], at: usize, goal: usize, nod
         let ty = listed(t, r, node.number, node.count, goal, c);
         if ty != NONE {
             if check_args(&*t, &*r, w, at + 1, node.count, ty) {
-                note_in(r, w, node.closed, c);
+                note_in(r, w, c);
                 hint_in(r, w, at, node.number, goal, c);
                 return true;
             }
@@ -221,8 +221,18 @@ fn check_given(t: &[u16], r: &[u32], w: &mut [u32], at: usize, goal: usize, node
     false
 }
 
-// Whether the `count` arguments from node `at` on have what a type asks for.
+// Whether the `count` arguments from node `at` on have what a type asks for; where there are none, they have.
 fn check_args(t: &[u16], r: &[u32], w: &mut [u32], at: usize, count: usize, ty: usize) -> bool
+    ensures { λ b. ⌜ (length (now (w .exit)) ≡ length (now (w .entry))) × ChecksArgs (caseOf (now (t .entry)) (now (r .entry))) (answersOf (now (r .entry)) (now (w .entry))) (usersOf (now (r .entry)) (now (w .entry))) at count ty (answersOf (now (r .entry)) (now (w .exit))) (usersOf (now (r .entry)) (now (w .exit))) b ⌝ }
+{
+    if count == 0 {
+        return true;
+    }
+    check_all_args(&*t, &*r, w, at, count, ty)
+}
+
+// The same, one argument after another.
+fn check_all_args(t: &[u16], r: &[u32], w: &mut [u32], at: usize, count: usize, ty: usize) -> bool
     ensures { λ b. ⌜ (length (now (w .exit)) ≡ length (now (w .entry))) × ChecksArgs (caseOf (now (t .entry)) (now (r .entry))) (answersOf (now (r .entry)) (now (w .entry))) (usersOf (now (r .entry)) (now (w .entry))) at count ty (answersOf (now (r .entry)) (now (w .exit))) (usersOf (now (r .entry)) (now (w .exit))) b ⌝ }
 {
     let base = number_in(r, TEST_BASE);
@@ -282,19 +292,18 @@ fn check_states(t: &[u16], r: &[u32], w: &mut [u32], at: usize, asked: u32) -> b
 fn check_left(t: &[u16], r: &[u32], w: &mut [u32], at: usize, asked: u32, found: u32) -> bool
     ensures { λ b. ⌜ (length (now (w .exit)) ≡ length (now (w .entry))) × ((memo users : List ℕ) → Finds (caseOf (now (t .entry)) (now (r .entry))) memo users at (answersOf (now (r .entry)) (now (w .entry))) (usersOf (now (r .entry)) (now (w .entry))) found → ChecksAll (caseOf (now (t .entry)) (now (r .entry))) memo users at asked (answersOf (now (r .entry)) (now (w .exit))) (usersOf (now (r .entry)) (now (w .exit))) b) ⌝ }
 {
-    let closed = node_of(t, number_in(r, TEST_BASE), at).closed;
     let mut had = found;
     let mut left = left_of(asked, found);
     while left != 0 {
         let q = lowest(left);
         if !check_term(&*t, &*r, w, at, q) {
-            learn_in(r, w, closed, at, 0, with_bit(had, q), had);
+            learn_in(r, w, at, 0, with_bit(had, q), had);
             return false;
         }
         had = with_bit(had, q);
         left = without_bit(left, q);
     }
-    learn_in(r, w, closed, at, 0, had, had);
+    learn_in(r, w, at, 0, had, had);
     true
 }
 
@@ -332,7 +341,7 @@ fn find_bound(t: &[u16], r: &[u32], w: &mut [u32], at: usize, asked: u32, node: 
         if !check_args(&*t, &*r, w, at + 1, node.count, ty) {
             return had;
         }
-        note_in(r, w, node.closed, c);
+        note_in(r, w, c);
         had = with_bit(had, q);
         left = without_bit(left, q);
     }
@@ -369,7 +378,6 @@ fn find_given(t: &[u16], r: &[u32], w: &mut [u32], at: usize, asked: u32, node: 
 fn check_each(t: &[u16], r: &[u32], w: &mut [u32], at: usize, ty: usize) -> bool
     ensures { λ b. ⌜ (length (now (w .exit)) ≡ length (now (w .entry))) × ChecksMembers (caseOf (now (t .entry)) (now (r .entry))) (answersOf (now (r .entry)) (now (w .entry))) (usersOf (now (r .entry)) (now (w .entry))) at ty (answersOf (now (r .entry)) (now (w .exit))) (usersOf (now (r .entry)) (now (w .exit))) b ⌝ }
 {
-    let closed = node_of(t, number_in(r, TEST_BASE), at).closed;
     let many = many_of(t, ty);
     let mut known = Outlook { had: 0, lacked: 0 };
     let mut word = NONE;
@@ -377,7 +385,7 @@ fn check_each(t: &[u16], r: &[u32], w: &mut [u32], at: usize, ty: usize) -> bool
     while j < many {
         let goal = member_of(t, ty, j);
         j = j + 1;
-        known = outlook_on(r, w, closed, at, goal, word, known);
+        known = outlook_on(r, w, at, goal, word, known);
         word = goal / WORD;
         if has_bit(known.lacked, goal) {
             return false;
@@ -385,10 +393,10 @@ fn check_each(t: &[u16], r: &[u32], w: &mut [u32], at: usize, ty: usize) -> bool
         if !has_bit(known.had, goal) {
             let bit = with_bit(0, goal % WORD);
             if !check_member(&*t, &*r, w, at, goal) {
-                learn_in(r, w, closed, at, goal, bit, 0);
+                learn_in(r, w, at, goal, bit, 0);
                 return false;
             }
-            learn_in(r, w, closed, at, goal, bit, bit);
+            learn_in(r, w, at, goal, bit, bit);
         }
     }
     true
@@ -413,6 +421,6 @@ fn check_member(t: &[u16], r: &[u32], w: &mut [u32], at: usize, goal: usize) -> 
     if !check_args(&*t, &*r, w, at + 1, node.count, ty) {
         return check_term(&*t, &*r, w, at, goal);
     }
-    note_in(r, w, node.closed, c);
+    note_in(r, w, c);
     true
 }

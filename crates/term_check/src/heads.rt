@@ -185,7 +185,7 @@ pub fn look(t: &[u16], r: &[u32], w: &[u32], at: usize) -> Outlook
             };
         }
     }
-    outlook_in(r, w, node.closed, at, 0)
+    outlook_in(r, w, at, 0)
 }
 
 // The state that a type becomes with so many arrows off, where it is one of a set; else NONE.

@@ -53,6 +53,9 @@ pub fn head_hint(r: &[u32], w: &[u32], number: usize, goal: usize) -> usize {
 pub fn hint_in(r: &[u32], w: &mut [u32], at: usize, number: usize, goal: usize, c: usize)
     ensures { λ _. ⌜ (length (now (w .exit)) ≡ length (now (w .entry))) × (answersOf (now (r .entry)) (now (w .exit)) ≡ answersOf (now (r .entry)) (now (w .entry))) × (usersOf (now (r .entry)) (now (w .exit)) ≡ usersOf (now (r .entry)) (now (w .entry))) ⌝ }
 {
+    if number_in(r, TEST_USERS) < HINTS {
+        return;
+    }
     if from_of(r, w) < HINTS {
         return;
     }

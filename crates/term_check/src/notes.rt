@@ -1,17 +1,16 @@
-// What a test remembers and notes: of a node in whose term no parameter stands for all tests of a body in a round, else for one test.
+// The numbers of a test, and its notes.
 use index::layout::MAX_BINDINGS;
-use index::layout::TEST_ACROSS;
 use index::layout::TEST_BINDING;
-use index::layout::TEST_BODY;
-use index::layout::TEST_SHARED;
+use index::layout::TEST_BINDINGS;
 use index::layout::TEST_STAMP;
+use index::layout::TEST_WORDS;
 use index::layout::WORDS_LIMIT;
-use marks::put_in;
+use marks::briefs::mark_in;
 use marks::word_in;
 ghost use mathlib.Core.Path.{_≡_};
 ghost use Prim.Native.Nat.{_<_};
 ghost use lib.ListN.{getD};
-ghost use Rattle.term_check.specs.notes.Notes.{stampOf, ownerOf, Notes};
+ghost use Rattle.term_check.specs.notes.Notes.{stampIn, Notes};
 
 // A number of a test.
 pub fn number_in(test: &[u32], k: usize) -> usize
@@ -23,31 +22,20 @@ pub fn number_in(test: &[u32], k: usize) -> usize
     0
 }
 
-// The number under which the answers of a node are remembered.
-pub fn stamp_of(test: &[u32], closed: bool) -> u32
-    ensures { λ r. ⌜ r ≡ stampOf (now (test .entry)) closed ⌝ }
+// The number under which answers are remembered.
+pub fn stamp_of(test: &[u32]) -> u32
+    ensures { λ r. ⌜ r ≡ stampIn (now (test .entry)) ⌝ }
 {
-    if closed {
-        return word_in(test, 0, TEST_SHARED);
-    }
     word_in(test, 0, TEST_STAMP)
 }
 
-// The owner of what is noted at a node: the body, or the binding under test.
-fn owner_of(test: &[u32], closed: bool) -> usize
-    ensures { λ r. ⌜ r ≡ ownerOf (now (test .entry)) closed ⌝ }
+// Notes for the binding under test that a kept binding served.
+pub fn note(users: &mut [u32], test: &[u32], c: usize)
+    ensures { λ _. ⌜ Notes (now (users .entry)) (now (test .entry)) c (now (users .exit)) ⌝ }
 {
-    if closed {
-        return number_in(test, TEST_BODY);
-    }
-    number_in(test, TEST_BINDING)
-}
-
-// Notes that a kept binding served at a node.
-pub fn note(users: &mut [u32], test: &[u32], closed: bool, c: usize)
-    ensures { λ _. ⌜ Notes (now (users .entry)) (now (test .entry)) closed c (now (users .exit)) ⌝ }
-{
-    let across = number_in(test, TEST_ACROSS) % WORDS_LIMIT;
-    let owner = owner_of(test, closed);
-    put_in(users, c % MAX_BINDINGS * across, owner);
+    let words = number_in(test, TEST_WORDS) % WORDS_LIMIT;
+    let briefs = number_in(test, TEST_BINDINGS) * words;
+    let owner = number_in(test, TEST_BINDING);
+    let served = c % MAX_BINDINGS;
+    mark_in(users, served * words, briefs + served, owner);
 }

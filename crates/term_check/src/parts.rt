@@ -13,7 +13,7 @@ ghost use mathlib.Core.Path.{_≡_};
 ghost use Prim.Native.Nat.{_≤_};
 ghost use lib.ListN.{length};
 ghost use Rattle.answers.specs.Answers.{Looks, Learns};
-ghost use Rattle.term_check.specs.notes.Notes.{wideIn, stampOf, Notes};
+ghost use Rattle.term_check.specs.notes.Notes.{stampIn, wideIn, Notes};
 ghost use Rattle.term_check.specs.Worlds.{splitAt, fromIn, answersOf, usersOf, LooksOn};
 
 // Where the answers begin.
@@ -40,12 +40,12 @@ pub fn from_of(r: &[u32], w: &[u32]) -> usize
 }
 
 // What is remembered of a node and the goals that stand in one cell with a goal.
-pub fn outlook_in(r: &[u32], w: &[u32], closed: bool, at: usize, goal: usize) -> Outlook
-    ensures { λ s. ⌜ Looks (answersOf (now (r .entry)) (now (w .entry))) (wideIn (now (r .entry))) (stampOf (now (r .entry)) closed) at goal s ⌝ }
+pub fn outlook_in(r: &[u32], w: &[u32], at: usize, goal: usize) -> Outlook
+    ensures { λ s. ⌜ Looks (answersOf (now (r .entry)) (now (w .entry))) (wideIn (now (r .entry))) (stampIn (now (r .entry))) at goal s ⌝ }
 {
     let split = split_of(r, w);
     let wide = number_in(r, TEST_WIDE);
-    let stamp = stamp_of(r, closed);
+    let stamp = stamp_of(r);
     outlook_of(&w[split..], wide, stamp, at, goal)
 }
 
@@ -53,43 +53,34 @@ pub fn outlook_in(r: &[u32], w: &[u32], closed: bool, at: usize, goal: usize) ->
 pub fn outlook_on(
     r: &[u32],
     w: &[u32],
-    closed: bool,
     at: usize,
     goal: usize,
     word: usize,
     known: Outlook,
 ) -> Outlook
-    ensures { λ s. ⌜ LooksOn (answersOf (now (r .entry)) (now (w .entry))) (wideIn (now (r .entry))) (stampOf (now (r .entry)) closed) at goal word known s ⌝ }
+    ensures { λ s. ⌜ LooksOn (answersOf (now (r .entry)) (now (w .entry))) (wideIn (now (r .entry))) (stampIn (now (r .entry))) at goal word known s ⌝ }
 {
     if goal / WORD == word {
         return known;
     }
-    outlook_in(r, w, closed, at, goal)
+    outlook_in(r, w, at, goal)
 }
 
 // Remembers answers for goals that stand in one cell with a goal: those that are known, and which of these are had.
-pub fn learn_in(
-    r: &[u32],
-    w: &mut [u32],
-    closed: bool,
-    at: usize,
-    goal: usize,
-    known: u32,
-    had: u32,
-)
-    ensures { λ _. ⌜ (length (now (w .exit)) ≡ length (now (w .entry))) × (usersOf (now (r .entry)) (now (w .exit)) ≡ usersOf (now (r .entry)) (now (w .entry))) × Learns (answersOf (now (r .entry)) (now (w .entry))) (wideIn (now (r .entry))) (stampOf (now (r .entry)) closed) at goal known had (answersOf (now (r .entry)) (now (w .exit))) ⌝ }
+pub fn learn_in(r: &[u32], w: &mut [u32], at: usize, goal: usize, known: u32, had: u32)
+    ensures { λ _. ⌜ (length (now (w .exit)) ≡ length (now (w .entry))) × (usersOf (now (r .entry)) (now (w .exit)) ≡ usersOf (now (r .entry)) (now (w .entry))) × Learns (answersOf (now (r .entry)) (now (w .entry))) (wideIn (now (r .entry))) (stampIn (now (r .entry))) at goal known had (answersOf (now (r .entry)) (now (w .exit))) ⌝ }
 {
     let split = split_of(r, w);
     let wide = number_in(r, TEST_WIDE);
-    let stamp = stamp_of(r, closed);
+    let stamp = stamp_of(r);
     learn(&mut w[split..], wide, stamp, at, goal, known, had);
 }
 
-// Notes that a kept binding served at a node.
-pub fn note_in(r: &[u32], w: &mut [u32], closed: bool, c: usize)
-    ensures { λ _. ⌜ (length (now (w .exit)) ≡ length (now (w .entry))) × (answersOf (now (r .entry)) (now (w .exit)) ≡ answersOf (now (r .entry)) (now (w .entry))) × Notes (usersOf (now (r .entry)) (now (w .entry))) (now (r .entry)) closed c (usersOf (now (r .entry)) (now (w .exit))) ⌝ }
+// Notes that a kept binding served.
+pub fn note_in(r: &[u32], w: &mut [u32], c: usize)
+    ensures { λ _. ⌜ (length (now (w .exit)) ≡ length (now (w .entry))) × (answersOf (now (r .entry)) (now (w .exit)) ≡ answersOf (now (r .entry)) (now (w .entry))) × Notes (usersOf (now (r .entry)) (now (w .entry))) (now (r .entry)) c (usersOf (now (r .entry)) (now (w .exit))) ⌝ }
 {
     let split = split_of(r, w);
     let from = from_of(r, w);
-    note(&mut w[from..split], r, closed, c);
+    note(&mut w[from..split], r, c);
 }

@@ -232,32 +232,23 @@ testBase = 1
 abbrev pub testBinding : ℕ
 testBinding = 2
 
-abbrev pub testBody : ℕ
-testBody = 3
-
 abbrev pub testStamp : ℕ
-testStamp = 4
-
-abbrev pub testShared : ℕ
-testShared = 5
+testStamp = 3
 
 abbrev pub testWide : ℕ
-testWide = 6
+testWide = 4
 
 abbrev pub testWords : ℕ
-testWords = 7
-
-abbrev pub testAcross : ℕ
-testAcross = 8
+testWords = 5
 
 abbrev pub testBindings : ℕ
-testBindings = 9
+testBindings = 6
 
 abbrev pub testUsers : ℕ
-testUsers = 10
+testUsers = 7
 
 abbrev pub testAnswers : ℕ
-testAnswers = 11
+testAnswers = 8
 
 -- the cells in front of the sets of candidates, the cells of hints
 abbrev pub testCells : ℕ

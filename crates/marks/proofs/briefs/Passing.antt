@@ -8,7 +8,7 @@ use lib.Count.{trailingZeros}
 use lib.ListN.{length, getD}
 use Rattle.marks.specs.Marks.{bitOf, In, Puts}
 use Rattle.marks.specs.briefs.Briefs.{Marked, MarksIn, FindsMarked}
-use Rattle.marks.proofs.Bits.{zero-bit, high-bit, shift-bit, zeros-below}
+use Rattle.marks.proofs.Bits.{zero-bit, shift-bit, zeros-below}
 use Rattle.marks.proofs.Sets.{Passed}
 
 -- a number put into the set, and its word into the brief
@@ -21,10 +21,20 @@ marks-both words mid after at brief n p q =
           let same : n / 32 % 32 ≡ n / 32 = omega arith in
           let at-brief : brief + n / 32 / 32 ≡ brief = omega arith in
           let here = p .put room in
-          let in-brief = q .put (let l = p .long in omega arith) in
-          (q .grows (at + n / 32) (n % 32) (omega arith) here,
-          subst (λ i. bitOf (n / 32) (getD after i 0) ≡ 1) at-brief (subst (λ k. bitOf k (getD after (brief + n / 32 / 32) 0) ≡ 1) same in-brief));
+          let in-brief = q .put (let l = p .long in omega arith) in (
+            few,
+            q .grows (at + n / 32) (n % 32) (omega arith) here,
+            subst (λ i. bitOf (n / 32) (getD after i 0) ≡ 1) at-brief (subst (λ k. bitOf k (getD after (brief + n / 32 / 32) 0) ≡ 1) same in-brief),
+          );
     }
+
+-- what is in a set, and what is marked, stays so where no bit is lost
+module _ (words after : List ℕ) (more : (i k : ℕ) → k < 32 → bitOf k (getD words i 0) ≡ 1 → bitOf k (getD after i 0) ≡ 1) where
+  pub in-more : (at n : ℕ) → In words at n → In after at n
+  in-more at n h = more (at + n / 32) (n % 32) (omega arith) h
+
+  pub marked-more : (at brief n : ℕ) → Marked words at brief n → Marked after at brief n
+  marked-more at brief n (few, a, b) = (few, in-more at n a, more brief (n / 32) (omega arith) b)
 
 -- no number from the first on and below n is marked
 pub record Passes (words : List ℕ) (at brief from n : ℕ) : Type 0 where
@@ -40,7 +50,7 @@ passes-on {words} {at} {brief} {from} {n} {n′} p q = record { on = omega (arit
   where
     go : (m : ℕ) → from ≤ m → m < n′ → Marked words at brief m → Dec (m < n) → ⊥
     go m h l i (yes b) = p .none m h b i
-    go m h l i (no b) = q .none m (omega arith) l (i .0)
+    go m h l i (no b) = q .none m (omega arith) l (i .1)
 
 pub marked-end : {words : List ℕ} {at brief from n : ℕ} → Passes words at brief from n → (end : ℕ) → end ≤ n → FindsMarked words at brief from end end
 marked-end p end h = record { within = omega arith; passed = λ m f l. p .none m f (omega arith); found = λ l. absurd (omega arith) }
@@ -51,7 +61,7 @@ marked-here p end h = record { within = h; passed = p .none; found = λ l. p .on
 -- behind k words, by the brief
 module _ {words : List ℕ} {at brief from n : ℕ} (k : ℕ) (p : Passes words at brief from n) (e : n ≡ k * 32) (word : ℕ) (is : word ≡ getD words (brief + 0) 0) where
   bit-there : (m : ℕ) → Marked words at brief m → bitOf (m / 32) word ≡ 1
-  bit-there m i = let same : brief + 0 ≡ brief = omega arith in ap (bitOf (m / 32)) (is ∙ ap (λ x. getD words x 0) same) ∙ i .1
+  bit-there m i = let same : brief + 0 ≡ brief = omega arith in ap (bitOf (m / 32)) (is ∙ ap (λ x. getD words x 0) same) ∙ i .2
 
   -- the word of each number from n on below the next one has no bit
   beyond : (n′ : ℕ) → ((j : ℕ) → k ≤ j → j * 32 < n′ → bitOf j word ≡ 0) → (m : ℕ) → from ≤ m → m < n′ → Marked words at brief m → ⊥
@@ -64,8 +74,12 @@ module _ {words : List ℕ} {at brief from n : ℕ} (k : ℕ) (p : Passes words 
   all-passed : (end : ℕ) → ((j : ℕ) → k ≤ j → j * 32 < end → bitOf j word ≡ 0) → FindsMarked words at brief from end end
   all-passed end z = record { within = omega arith; passed = beyond end z; found = λ l. absurd (omega arith) }
 
-  pub brief-past : word < 2 ^ 32 → 32 ≤ k → (end : ℕ) → FindsMarked words at brief from end end
-  brief-past bound far end = all-passed end (λ j l b. high-bit j 32 word bound (omega arith))
+  pub brief-past : 32 ≤ k → (end : ℕ) → FindsMarked words at brief from end end
+  brief-past far end = record { within = omega arith; passed = λ m h l i. go m h i (decLt m n); found = λ l. absurd (omega arith) }
+    where
+      go : (m : ℕ) → from ≤ m → Marked words at brief m → Dec (m < n) → ⊥
+      go m h i (yes b) = p .none m h b i
+      go m h i (no b) = let few = i .0 in omega arith
 
   shifted-down : (j : ℕ) → k ≤ j → bitOf j word ≡ bitOf (j - k) (word / 2 ^ k)
   shifted-down j l = let back : k + (j - k) ≡ j = omega arith in sym (shift-bit (j - k) k word ∙ ap (λ x. bitOf x word) back)

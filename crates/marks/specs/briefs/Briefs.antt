@@ -7,9 +7,9 @@ use lib.ListN.{length, getD}
 use Rattle.index.specs.layout.Layout.{wordBits}
 use Rattle.marks.specs.Marks.{bitOf, In}
 
--- number n is marked: it is in the set at a place, and its word is in the brief
+-- number n is marked: it may be, it is in the set at a place, and its word is in the brief
 abbrev pub Marked : List ℕ → ℕ → ℕ → ℕ → Type 0
-Marked words at brief n = In words at n × (bitOf (n / wordBits) (getD words brief 0) ≡ 1)
+Marked words at brief n = (n < wordBits * wordBits) × In words at n × (bitOf (n / wordBits) (getD words brief 0) ≡ 1)
 
 -- number n is marked, and no bit is lost
 pub record MarksIn (words : List ℕ) (at brief n : ℕ) (after : List ℕ) : Type 0 where

@@ -11,10 +11,12 @@ use lib.Seq.{getD-set-same, getD-set-other}
 use Rattle.casefile.specs.Records.{Record}
 use Rattle.index.specs.layout.Layout.{maxBindings, maxBindingWords, rowLimit}
 use Rattle.marks.specs.Marks.{In, FindsNext}
+use Rattle.marks.specs.briefs.Briefs.{Marked}
 use Rattle.tables.specs.Facts.{CandidatesAre}
 use Rattle.tables.specs.Filling.{wordsFor, LeavesSets}
-use Rattle.term_check.proofs.check.Keeping.{in-more}
+use Rattle.marks.proofs.briefs.Passing.{marked-more}
 use Rattle.rounds.specs.Resting.{total, Frame, Noted, Room}
+use Rattle.rounds.specs.tested.Tested.{Todo}
 use Rattle.rounds.specs.dropping.Dropping.{Joins, Drops, DropsAll}
 use Rattle.rounds.specs.declared.tested.Sizes.{Sizes}
 
@@ -32,6 +34,9 @@ finds-less {b = b} {end = end} {r = r} n h = go (decLt r end)
     go (yes l) = let f = n .found l .0 in omega arith
     go (no l) = omega arith
 
+pub columns-fit : (n : ℕ) → n % rowLimit * ((n % rowLimit + 31) / 32) ≤ 131008
+columns-fit n = mul-le-mul {n₁ = n % rowLimit} {m₁ = (n % rowLimit + 31) / 32} {n₂ = 2047} {m₂ = 64} (omega arith) (omega arith)
+
 pub product-fits : (b n : ℕ) → b % maxBindings * ((n % rowLimit + 31) / 32) ≤ 65472
 product-fits b n = mul-le-mul {n₁ = b % maxBindings} {m₁ = (n % rowLimit + 31) / 32} {n₂ = 1023} {m₂ = 64} (omega arith) (omega arith)
 
@@ -44,7 +49,7 @@ module _ {rs : List Record} {t firsts : List ℕ} {sizes : Sizes} (f : Frame rs 
 
 module _ (t firsts users : List ℕ) (sizes : Sizes) where
   pub dropped-one : (b : ℕ) (sets flags todo sets′ flags′ todo′ : List ℕ) → flags′ ≡ set flags b 0 → LeavesSets t b ((sizes .bindings % rowLimit + 31) / 32) sets sets′
-      → Joins users (b % maxBindings * ((sizes .bindings % rowLimit + 31) / 32)) ((sizes .bindings % rowLimit + 31) / 32) todo todo′ → Drops t firsts users sizes b sets flags todo sets′ flags′ todo′
+      → Joins users (b % maxBindings * ((sizes .bindings % rowLimit + 31) / 32)) (sizes .bindings % rowLimit * ((sizes .bindings % rowLimit + 31) / 32) + b % maxBindings) todo todo′ → Drops t firsts users sizes b sets flags todo sets′ flags′ todo′
   dropped-one b sets flags todo sets′ flags′ todo′ e l j =
       record {
         sets-long = l .long;
@@ -57,15 +62,14 @@ module _ (t firsts users : List ℕ) (sizes : Sizes) where
             let w = words-are f in
             subst (λ x. CandidatesAre rs x sets′ (wordsFor rs)) (sym e)
             (subst (CandidatesAre rs (set flags b 0) sets′) w (l .left rs flags (f .table .types) (f .table .bindings) h k w (subst (CandidatesAre rs flags sets) (sym w) cs)));
-        marked = λ rs f room h long d k i.
+        marked = λ rs f room h long d i.
             let n = total-is f in
             let w = words-are f in
             let few = f .few-bindings in
-            let own : b % maxBindings ≡ b = omega arith in
-            let place : b * wordsFor rs ≡ b % maxBindings * ((sizes .bindings % rowLimit + 31) / 32) = ap₂ _*_ (sym own) (sym w) in
-            let columns : (b + 1) * wordsFor rs ≤ total rs * wordsFor rs = mul-le-mul {n₁ = b + 1} {m₁ = wordsFor rs} {n₂ = total rs} {m₂ = wordsFor rs} (omega arith) (omega arith) in
-            let column : (b + 1) * wordsFor rs ≡ b * wordsFor rs + wordsFor rs = omega arith in
-            j .joined d (omega arith) (omega arith) (omega arith) (subst (λ x. In users x d) place i);
+            let own : b ≡ b % maxBindings = omega arith in
+            let place : b * wordsFor rs ≡ b % maxBindings * ((sizes .bindings % rowLimit + 31) / 32) = ap₂ _*_ own (sym w) in
+            let brief : total rs * wordsFor rs + b ≡ sizes .bindings % rowLimit * ((sizes .bindings % rowLimit + 31) / 32) + b % maxBindings = ap₂ _+_ (ap₂ _*_ (sym n) (sym w)) own in
+            j .joined d long (subst (λ x. Marked users (b % maxBindings * ((sizes .bindings % rowLimit + 31) / 32)) x d) brief (subst (λ x. Marked users x (total rs * wordsFor rs + b) d) place i));
       }
 
   -- all that failed below b are dropped
@@ -76,7 +80,7 @@ module _ (t firsts users : List ℕ) (sizes : Sizes) where
     pub gone : (rs : List Record) → Frame rs t firsts sizes → past ≤ total rs → total rs ≤ length flags → (c : ℕ) → c < b → least ≤ c → c < past → In failed 0 c → getD flags′ c 0 ≡ 0
     pub others : (c : ℕ) → (In failed 0 c → ⊥) → getD flags′ c 0 ≡ getD flags c 0
     pub candidates : (rs : List Record) → Frame rs t firsts sizes → past ≤ total rs → total rs ≤ length flags → CandidatesAre rs flags sets (wordsFor rs) → CandidatesAre rs flags′ sets′ (wordsFor rs)
-    pub marked : (rs : List Record) → Frame rs t firsts sizes → Room rs users → past ≤ total rs → maxBindingWords ≤ length todo → (c d : ℕ) → c < b → least ≤ c → c < past → d < total rs → In failed 0 c → Noted rs users d c → In todo′ 0 d
+    pub marked : (rs : List Record) → Frame rs t firsts sizes → Room rs users → past ≤ total rs → maxBindingWords < length todo → (c d : ℕ) → c < b → least ≤ c → c < past → In failed 0 c → Noted rs users d c → Todo todo′ d
 
   module _ (failed sets flags todo : List ℕ) (least past : ℕ) where
     pub dropped-none : (r : ℕ) → FindsNext failed 0 least past r → Dropped failed sets flags todo least past sets flags todo r
@@ -88,7 +92,7 @@ module _ (t firsts users : List ℕ) (sizes : Sizes) where
           gone = λ rs f all room c l a h i. absurd (n .passed c a l i);
           others = λ c d. refl;
           candidates = λ rs f all room cs. cs;
-          marked = λ rs f ro all room c d l a h k i m. absurd (n .passed c a l i);
+          marked = λ rs f ro all room c d l a h i m. absurd (n .passed c a l i);
         }
 
     module _ (sets′ flags′ todo′ : List ℕ) (b : ℕ) (w : Dropped failed sets flags todo least past sets′ flags′ todo′ b) where
@@ -102,7 +106,7 @@ module _ (t firsts users : List ℕ) (sizes : Sizes) where
             gone = λ rs f all room c l a k i. gone-at rs f all room c l a k i (ℕ-discrete c b);
             others = λ c d. o .others c (λ e. d (subst (In failed 0) (sym e) here)) ∙ w .others c d;
             candidates = λ rs f all room cs. o .candidates rs f (omega arith) (inside rs all room) (w .candidates rs f all room cs);
-            marked = λ rs f ro all room c d l a k m i u. marked-at rs f ro all room c d l a k m i u (ℕ-discrete c b);
+            marked = λ rs f ro all room c d l a k i u. marked-at rs f ro all room c d l a k i u (ℕ-discrete c b);
           }
         where
           inside : (rs : List Record) → past ≤ total rs → total rs ≤ length flags → b < length flags′
@@ -119,9 +123,9 @@ module _ (t firsts users : List ℕ) (sizes : Sizes) where
           gone-at rs f all room c l a k i (yes e) = ap (λ x. getD flags″ x 0) e ∙ o .gone (inside rs all room)
           gone-at rs f all room c l a k i (no d) = o .others c d ∙ w .gone rs f all room c (passed c l d i) a k i
 
-          marked-at : (rs : List Record) → Frame rs t firsts sizes → Room rs users → past ≤ total rs → maxBindingWords ≤ length todo → (c d : ℕ) → c < r → least ≤ c → c < past → d < total rs → In failed 0 c → Noted rs users d c → Dec (c ≡ b) → In todo″ 0 d
-          marked-at rs f ro all room c d l a k m i u (yes e) = o .marked rs f ro (omega arith) (let s = w .todo-long in omega arith) d m (subst (Noted rs users d) e u)
-          marked-at rs f ro all room c d l a k m i u (no x) = in-more todo′ todo″ (o .grows) 0 d (w .marked rs f ro all room c d (passed c l x i) a k m i u)
+          marked-at : (rs : List Record) → Frame rs t firsts sizes → Room rs users → past ≤ total rs → maxBindingWords < length todo → (c d : ℕ) → c < r → least ≤ c → c < past → In failed 0 c → Noted rs users d c → Dec (c ≡ b) → Todo todo″ d
+          marked-at rs f ro all room c d l a k i u (yes e) = o .marked rs f ro (omega arith) (let s = w .todo-long in omega arith) d (subst (Noted rs users d) e u)
+          marked-at rs f ro all room c d l a k i u (no x) = marked-more todo′ todo″ (o .grows) 0 maxBindingWords d (w .marked rs f ro all room c d (passed c l x i) a k i u)
 
       pub dropped-all : past ≤ b → DropsAll t firsts users sizes failed sets flags todo least past sets′ flags′ todo′
       dropped-all h =
@@ -132,5 +136,5 @@ module _ (t firsts users : List ℕ) (sizes : Sizes) where
             gone = λ rs f all room c a k i. w .gone rs f all room c (omega arith) a k i;
             others = w .others;
             candidates = w .candidates;
-            marked = λ rs f ro all room c d a k m i u. w .marked rs f ro all room c d (omega arith) a k m i u;
+            marked = λ rs f ro all room c d a k i u. w .marked rs f ro all room c d (omega arith) a k i u;
           }

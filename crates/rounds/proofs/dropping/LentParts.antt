@@ -56,10 +56,10 @@ pub leave-part : (t r : List ℕ) (b words : ℕ) → testCells ≤ length r →
 leave-part t r b words h m l = (sets-placed r m h (l .long), subst (LeavesSets t b words (drop testCells r)) (sym (sets-back r m h (l .long))) (subst (λ s. LeavesSets t b words s m) (sets-lent r m h (l .long)) l))
 
 -- the users, lent
-pub join-part : (r w : List ℕ) (from split at n : ℕ) (into after : List ℕ) → split ≡ splitAt r w → split ≤ length w → from ≡ fromIn r w → Joins (take (split - from) (drop from w)) at n into after → Joins (usersOf r w) at n into after
+pub join-part : (r w : List ℕ) (from split at brief : ℕ) (into after : List ℕ) → split ≡ splitAt r w → split ≤ length w → from ≡ fromIn r w → Joins (take (split - from) (drop from w)) at brief into after → Joins (usersOf r w) at brief into after
 unfolding usersOf
-join-part r w from split at n into after es hs ef j =
-    subst (λ u. Joins u at n into after)
+join-part r w from split at brief into after es hs ef j =
+    subst (λ u. Joins u at brief into after)
     (before-middle w (take (split - from) (drop from w)) from split (from-below r w from split es hs ef) hs refl ∙ ap (λ f. drop f (take split w)) ef ∙ ap (λ s. drop (fromIn r w) (take s w)) es) j
 
 -- one that is dropped, by the users as the places stood before

@@ -21,7 +21,7 @@ use Rattle.answers.specs.Answers.{Under}
 use Rattle.tables.specs.Facts.{bindingAt, noBinding, CandidatesAre}
 use Rattle.tables.specs.Filling.{wordsFor}
 use Rattle.rounds.specs.Resting.{total, testOf, Holds, Frame, Noted, Rests, Room}
-use Rattle.rounds.specs.tested.Tested.{Ranged}
+use Rattle.rounds.specs.tested.Tested.{Ranged, Todo}
 use Rattle.rounds.specs.dropping.Dropping.{DropsAll}
 use Rattle.rounds.specs.shrinking.Shrinking.{Settled, Turnable, Turns, KeepsAll, Counts, ShrinksByRounds}
 use Rattle.rounds.specs.declared.tested.Sizes.{Sizes}
@@ -45,8 +45,11 @@ ones-bit zero k n h e = absurd (omega arith)
 ones-bit (suc w) zero n h e = omega arith
 ones-bit (suc w) (suc k) n h e = bit-next k n ∙ ones-bit w k (n / 2) (omega arith) (omega arith)
 
-pub all-in : (m : ℕ) → m < 1024 → In (replicate 32 4294967295) 0 m
-all-in m h = ap (bitOf (m % wordBits)) (getD-replicate 32 (0 + m / wordBits) 4294967295 0 (omega arith)) ∙ ones-bit 32 (m % wordBits) 4294967295 (omega arith) refl
+pub all-marked : (m : ℕ) → m < 1024 → Todo (replicate 33 4294967295) m
+all-marked m h = (h, bit-there (0 + m / wordBits) (m % wordBits) (omega arith) (omega arith), bit-there 32 (m / wordBits) (omega arith) (omega arith))
+  where
+    bit-there : (i k : ℕ) → i < 33 → k < 32 → bitOf k (getD (replicate 33 4294967295) i 0) ≡ 1
+    bit-there i k l b = ap (bitOf k) (getD-replicate 33 i 4294967295 0 l) ∙ ones-bit 32 k 4294967295 b refl
 
 -- what a flag becomes, by whether it says kept, whether the test failed, and the test's answer
 flag-dropped : (f : ℕ) (v : Bool) → (T v → ⊥) → 0 ≡ bit (isKept f && v)
@@ -89,11 +92,11 @@ module _ (t firsts : List ℕ) (sizes : Sizes) (sets₀ memo₀ users₀ lent : 
   pub record Going (sets memo users flags todo : List ℕ) (rounds last : ℕ) : Type 0 where
     pub long : length flags ≡ length lent
     pub users-long : length users ≡ length users₀
-    pub marks-long : length todo ≡ 32
+    pub marks-long : length todo ≡ 33
     pub under : Under memo₀ 1 → Under memo (last + 1)
     pub stays : (rs : List Record) → Given rs → drop (total rs) flags ≡ drop (total rs) lent
     pub candidates : (rs : List Record) → Given rs → CandidatesAre rs flags sets (wordsFor rs)
-    pub settled : (rs : List Record) → Given rs → Settled rs flags users todo
+    pub settled : (rs : List Record) → Given rs → Settled rs flags users (Todo todo)
     pub few : (rs : List Record) → Given rs → rounds + length (chosen flags (bindingsOf rs)) ≤ total rs
     pub left : (rs : List Record) → Given rs → Left (testOf rs) (bindingsOf rs) flags (length (chosen flags (bindingsOf rs))) rounds
 
@@ -101,7 +104,7 @@ module _ (t firsts : List ℕ) (sizes : Sizes) (sets₀ memo₀ users₀ lent : 
   reached end is rs w = let few = w .frame .few-bindings in let all = w .frame .bindings-are in omega arith
 
   -- all start kept and marked
-  pub going-none : (end : ℕ) → end ≡ sizes .bindings % 2048 → (entry : List ℕ) → KeepsAll end entry lent → Going sets₀ memo₀ users₀ lent (replicate 32 4294967295) 0 0
+  pub going-none : (end : ℕ) → end ≡ sizes .bindings % 2048 → (entry : List ℕ) → KeepsAll end entry lent → Going sets₀ memo₀ users₀ lent (replicate 33 4294967295) 0 0
   going-none end is entry k =
       record {
         long = refl;
@@ -110,7 +113,7 @@ module _ (t firsts : List ℕ) (sizes : Sizes) (sets₀ memo₀ users₀ lent : 
         under = λ u. u;
         stays = λ rs w. refl;
         candidates = λ rs w. candidates-same rs (replicate (total rs) 1) lent sets₀ (λ b l. sym (getD-take (total rs) lent b 0 l) ∙ ap (λ fs. getD fs b 0) (ones rs w)) (w .candidates);
-        settled = λ rs w b l s n. absurd (n (all-in b (let few = w .frame .few-bindings in omega arith)));
+        settled = λ rs w b l s n. absurd (n (all-marked b (let few = w .frame .few-bindings in omega arith)));
         few = λ rs w. let e = start rs w .kept-are in let many = bindings-many rs in omega arith;
         left = λ rs w. subst (λ n. Left (testOf rs) (bindingsOf rs) lent n 0) (start rs w .kept-are) (start rs w);
       }
@@ -152,7 +155,7 @@ module _ (t firsts : List ℕ) (sizes : Sizes) (sets₀ memo₀ users₀ lent : 
         failures : (b : ℕ) → b < total rs → In failed 0 b → (isKept (getD flags b 0) ≡ true) × (Holds rs flags b → ⊥)
         failures = turn .failures rs asks
 
-        resting : Settled rs flags users′ failed
+        resting : Settled rs flags users′ (In failed 0)
         resting = turn .settled rs asks
 
         ranged : Ranged failed n
@@ -229,7 +232,7 @@ module _ (t firsts : List ℕ) (sizes : Sizes) (sets₀ memo₀ users₀ lent : 
             rounds-here rs w = left-rounds (testOf rs) (bindingsOf rs) flags _ rounds (g .left rs w) (length (Rounds.round (testOf rs) (chosen flags (bindingsOf rs)))) (enough rs w) refl (kept-all rs w)
 
       -- some failed, and are dropped
-      module _ (h : n .past ≡ 0 → ⊥) (sets′ new todo′ : List ℕ) (d : DropsAll t firsts users′ sizes failed sets flags (replicate 32 0) (n .least) (n .past) sets′ new todo′) where
+      module _ (h : n .past ≡ 0 → ⊥) (sets′ new todo′ : List ℕ) (d : DropsAll t firsts users′ sizes failed sets flags (replicate 33 0) (n .least) (n .past) sets′ new todo′) where
         module _ (rs : List Record) (w : Given rs) where
           gone : (c : ℕ) → c < total rs → In failed 0 c → getD new c 0 ≡ 0
           gone c l i = let k = ranged rs w .inside c i in d .gone rs (w .frame) (few-failed rs w) (let l = g .long in let k = w .long in omega arith) c (k .0) (k .1) i
@@ -264,7 +267,7 @@ module _ (t firsts : List ℕ) (sizes : Sizes) (sets₀ memo₀ users₀ lent : 
                   let at : getD flags first 0 ≡ 0 = sym (getD-take all flags first 0 (let b = below in omega arith)) ∙ ap (λ fs. getD fs first 0) (sym same) ∙ getD-take all new first 0 (let b = below in omega arith) ∙ gone first below in-first in
                   absurd (zero-dropped (ap isKept (sym at) ∙ failures rs w first below in-first .0))
 
-          settled-new : Settled rs new users′ todo′
+          settled-new : Settled rs new users′ (Todo todo′)
           settled-new b l k unmarked = go (in-or-not failed 0 b)
             where
               go : Dec (In failed 0 b) → Rests rs new users′ b
@@ -275,7 +278,7 @@ module _ (t firsts : List ℕ) (sizes : Sizes) (sets₀ memo₀ users₀ lent : 
                   room = let r = w .room in let a = g .users-long in let b = turn .users-long in omega arith
 
                   has : (fs : List ℕ) → ((c : ℕ) → c < total rs → isKept (getD new c 0) ≡ true → Noted rs users′ b c → isKept (getD fs c 0) ≡ true) → (c : ℕ) → c < total rs → isKept (getD flags c 0) ≡ true → Noted rs users′ b c → Dec (In failed 0 c) → isKept (getD fs c 0) ≡ true
-                  has fs kept-noted c m s noted (yes j) = let k = ranged rs w .inside c j in absurd (unmarked (d .marked rs (w .frame) room (few-failed rs w) (omega arith) c b (k .0) (k .1) l j noted))
+                  has fs kept-noted c m s noted (yes j) = let k = ranged rs w .inside c j in absurd (unmarked (d .marked rs (w .frame) room (few-failed rs w) (omega arith) c b (k .0) (k .1) j noted))
                   has fs kept-noted c m s noted (no j) = kept-noted c m (ap isKept (others c j) ∙ s) noted
 
           past : drop (total rs) new ≡ drop (total rs) flags

@@ -8,21 +8,22 @@ use mathlib.Core.List.{List}
 use lib.ListN.{length, getD, drop}
 use Rattle.scheme.specs.Flags.{isKept}
 use Rattle.casefile.specs.Records.{Record}
-use Rattle.index.specs.layout.Layout.{wordBits, rowLimit, testCells}
-use Rattle.marks.specs.Marks.{bitOf, In, FindsNext}
+use Rattle.index.specs.layout.Layout.{wordBits, maxBindingWords, rowLimit, testCells}
+use Rattle.marks.specs.Marks.{bitOf, In}
+use Rattle.marks.specs.briefs.Briefs.{FindsMarked}
 use Rattle.answers.specs.Answers.{Under}
 use Rattle.tables.specs.Filling.{wordsFor}
 use Rattle.term_check.specs.Worlds.{answersOf, usersOf}
-use Rattle.term_check.proofs.check.Keeping.{in-more}
+use Rattle.marks.proofs.briefs.Passing.{in-more, marked-more}
 use Rattle.rounds.specs.Resting.{total, Holds, Rests}
-use Rattle.rounds.specs.tested.Tested.{Placed, Grows, Ranged, Retests}
+use Rattle.rounds.specs.tested.Tested.{Placed, Todo, Grows, Ranged, Retests}
 use Rattle.rounds.specs.shrinking.Shrinking.{Turnable, Turns}
 use Rattle.rounds.specs.declared.tested.Sizes.{Sizes}
 use Rattle.rounds.specs.declared.tested.Course.{Course}
 use Rattle.rounds.proofs.tested.Placing.{moved}
 
 pub rests-more : (rs : List Record) (kept users users′ : List ℕ) → Grows users users′ → (b : ℕ) → Rests rs kept users b → Rests rs kept users′ b
-rests-more rs kept users users′ g b r flags h = r flags (λ c l k n. h c l k (in-more users users′ g (c * wordsFor rs) b n))
+rests-more rs kept users users′ g b r flags h = r flags (λ c l k n. h c l k (marked-more users users′ g (c * wordsFor rs) (total rs * wordsFor rs + c) b n))
 
 pub in-or-not : (words : List ℕ) (at n : ℕ) → Dec (In words at n)
 in-or-not words at n = ℕ-discrete (bitOf (n % wordBits) (getD words (at + n / wordBits) 0)) 1
@@ -40,9 +41,9 @@ module _ (t sets firsts : List ℕ) (sizes : Sizes) (kept todo memo users failed
     pub before : n .past ≤ b
     pub ranged : (rs : List Record) → Given rs → Ranged failed′ n
     pub failures : (rs : List Record) → Given rs → (c : ℕ) → c < total rs → In failed′ 0 c → (isKept (getD kept c 0) ≡ true) × (Holds rs kept c → ⊥)
-    pub settled : (rs : List Record) → Given rs → (c : ℕ) → c < total rs → isKept (getD kept c 0) ≡ true → (In failed′ 0 c → ⊥) → (In todo 0 c → c < b) → Rests rs kept users′ c
+    pub settled : (rs : List Record) → Given rs → (c : ℕ) → c < total rs → isKept (getD kept c 0) ≡ true → (In failed′ 0 c → ⊥) → (Todo todo c → c < b) → Rests rs kept users′ c
 
-  pub turn-none : (end b : ℕ) → FindsNext todo 0 0 end b → Turning memo users failed (record { last = last; least = 0; past = 0 }) b
+  pub turn-none : (end b : ℕ) → FindsMarked todo 0 maxBindingWords 0 end b → Turning memo users failed (record { last = last; least = 0; past = 0 }) b
   turn-none end b f =
       record {
         users-long = refl;
@@ -56,7 +57,7 @@ module _ (t sets firsts : List ℕ) (sizes : Sizes) (kept todo memo users failed
 
   module _ (memo′ users′ failed′ : List ℕ) (n : Course) (b : ℕ) (w : Turning memo′ users′ failed′ n b) (end : ℕ) (is : end ≡ sizes .bindings % rowLimit) where
     pub turn-more : b < end → (memo″ users″ failed″ : List ℕ) (next : Course) (b′ : ℕ) → length users″ ≡ length users′ → length failed″ ≡ length failed′
-        → Retests t sets firsts sizes kept memo′ users′ failed′ n b memo″ users″ failed″ next → FindsNext todo 0 (b + 1) end b′
+        → Retests t sets firsts sizes kept memo′ users′ failed′ n b memo″ users″ failed″ next → FindsMarked todo 0 maxBindingWords (b + 1) end b′
         → Turning memo″ users″ failed″ next b′
     turn-more small memo″ users″ failed″ next b′ lu lf r f =
         record {
@@ -73,7 +74,7 @@ module _ (t sets firsts : List ℕ) (sizes : Sizes) (kept todo memo users failed
         behind = go (decLt b′ end)
           where
             go : Dec (b′ < end) → b + 1 ≤ b′
-            go (yes l) = f .found l .0
+            go (yes l) = f .found l
             go (no l) = omega arith
 
         inside : (rs : List Record) → Given rs → b < total rs
@@ -88,13 +89,13 @@ module _ (t sets firsts : List ℕ) (sizes : Sizes) (kept todo memo users failed
         failing rs g c l i (yes e) (no j) =
             subst (λ x. In failed″ 0 x → (In failed′ 0 x → ⊥) → x < total rs → (isKept (getD kept x 0) ≡ true) × (Holds rs kept x → ⊥)) (sym e) (λ i′ j′ l′. answer rs g l′ .1 i′ j′) i j l
 
-        settling : (rs : List Record) → Given rs → (c : ℕ) → c < total rs → isKept (getD kept c 0) ≡ true → (In failed″ 0 c → ⊥) → (In todo 0 c → c < b′) → Dec (c ≡ b) → Rests rs kept users″ c
+        settling : (rs : List Record) → Given rs → (c : ℕ) → c < total rs → isKept (getD kept c 0) ≡ true → (In failed″ 0 c → ⊥) → (Todo todo c → c < b′) → Dec (c ≡ b) → Rests rs kept users″ c
         settling rs g c l k no′ m (yes e) =
             subst (λ x. x < total rs → isKept (getD kept x 0) ≡ true → (In failed″ 0 x → ⊥) → Rests rs kept users″ x) (sym e) (λ l′ k′ n′. answer rs g l′ .0 k′ n′) l k no′
         settling rs g c l k no′ m (no d) =
             rests-more rs kept users′ users″ (r .grows) c (w .settled rs g c l k (λ i. no′ (in-more failed′ failed″ (r .more) 0 c i)) (λ i. below c d i (m i) (decLt c b)))
           where
-            below : (c : ℕ) → (c ≡ b → ⊥) → In todo 0 c → c < b′ → Dec (c < b) → c < b
+            below : (c : ℕ) → (c ≡ b → ⊥) → Todo todo c → c < b′ → Dec (c < b) → c < b
             below c d i h (yes s) = s
             below c d i h (no s) = absurd (f .passed c (let z = d in omega arith) h i)
 

@@ -14,7 +14,7 @@ use Rattle.index.specs.layout.Layout.{testCells}
 use Rattle.marks.specs.Marks.{In, Puts}
 use Rattle.answers.specs.Answers.{Under}
 use Rattle.term_check.specs.Worlds.{answersOf, usersOf}
-use Rattle.term_check.proofs.check.Keeping.{in-more}
+use Rattle.marks.proofs.briefs.Passing.{in-more}
 use Rattle.rounds.specs.tested.Tested.{Same, Freshens, Fails, TestsBinding, Ranged, Retests}
 use Rattle.rounds.specs.declared.tested.Sizes.{Sizes}
 use Rattle.rounds.specs.declared.tested.Course.{Course}

@@ -4,7 +4,6 @@ use Prim.Native.Nat.{ℕ, _+_, _*_, _/_, _%_, _<_, _≤_, max}
 use native.Mathlib.Omega.{arith}
 use native.Mathlib.Nat.{mul-le-mul}
 use mathlib.Core.Path.{_≡_, refl, sym, ap, subst, _∙_}
-use mathlib.Core.Logic.{_⊎_, inl, inr}
 use mathlib.Core.Bool.{Bool, true, false, false≢true}
 use mathlib.Core.List.{List, [], _∷_, append-nil}
 use lib.ListN.{length, getD, drop}
@@ -20,16 +19,16 @@ use Rattle.casefile.specs.Records.{Record}
 use Rattle.casefile.specs.Kinds.{Kind, payloads, count}
 use Rattle.casefile.specs.Tables.{nodesOf, bodyOf, planOf}
 use Rattle.casefile.proofs.TypeTable.{count-payloads}
-use Rattle.index.specs.layout.Layout.{maxStates, testOwn, testBase, testBinding, testBody, testStamp, testShared, testWords, testAcross, testBindings, testAnswers, testCells}
+use Rattle.index.specs.layout.Layout.{maxStates, testOwn, testBase, testBinding, testStamp, testWords, testBindings, testAnswers, testCells}
 use Rattle.rules.specs.reading.RuleBodies.{ruleOf, firstNode}
-use Rattle.marks.specs.Marks.{In}
+use Rattle.marks.specs.briefs.Briefs.{Marked}
 use Rattle.answers.specs.Answers.{Under}
 use Rattle.answers.proofs.Answers.{fresh}
 use Rattle.tables.specs.reading.Cells.{endOf, ownOf, symbolOf}
 use Rattle.tables.specs.Facts.{Goal, of-state, of-arrow, TypesAre, CandidatesAre, NodesAre, At, bindingAt}
 use Rattle.tables.specs.Filling.{nodesFrom, wordsFor}
-use Rattle.term_check.specs.notes.Notes.{ownIn, baseIn, wideIn, wordsIn, acrossIn, totalIn, stampOf, ownerOf, columnOf}
-use Rattle.term_check.specs.Worlds.{Case, caseOf, World, Setting, Includes, Right, Ready, ChecksTerm, Has, shut, answersOf, usersOf}
+use Rattle.term_check.specs.notes.Notes.{ownIn, baseIn, ownerIn, stampIn, wideIn, wordsIn, totalIn, columnOf, briefOf, Noted}
+use Rattle.term_check.specs.Worlds.{Case, caseOf, World, Setting, Includes, Right, Ready, ChecksTerm, Has, answersOf, usersOf}
 use Rattle.term_check.specs.Worlds as Worlds
 use Rattle.rounds.specs.Resting.{total, Holds, Frame, Room}
 use Rattle.rounds.specs.tested.Tested.{Writes, TestsBinding}
@@ -51,7 +50,7 @@ body-there : (rs : List Record) (f : ℕ) → f < count Kind.rule rs → body (p
 unfolding body planOf
 body-there rs f h = getD-map-in bodyOf (payloads Kind.rule rs) f (node (nt f) []ᵗ) [] (let c = count-payloads Kind.rule rs in omega arith)
 
-module _ (t firsts : List ℕ) (sizes : Sizes) (before test memo users : List ℕ) (stamp b : ℕ) (own first base number words wide all goal : ℕ) (written : Writes (own ∷ base ∷ number ∷ number ∷ stamp ∷ stamp ∷ wide ∷ words ∷ words ∷ all ∷ []) before test) where
+module _ (t firsts : List ℕ) (sizes : Sizes) (before test memo users : List ℕ) (stamp b : ℕ) (own first base number words wide all goal : ℕ) (written : Writes (own ∷ base ∷ number ∷ stamp ∷ wide ∷ words ∷ all ∷ []) before test) where
   abbrev sets : List ℕ
   sets = drop testCells test
 
@@ -59,15 +58,11 @@ module _ (t firsts : List ℕ) (sizes : Sizes) (before test memo users : List �
   x = caseOf t test
 
   -- the numbers of the test
-  stamp-is : (closed : Bool) → stampOf test closed ≡ stamp
-  unfolding stampOf
-  stamp-is true = written .written testShared (omega arith)
-  stamp-is false = written .written testStamp (omega arith)
+  stamp-is : stampIn test ≡ stamp
+  stamp-is = written .written testStamp (omega arith)
 
-  owner-is : (closed : Bool) → ownerOf test closed ≡ number
-  unfolding ownerOf
-  owner-is true = written .written testBody (omega arith)
-  owner-is false = written .written testBinding (omega arith)
+  owner-is : ownerIn test ≡ number
+  owner-is = written .written testBinding (omega arith)
 
   own-in : ownIn test ≡ own
   own-in = written .written testOwn (omega arith)
@@ -77,9 +72,6 @@ module _ (t firsts : List ℕ) (sizes : Sizes) (before test memo users : List �
 
   words-in : getD test testWords 0 ≡ words
   words-in = written .written testWords (omega arith)
-
-  across-in : getD test testAcross 0 ≡ words
-  across-in = written .written testAcross (omega arith)
 
   all-in : totalIn test ≡ all
   all-in = written .written testBindings (omega arith)
@@ -101,8 +93,8 @@ module _ (t firsts : List ℕ) (sizes : Sizes) (before test memo users : List �
       words-for : wordsIn test ≡ wordsFor rs
       words-for = let n = frame .bindings-are in let few = frame .few-bindings in let i = words-in in omega arith
 
-      across-for : acrossIn test ≡ wordsFor rs
-      across-for = let n = frame .bindings-are in let few = frame .few-bindings in let i = across-in in omega arith
+      all-for : totalIn test ≡ total rs
+      all-for = let n = frame .bindings-are in let few = frame .few-bindings in let i = all-in in omega arith
 
       number-for : number ≡ b
       number-for = let few = frame .few-bindings in omega arith
@@ -120,7 +112,10 @@ module _ (t firsts : List ℕ) (sizes : Sizes) (before test memo users : List �
           omega arith
 
       column-for : (c : ℕ) → c < total rs → columnOf test c ≡ c * wordsFor rs
-      column-for c h = let few = frame .few-bindings in let i : c % 1024 ≡ c = omega arith in ap (λ k. k * acrossIn test) i ∙ ap (λ k. c * k) across-for
+      column-for c h = let few = frame .few-bindings in let i : c % 1024 ≡ c = omega arith in ap (λ k. k * wordsIn test) i ∙ ap (λ k. c * k) words-for
+
+      brief-for : (c : ℕ) → c < total rs → briefOf test c ≡ total rs * wordsFor rs + c
+      brief-for c h = let few = frame .few-bindings in let i : c % 1024 ≡ c = omega arith in ap (λ k. totalIn test * wordsIn test + k) i ∙ ap (λ k. k * wordsIn test + c) all-for ∙ ap (λ k. total rs * k + c) words-for
 
       is-own : Goal rs own τ
       is-own = subst (λ k. Goal rs k τ) (sym own-is) (frame .table .bindings .own b inside)
@@ -134,25 +129,30 @@ module _ (t firsts : List ℕ) (sizes : Sizes) (before test memo users : List �
             candidates = subst (CandidatesAre rs kept sets) (sym words-for) are;
             nodes = subst (λ k. NodesAre t k (nodesOf (ruleOf rs f))) (sym (base-in ∙ base-for)) (frame .table .bodies f ruled);
             own = subst (λ k. Goal rs k τ) (sym own-in) is-own;
-            all-bindings = let n = frame .bindings-are in let few = frame .few-bindings in let i = all-in in omega arith;
+            all-bindings = all-for;
             few-bindings = frame .few-bindings;
           }
 
       roomy : Worlds.Room x w users
-      roomy c closed h =
-          let i = column-for c h in
-          let o = owner-is closed in
-          let n = number-for in
-          let m : (c + 1) * wordsFor rs ≤ total rs * wordsFor rs = mul-le-mul {n₁ = c + 1} {m₁ = wordsFor rs} {n₂ = total rs} {m₂ = wordsFor rs} (omega arith) (omega arith) in
-          let e : (c + 1) * wordsFor rs ≡ c * wordsFor rs + wordsFor rs = omega arith in
-          let k : ownerOf test closed / 32 < wordsFor rs = omega arith in
-          omega arith
+      roomy =
+          record {
+            owner = let few = frame .few-bindings in let o = owner-is in let n = number-for in omega arith;
+            columns = λ c h.
+                let i = column-for c h in
+                let o = owner-is in
+                let n = number-for in
+                let m : (c + 1) * wordsFor rs ≤ total rs * wordsFor rs = mul-le-mul {n₁ = c + 1} {m₁ = wordsFor rs} {n₂ = total rs} {m₂ = wordsFor rs} (omega arith) (omega arith) in
+                let e : (c + 1) * wordsFor rs ≡ c * wordsFor rs + wordsFor rs = omega arith in
+                let k : ownerIn test / 32 < wordsFor rs = omega arith in
+                omega arith;
+            briefs = λ c h. let i = brief-for c h in omega arith;
+          }
 
       right : Right x w memo users
       right =
           record {
-            yes = λ i g s. absurd (fresh memo (wideIn test) (stampOf test (shut x i)) i g true (subst (Under memo) (sym (stamp-is (shut x i))) under) s);
-            no = λ i g s. absurd (fresh memo (wideIn test) (stampOf test (shut x i)) i g false (subst (Under memo) (sym (stamp-is (shut x i))) under) s);
+            yes = λ i g s. absurd (fresh memo (wideIn test) (stampIn test) i g true (subst (Under memo) (sym stamp-is) under) s);
+            no = λ i g s. absurd (fresh memo (wideIn test) (stampIn test) i g false (subst (Under memo) (sym stamp-is) under) s);
           }
 
       pub ready : Ready x w memo users
@@ -175,30 +175,26 @@ module _ (t firsts : List ℕ) (sizes : Sizes) (before test memo users : List �
       from-holds flags h = subst (λ u. Has w flags u (final τ)) (body-there rs f ruled) h
 
       -- flags that have what is noted for the binding
-      pub includes : (users′ flags : List ℕ) (closed : Bool) → ((c : ℕ) → c < total rs → isKept (getD kept c 0) ≡ true → In users′ (c * wordsFor rs) b → isKept (getD flags c 0) ≡ true) → Includes x w users′ closed flags
-      includes users′ flags closed inc c h r = inc c h (r .is-kept) (go (r .noted))
+      pub includes : (users′ flags : List ℕ) → ((c : ℕ) → c < total rs → isKept (getD kept c 0) ≡ true → Marked users′ (c * wordsFor rs) (total rs * wordsFor rs + c) b → isKept (getD flags c 0) ≡ true) → Includes x w users′ flags
+      includes users′ flags inc c h r = inc c h (r .is-kept) (go (r .noted))
         where
-          move : (cl : Bool) → In users′ (columnOf test c) (ownerOf test cl) → In users′ (c * wordsFor rs) b
-          move cl i = subst (λ k. In users′ k b) (column-for c h) (subst (λ k. In users′ (columnOf test c) k) (owner-is cl ∙ number-for) i)
-
-          go : In users′ (columnOf test c) (ownerOf test true) ⊎ ((closed ≡ false) × In users′ (columnOf test c) (ownerOf test false)) → In users′ (c * wordsFor rs) b
-          go (inl i) = move true i
-          go (inr (e, i)) = move false i
+          go : Noted users′ test c → Marked users′ (c * wordsFor rs) (total rs * wordsFor rs + c) b
+          go n = subst (λ k. Marked users′ (c * wordsFor rs) k b) (brief-for c h) (subst (λ k. Marked users′ k (briefOf test c) b) (column-for c h) (subst (λ k. Marked users′ (columnOf test c) (briefOf test c) k) (owner-is ∙ number-for) n))
 
     pub tests : (memo′ users′ : List ℕ) (r : Bool) → ChecksTerm x memo users 0 goal memo′ users′ r → TestsBinding t sets firsts sizes memo users stamp b memo′ users′ r
     tests memo′ users′ r told =
         record {
           grows = told .keeps .grows;
-          under = λ u. told .keeps .under (stamp + 1) (let e = stamp-is true in omega arith) (let e = stamp-is false in omega arith) (λ i. let k = u i in omega arith);
+          under = λ u. told .keeps .under (stamp + 1) (let e = stamp-is in omega arith) (λ i. let k = u i in omega arith);
           yes = λ y rs kept frame are room u h flags inc.
               to-holds rs kept frame are room u h flags
-              (told .yes y (w rs kept frame are room u h) (ready rs kept frame are room u h) flags (includes rs kept frame are room u h users′ flags (shut x 0) inc) (bodyOf (ruleOf rs (bindingAt rs b .nonterminal))) (at-first rs kept frame are room u h) (final (bindingAt rs b .type)) (is-goal rs kept frame are room u h));
+              (told .yes y (w rs kept frame are room u h) (ready rs kept frame are room u h) flags (includes rs kept frame are room u h users′ flags inc) (bodyOf (ruleOf rs (bindingAt rs b .nonterminal))) (at-first rs kept frame are room u h) (final (bindingAt rs b .type)) (is-goal rs kept frame are room u h));
           no = λ y rs kept frame are room u h k.
               told .no y (w rs kept frame are room u h) (ready rs kept frame are room u h) (bodyOf (ruleOf rs (bindingAt rs b .nonterminal))) (at-first rs kept frame are room u h) (final (bindingAt rs b .type)) (is-goal rs kept frame are room u h) (from-holds rs kept frame are room u h kept k);
         }
 
 -- the same of the parts as they were before the numbers were written
-pub tests-before : (t firsts : List ℕ) (sizes : Sizes) (before test now : List ℕ) (stamp b : ℕ) (own first base number words wide all goal : ℕ) → Writes (own ∷ base ∷ number ∷ number ∷ stamp ∷ stamp ∷ wide ∷ words ∷ words ∷ all ∷ []) before test
+pub tests-before : (t firsts : List ℕ) (sizes : Sizes) (before test now : List ℕ) (stamp b : ℕ) (own first base number words wide all goal : ℕ) → Writes (own ∷ base ∷ number ∷ stamp ∷ wide ∷ words ∷ all ∷ []) before test
     → own ≡ ownOf t b → first ≡ getD firsts (symbolOf t b) 0 → base ≡ sizes .nodes % 131072 + first * 3 → number ≡ b % 1024 → words ≡ (sizes .bindings % 2048 + 31) / 32 → all ≡ sizes .bindings % 2048 → goal ≡ endOf t own
     → (later : List ℕ) (r : Bool) → ChecksTerm (caseOf t test) (answersOf test now) (usersOf test now) 0 goal (answersOf test later) (usersOf test later) r
     → TestsBinding t (drop testCells before) firsts sizes (answersOf before now) (usersOf before now) stamp b (answersOf before later) (usersOf before later) r

@@ -16,13 +16,13 @@ use Rattle.answers.specs.Answers.{Under}
 use Rattle.tables.specs.Facts.{CandidatesAre}
 use Rattle.tables.specs.Filling.{wordsFor}
 use Rattle.rounds.specs.Resting.{total, testOf, Holds, Frame, Rests, Room}
-use Rattle.rounds.specs.tested.Tested.{Ranged}
+use Rattle.rounds.specs.tested.Tested.{Ranged, Todo}
 use Rattle.rounds.specs.declared.tested.Sizes.{Sizes}
 use Rattle.rounds.specs.declared.tested.Course.{Course}
 
 -- the bindings that are kept and not marked rest on what is noted for them
-abbrev pub Settled : List Record → List ℕ → List ℕ → List ℕ → Type 0
-Settled rs kept users todo = (b : ℕ) → b < total rs → isKept (getD kept b 0) ≡ true → (In todo 0 b → ⊥) → Rests rs kept users b
+abbrev pub Settled : List Record → List ℕ → List ℕ → (ℕ → Type 0) → Type 0
+Settled rs kept users Is-marked = (b : ℕ) → b < total rs → isKept (getD kept b 0) ≡ true → (Is-marked b → ⊥) → Rests rs kept users b
 
 -- what a turn asks of a file
 pub record Turnable (t sets firsts : List ℕ) (sizes : Sizes) (kept todo memo users failed : List ℕ) (last : ℕ) (rs : List Record) : Type 0 where
@@ -32,7 +32,7 @@ pub record Turnable (t sets firsts : List ℕ) (sizes : Sizes) (kept todo memo u
   pub under : Under memo (last + 1)
   pub long : maxBindingWords ≤ length failed
   pub none : (c : ℕ) → In failed 0 c → ⊥
-  pub settled : Settled rs kept users todo
+  pub settled : Settled rs kept users (Todo todo)
 
 -- one turn over the marked bindings: those that fail are marked in a set that was empty, all others that are kept rest on their notes
 pub record Turns (t sets firsts : List ℕ) (sizes : Sizes) (kept todo memo users failed : List ℕ) (last : ℕ) (memo′ users′ failed′ : List ℕ) (r : Course) : Type 0 where
@@ -42,7 +42,7 @@ pub record Turns (t sets firsts : List ℕ) (sizes : Sizes) (kept todo memo user
   pub before : r .past ≤ sizes .bindings % rowLimit
   pub ranged : (rs : List Record) → Turnable t sets firsts sizes kept todo memo users failed last rs → Ranged failed′ r
   pub failures : (rs : List Record) → Turnable t sets firsts sizes kept todo memo users failed last rs → (b : ℕ) → b < total rs → In failed′ 0 b → (isKept (getD kept b 0) ≡ true) × (Holds rs kept b → ⊥)
-  pub settled : (rs : List Record) → Turnable t sets firsts sizes kept todo memo users failed last rs → Settled rs kept users′ failed′
+  pub settled : (rs : List Record) → Turnable t sets firsts sizes kept todo memo users failed last rs → Settled rs kept users′ (In failed′ 0)
 
 -- the first n flags say kept
 pub record KeepsAll (n : ℕ) (flags flags′ : List ℕ) : Type 0 where

@@ -9,6 +9,7 @@ use Rattle.scheme.specs.Flags.{isKept}
 use Rattle.casefile.specs.Records.{Record}
 use Rattle.index.specs.layout.Layout.{rowLimit, wordBits, maxBindingWords, testUsers, testAnswers, testCells}
 use Rattle.marks.specs.Marks.{bitOf, In}
+use Rattle.marks.specs.briefs.Briefs.{Marked}
 use Rattle.answers.specs.Answers.{Under}
 use Rattle.tables.specs.Facts.{CandidatesAre}
 use Rattle.tables.specs.Filling.{wordsFor}
@@ -32,6 +33,10 @@ pub record Writes (test r r′ : List ℕ) : Type 0 where
   pub long : length r′ ≡ length r
   pub written : (k : ℕ) → k < testUsers → getD r′ k 0 ≡ getD test k 0
   pub stays : (k : ℕ) → testUsers ≤ k → getD r′ k 0 ≡ getD r k 0
+
+-- binding b is marked in what there is to do, a set whose brief stands behind it
+abbrev pub Todo : List ℕ → ℕ → Type 0
+Todo todo b = Marked todo 0 maxBindingWords b
 
 -- notes that grew
 abbrev pub Grows : List ℕ → List ℕ → Type 0

@@ -7,23 +7,17 @@ use mathlib.Core.List.{List}
 use mathlib.Core.Option.{some}
 use Rattle.scheme.specs.Terms.{Term, node, Terms, []ᵗ, _∷ᵗ_, countᵗ, nodes}
 use Rattle.scheme.specs.Types.{Ty, state, arrow, Tys}
-use Rattle.scheme.proofs.Lists.{and-true}
 use Rattle.tables.specs.reading.Cells.{nodeAt, resultOf}
-use Rattle.tables.specs.Facts.{Goal, At, AllAt, off, closed, closeds}
+use Rattle.tables.specs.Facts.{Goal, At, AllAt, off}
 use Rattle.term_check.specs.notes.Notes.{baseIn}
-use Rattle.term_check.specs.Worlds.{Args, Case, World, Has, Setting, Ready, Includes, ChecksMembers, ChecksArgs, shut}
+use Rattle.term_check.specs.Worlds.{Args, Case, World, Has, Setting, Ready, Includes, ChecksMembers, ChecksArgs}
 use Rattle.tables.proofs.nodes.Places.{first-at, others-at}
 use Rattle.term_check.proofs.Places.{nodes-some, no-terms}
-use Rattle.term_check.proofs.check.Keeping.{includes-less, includes-part, ready-on, keeps-all, keeps-on}
+use Rattle.term_check.proofs.check.Keeping.{includes-less, ready-on, keeps-all, keeps-on}
 
 -- the node of a term
-pub node-there : (x : Case) (w : World) → Setting x w → (i : ℕ) (t : Term) → At (w .ns) i t → (nodeAt (x .t) (baseIn (x .test)) i .next ≡ i + nodes t) × (shut x i ≡ closed t)
-node-there x w s i (node h ts) a = let n = s .nodes i h ts a in (n .behind, n .is-closed)
-
--- the first of closed terms is closed, and so are the others
-pub closed-first : (t : Term) (ts : Terms) → closeds (t ∷ᵗ ts) ≡ true → (closed t ≡ true) × (closeds ts ≡ true)
-unfolding closeds
-closed-first t ts e = and-true (closed t) (closeds ts) e
+pub node-there : (x : Case) (w : World) → Setting x w → (i : ℕ) (t : Term) → At (w .ns) i t → nodeAt (x .t) (baseIn (x .test)) i .next ≡ i + nodes t
+node-there x w s i (node h ts) a = s .nodes i h ts a .behind
 
 -- terms that are more than none
 pub data Several (n : ℕ) (ts : Terms) : Type 0 where
@@ -37,7 +31,7 @@ some-terms n (t ∷ᵗ ts) e l = several t ts refl (omega arith)
 -- the next argument stands behind this one
 module _ (x : Case) (w : World) (s : Setting x w) (at next : ℕ) (is-next : next ≡ nodeAt (x .t) (baseIn (x .test)) at .next) where
   next-at : (t : Term) (ts : Terms) → AllAt (w .ns) at (t ∷ᵗ ts) → next ≡ at + nodes t
-  next-at t ts al = is-next ∙ node-there x w s at t (first-at (w .ns) at t ts al) .0
+  next-at t ts al = is-next ∙ node-there x w s at t (first-at (w .ns) at t ts al)
 
   pub next-on : (t : Term) (ts : Terms) → AllAt (w .ns) at (t ∷ᵗ ts) → AllAt (w .ns) next ts
   next-on t ts al = subst (λ k. AllAt (w .ns) k ts) (sym (next-at t ts al)) (others-at (w .ns) at t ts al)
@@ -64,7 +58,7 @@ module _ (x : Case) (memo users : List ℕ) (at n g : ℕ) where
   args-none l =
       record {
         keeps = keeps-all x memo users;
-        yes = λ y w r closed flags inc ts al c cl υ ρ go o. subst (λ z. Args (Has w flags) z υ) (sym (no-terms ts (let e : countᵗ ts ≡ 0 = omega arith in e))) tt;
+        yes = λ y w r flags inc ts al c υ ρ go o. subst (λ z. Args (Has w flags) z υ) (sym (no-terms ts (let e : countᵗ ts ≡ 0 = omega arith in e))) tt;
         no = λ y. absurd (true≢false y);
       }
 
@@ -98,25 +92,23 @@ module _ (x : Case) (memo users : List ℕ) (at n g : ℕ) where
         args-rest =
             record {
               keeps = keeps-on (told .keeps) (rest-told .keeps);
-              yes = λ y w r closed flags inc ts al c cl υ ρ go o. holds-all y w r closed flags inc ts al υ ρ go cl (some-terms n ts c some-left) (arrow-there n υ ρ o some-left);
+              yes = λ y w r flags inc ts al c υ ρ go o. holds-all y w r flags inc ts al υ ρ go (some-terms n ts c some-left) (arrow-there n υ ρ o some-left);
               no = λ y w r ts al c υ ρ go o h. lack y w r ts al υ ρ go h (some-terms n ts c some-left) (arrow-there n υ ρ o some-left);
             }
           where
             result-goal : (w : World) → Setting x w → (a : Tys) (s : Ty) → Goal (w .rs) g (arrow a s) → Goal (w .rs) g′ s
             result-goal w s a r go = subst (λ k. Goal (w .rs) k r) (sym is-g) (s .types .arrow-row g a r go .result)
 
-            holds-all : d ≡ true → (w : World) → Ready x w memo users → (cl : Bool) (flags : List ℕ) → Includes x w users″ cl flags → (ts : Terms) → AllAt (w .ns) at ts → (υ ρ : Ty) → Goal (w .rs) g υ → (cl ≡ true → closeds ts ≡ true) → Several n ts → Arrow n υ ρ → Args (Has w flags) ts υ
-            holds-all y w r cl flags inc ts al υ ρ go shuts (several t rest e f) (an-arrow a s i o) =
+            holds-all : d ≡ true → (w : World) → Ready x w memo users → (flags : List ℕ) → Includes x w users″ flags → (ts : Terms) → AllAt (w .ns) at ts → (υ ρ : Ty) → Goal (w .rs) g υ → Several n ts → Arrow n υ ρ → Args (Has w flags) ts υ
+            holds-all y w r flags inc ts al υ ρ go (several t rest e f) (an-arrow a s i o) =
                 let s₁ = r .setting in
                 let al′ = subst (AllAt (w .ns) at) e al in
                 let go′ = subst (Goal (w .rs) g) i go in
                 let first = first-at (w .ns) at t rest al′ in
-                let less = includes-less x w users′ users″ (rest-told .keeps .grows) cl flags inc in
-                let parts : cl ≡ true → (closed t ≡ true) × (closeds rest ≡ true) = λ k. closed-first t rest (subst (λ z. closeds z ≡ true) e (shuts k)) in
-                let here = includes-part x w users′ cl (shut x at) (λ k. node-there x w s₁ at t first .1 ∙ parts k .0) flags less in
+                let less = includes-less x w users′ users″ (rest-told .keeps .grows) flags inc in
                 let both : Args (Has w flags) (t ∷ᵗ rest) (arrow a s) = (
-                  λ m k. told .yes eb w r a s go′ m k flags here t first,
-                  rest-told .yes y w (ready-on (told .keeps) r) cl flags inc rest (next-on x w s₁ at next is-next t rest al′) f (λ k. parts k .1) s ρ (result-goal w s₁ a s go′) o,
+                  λ m k. told .yes eb w r a s go′ m k flags less t first,
+                  rest-told .yes y w (ready-on (told .keeps) r) flags inc rest (next-on x w s₁ at next is-next t rest al′) f s ρ (result-goal w s₁ a s go′) o,
                 ) in
                 subst (λ z. Args (Has w flags) z υ) (sym e) (subst (Args (Has w flags) (t ∷ᵗ rest)) (sym i) both)
 

@@ -14,10 +14,10 @@ use Rattle.index.specs.layout.Layout.{noNumber, rowLimit, wordsLimit, testWords
 use Rattle.marks.specs.Marks.{In, FindsNext}
 use Rattle.tables.specs.reading.Cells.{groupOf, nodeAt}
 use Rattle.tables.specs.declared.reading.Node.{Node}
-use Rattle.tables.specs.Facts.{Goal, At, AllAt, headBy, bindingAt, off, closed, closeds}
-use Rattle.term_check.specs.notes.Notes.{baseIn, wordsIn, ownerOf, columnOf, Notes}
+use Rattle.tables.specs.Facts.{Goal, At, AllAt, headBy, bindingAt, off}
+use Rattle.term_check.specs.notes.Notes.{baseIn, wordsIn, Notes}
 use Rattle.term_check.specs.heads.Heads.{Fails, Tries, IsCandidate}
-use Rattle.term_check.specs.Worlds.{Case, World, Has, Setting, Ready, Includes, Keeps, ChecksTerm, ChecksArgs, shut}
+use Rattle.term_check.specs.Worlds.{Case, World, Has, Setting, Ready, Includes, Keeps, ChecksTerm, ChecksArgs}
 use Rattle.term_check.proofs.Goals.{goal-below}
 use Rattle.term_check.proofs.Rules.{bound-has, bound-had}
 use Rattle.term_check.proofs.Places.{behind-head}
@@ -26,16 +26,12 @@ use Rattle.term_check.proofs.check.Keeping.{includes-less, keeps-all, k
 
 -- the head of the term at a node, by the node's tag and number
 pub data Split (x : Case) (w : World) (a : Node) (at : ℕ) (u : Term) : Type 0 where
-  split : (ts : Terms) → u ≡ node (headBy (a .tag) (a .number)) ts → AllAt (w .ns) (suc at) ts → countᵗ ts ≡ a .count → a .count < 256 → a .closed ≡ closed u → Split x w a at u
+  split : (ts : Terms) → u ≡ node (headBy (a .tag) (a .number)) ts → AllAt (w .ns) (suc at) ts → countᵗ ts ≡ a .count → a .count < 256 → Split x w a at u
 
 pub split-term : (x : Case) (w : World) → Setting x w → (a : Node) (at : ℕ) → a ≡ nodeAt (x .t) (baseIn (x .test)) at → (u : Term) → At (w .ns) at u → Split x w a at u
 split-term x w s a at e (node h ts) here =
     let n = s .nodes at h ts here in
-    split ts (ap (λ z. node z ts) (sym (ap (λ (b : Node). headBy (b .tag) (b .number)) e ∙ n .head))) (behind-head (w .ns) at h ts here) (sym (ap (λ (b : Node). b .count) e ∙ n .arguments)) (let f = n .few in let g : a .count ≡ countᵗ ts = ap (λ (b : Node). b .count) e ∙ n .arguments in omega arith) (ap (λ (b : Node). b .closed) e ∙ n .is-closed)
-
-closed-bound : (f : ℕ) (ts : Terms) → closed (node (nt f) ts) ≡ closeds ts
-unfolding closed
-closed-bound f ts = refl
+    split ts (ap (λ z. node z ts) (sym (ap (λ (b : Node). headBy (b .tag) (b .number)) e ∙ n .head))) (behind-head (w .ns) at h ts here) (sym (ap (λ (b : Node). b .count) e ∙ n .arguments)) (let f = n .few in let g : a .count ≡ countᵗ ts = ap (λ (b : Node). b .count) e ∙ n .arguments in omega arith)
 
 head-bound : (tag number : ℕ) → tag ≡ 1 → headBy tag number ≡ nt number
 unfolding headBy
@@ -57,31 +53,23 @@ module _ (x : Case) (memo users : List ℕ) (at goal : ℕ) (a : Node) (c ty : �
         }
 
     -- it serves, and that is noted
-    pub try-serves : b ≡ true → (users‴ : List ℕ) → Notes users″ (x .test) (a .closed) c users‴ → Tries x memo users at goal a c memo″ users‴ true
+    pub try-serves : b ≡ true → (users‴ : List ℕ) → Notes users″ (x .test) c users‴ → Tries x memo users at goal a c memo″ users‴ true
     try-serves e users‴ n ea et =
         record {
-          keeps = keeps-on (told .keeps) (keeps-note x memo″ users″ users‴ (a .closed) c n);
+          keeps = keeps-on (told .keeps) (keeps-note x memo″ users″ users‴ c n);
           yes = λ y w r flags inc u here σ g. serves w r flags inc u σ g (split-term x w (r .setting) a at ea u here);
           no = λ y. absurd (true≢false y);
         }
       where
-        is-shut : shut x at ≡ a .closed
-        is-shut = ap (λ (z : Node). z .closed) (sym ea)
-
-        serves : (w : World) → Ready x w memo users → (flags : List ℕ) → Includes x w users‴ (shut x at) flags → (u : Term) (σ : Ty) → Goal (w .rs) goal σ → Split x w a at u → Has w flags u σ
-        serves w r flags inc u σ g (split ts eu al count few ec) =
+        serves : (w : World) → Ready x w memo users → (flags : List ℕ) → Includes x w users‴ flags → (u : Term) (σ : Ty) → Goal (w .rs) goal σ → Split x w a at u → Has w flags u σ
+        serves w r flags inc u σ g (split ts eu al count few) =
             let (leads, own) = is .leads ne w (r .setting) σ g in
             let eh : u ≡ node (nt (a .number)) ts = eu ∙ ap (λ h. node h ts) (head-bound (a .tag) (a .number) et) in
-            let less = includes-less x w users″ users‴ (n .grows) (shut x at) flags inc in
-            let shuts : shut x at ≡ true → closeds ts ≡ true = λ k. sym (closed-bound (a .number) ts) ∙ ap closed (sym eh) ∙ sym ec ∙ sym is-shut ∙ k in
-            let args = told .yes e w r (shut x at) flags less ts (subst (λ k. AllAt (w .ns) k ts) (sym is-first) al) count shuts (bindingAt (w .rs) c .type) σ own (leads .rest) in
-            let room = ready-on (told .keeps) r .room c (a .closed) (leads .inside) in
-            let kept-there = inc c (leads .inside) (record { is-kept = leads .is-kept; noted = noted-here (a .closed) refl (n .noted room) }) in
+            let less = includes-less x w users″ users‴ (n .grows) flags inc in
+            let args = told .yes e w r flags less ts (subst (λ k. AllAt (w .ns) k ts) (sym is-first) al) count (bindingAt (w .rs) c .type) σ own (leads .rest) in
+            let room = ready-on (told .keeps) r .room in
+            let kept-there = inc c (leads .inside) (record { is-kept = leads .is-kept; noted = n .noted (room .owner) (room .columns c (leads .inside)) (room .briefs c (leads .inside)) }) in
             subst (λ z. Has w flags z σ) (sym eh) (bound-has w flags ts σ (a .number) c (leads .inside) kept-there (leads .symbol) (subst (λ k. off k (bindingAt (w .rs) c .type) ≡ some σ) (sym count) (leads .rest)) args)
-          where
-            noted-here : (k : Bool) → a .closed ≡ k → In users‴ (columnOf (x .test) c) (ownerOf (x .test) (a .closed)) → In users‴ (columnOf (x .test) c) (ownerOf (x .test) true) ⊎ ((shut x at ≡ false) × In users‴ (columnOf (x .test) c) (ownerOf (x .test) false))
-            noted-here true f h = inl (subst (λ z. In users‴ (columnOf (x .test) c) (ownerOf (x .test) z)) f h)
-            noted-here false f h = inr (is-shut ∙ f, subst (λ z. In users‴ (columnOf (x .test) c) (ownerOf (x .test) z)) f h)
 
 -- All of them, one after another.
 module _ (x : Case) (memo users : List ℕ) (at goal : ℕ) (a : Node) where
@@ -139,7 +127,7 @@ module _ (x : Case) (memo users : List ℕ) (at goal : ℕ) (a : Node) where
         next-group f = let e : (f % rowLimit + 1) % rowLimit ≡ suc f % rowLimit = omega arith in rw (e) refl
 
         none : (w : World) → Ready x w memo users → (u : Term) (σ : Ty) → Goal (w .rs) goal σ → Has w (w .kept) u σ → Split x w a at u → ⊥
-        none w r u σ g has (split ts eu al count few ec) =
+        none w r u σ g has (split ts eu al count few) =
             let eh′ : u ≡ node (nt (a .number)) ts = eu ∙ ap (λ h. node h ts) (head-bound (a .tag) (a .number) et) in
             let (c′, inside, kept, symbol, rest, args) = bound-had w (w .kept) ts σ (a .number) (subst (λ z. Has w (w .kept) z σ) eh′ has) in
             let (low, below) = r .setting .bindings .grouped c′ inside in

@@ -13,9 +13,9 @@ use Rattle.casefile.proofs.Repeats.{getD-mem}
 use Rattle.index.specs.layout.Layout.{noNumber}
 use Rattle.tables.specs.reading.Cells.{manyOf, memberOf, offOf, nodeAt}
 use Rattle.tables.specs.declared.reading.Node.{Node}
-use Rattle.tables.specs.Facts.{Goal, of-state, of-arrow, AllAt, headBy, off, closed, closeds}
+use Rattle.tables.specs.Facts.{Goal, of-state, of-arrow, AllAt, headBy, off}
 use Rattle.term_check.specs.notes.Notes.{ownIn, baseIn}
-use Rattle.term_check.specs.Worlds.{Args, Case, World, Has, Setting, Ready, Includes, Keeps, ChecksTerm, ChecksArgs, shut}
+use Rattle.term_check.specs.Worlds.{Args, Case, World, Has, Setting, Ready, Includes, Keeps, ChecksTerm, ChecksArgs}
 use Rattle.term_check.proofs.Goals.{goal-there, off-goal, off-is, off-some, off-number}
 use Rattle.term_check.proofs.Rules.{given-has, given-had}
 use Rattle.term_check.proofs.check.Keeping.{keeps-all, keeps-on, ready-on}
@@ -27,10 +27,6 @@ unfolding headBy
 head-given zero number a b = absurd (a refl)
 head-given (suc zero) number a b = absurd (b refl)
 head-given (suc (suc tag)) number a b = refl
-
-closed-given : (i : ℕ) (ts : Terms) → closed (node (par i) ts) ≡ false
-unfolding closed
-closed-given i ts = refl
 
 -- a goal that has members is an arrow
 pub data IsArrow (w : World) (t : List ℕ) (g j : ℕ) (υ : Ty) : Type 0 where
@@ -89,7 +85,7 @@ module _ (x : Case) (memo users : List ℕ) (at goal : ℕ) (a : Node) (given : 
         }
       where
         none : (w : World) → Ready x w memo users → (u : Term) (σ : Ty) → Has w (w .kept) u σ → Split x w a at u → ⊥
-        none w r u σ has (split ts eu al count few ec) =
+        none w r u σ has (split ts eu al count few) =
             let (b, s, υ, o, m, rest, args) = given-had w (w .kept) ts σ (a .number) (subst (λ z. Has w (w .kept) z σ) (to-par u ts eu) has) in
             let s₁ = r .setting in
             goal-there (s₁ .types) (off-goal (s₁ .types) (a .number) (ownIn (x .test)) (w .τ) (arrow b s) (s₁ .own) o) (sym is-given ∙ e)
@@ -105,7 +101,7 @@ module _ (x : Case) (memo users : List ℕ) (at goal : ℕ) (a : Node) (given : 
           }
         where
           none : (w : World) → Ready x w memo users → (u : Term) (σ : Ty) → Goal (w .rs) goal σ → Has w (w .kept) u σ → Split x w a at u → ⊥
-          none w r u σ g has (split ts eu al count few ec) =
+          none w r u σ g has (split ts eu al count few) =
               let (b, s, υ, o, m, rest, args) = given-had w (w .kept) ts σ (a .number) (subst (λ z. Has w (w .kept) z σ) (to-par u ts eu) has) in
               let s₁ = r .setting in
               let gb : Goal (w .rs) given (arrow b s) = subst (λ k. Goal (w .rs) k (arrow b s)) (sym is-given) (off-goal (s₁ .types) (a .number) (ownIn (x .test)) (w .τ) (arrow b s) (s₁ .own) o) in
@@ -134,19 +130,16 @@ module _ (x : Case) (memo users : List ℕ) (at goal : ℕ) (a : Node) (given : 
               let n = row .many in
               is-arrow b r eυ gb (omega arith) (row .member j (omega arith))
 
-          serves : (w : World) → Ready x w memo users → (flags : List ℕ) → Includes x w users″ (shut x at) flags → (u : Term) (σ : Ty) → Goal (w .rs) goal σ → Split x w a at u → Has w flags u σ
-          serves w r flags inc u σ g (split ts eu al count few ec) =
+          serves : (w : World) → Ready x w memo users → (flags : List ℕ) → Includes x w users″ flags → (u : Term) (σ : Ty) → Goal (w .rs) goal σ → Split x w a at u → Has w flags u σ
+          serves w r flags inc u σ g (split ts eu al count few) =
               let s = r .setting in
               let (υ, o, gυ) = off-some (s .types) (a .number) (ownIn (x .test)) (w .τ) (s .own) (λ k. ne (is-given ∙ k)) in
               by υ o (arrow-here w s υ (subst (λ k. Goal (w .rs) k υ) (sym is-given) gυ))
             where
-              opened : shut x at ≡ true → closeds ts ≡ true
-              opened k = absurd (true≢false (sym k ∙ ap (λ (z : Node). z .closed) (sym ea) ∙ ec ∙ ap closed (to-par u ts eu) ∙ closed-given (a .number) ts))
-
               by : (υ : Ty) → off (a .number) (w .τ) ≡ some υ → IsArrow w (x .t) given j υ → Has w flags u σ
               by υ o (is-arrow b ρ eυ gb h gm) =
                   let m = getD (members b) j (state 0) in
                   let gm′ : Goal (w .rs) ty m = subst (λ k. Goal (w .rs) k m) (sym is-ty) gm in
                   let o′ : off (a .count) m ≡ some σ = off-is (r .setting .types) (a .count) ty goal m σ gm′ g (sym is-rest ∙ leads) in
-                  let args = told .yes e w (r) (shut x at) flags inc ts (subst (λ k. AllAt (w .ns) k ts) (sym is-first) al) count opened m σ gm′ o′ in
+                  let args = told .yes e w r flags inc ts (subst (λ k. AllAt (w .ns) k ts) (sym is-first) al) count m σ gm′ o′ in
                   subst (λ z. Has w flags z σ) (sym (to-par u ts eu)) (given-has w flags ts σ (a .number) b ρ m (o ∙ ap some eυ) (getD-mem (members b) j (state 0) h) (subst (λ z. off z m ≡ some σ) (sym count) o′) args)

@@ -18,11 +18,11 @@ use Rattle.answers.specs.Answers.{Says, Learns}
 use Rattle.answers.specs.declared.Outlook.{Outlook}
 use Rattle.tables.specs.reading.Cells.{manyOf, memberOf, statesOf, arrowsOf}
 use Rattle.tables.specs.Facts.{Goal, of-state, At}
-use Rattle.term_check.specs.notes.Notes.{wideIn, stampOf}
+use Rattle.term_check.specs.notes.Notes.{stampIn, wideIn}
 use Rattle.tables.specs.Frames.{Adds}
 use Rattle.term_check.specs.masks.Masks.{HasBit, Leaves}
 use Rattle.term_check.specs.heads.Heads.{Seen}
-use Rattle.term_check.specs.Worlds.{Case, World, Has, Ready, Includes, Yes, No, Keeps, ChecksTerm, ChecksMembers, MembersNo, ChecksAll, LooksOn, shut}
+use Rattle.term_check.specs.Worlds.{Case, World, Has, Ready, Includes, Yes, No, Keeps, ChecksTerm, ChecksMembers, MembersNo, ChecksAll, LooksOn}
 use Rattle.term_check.proofs.Goals.{state-below}
 use Rattle.term_check.proofs.check.Keeping.{Grows, yes-more, ready-on, keeps-all, keeps-on, keeps-learn}
 
@@ -77,7 +77,7 @@ module _ (x : Case) (memo users : List ℕ) (at g : ℕ) where
           no = λ y. absurd (true≢false y);
         }
       where
-        having : (w : World) → Ready x w memo users → (a : Tys) (ρ : Ty) → Goal (w .rs) g (arrow a ρ) → (m : Ty) → List·Memᴰ m (members a) → (flags : List ℕ) → Includes x w users′ (shut x at) flags → (u : Term) → At (w .ns) at u → Has w flags u m
+        having : (w : World) → Ready x w memo users → (a : Tys) (ρ : Ty) → Goal (w .rs) g (arrow a ρ) → (m : Ty) → List·Memᴰ m (members a) → (flags : List ℕ) → Includes x w users′ flags → (u : Term) → At (w .ns) at u → Has w flags u m
         having w r a ρ ga (arrow b s) mem flags inc u here = absurd (r .setting .types .arrow-row g a ρ ga .pure none b s mem)
         having w r a ρ ga (state q) mem flags inc u here =
             let row = r .setting .types .arrow-row g a ρ ga in
@@ -133,21 +133,18 @@ module _ (x : Case) (memo users : List ℕ) (at g : ℕ) where
   pub recalled-more : {users′ users″ : List ℕ} {word : ℕ} {known : Outlook} → Grows users′ users″ → Recalled users′ word known → Recalled users″ word known
   recalled-more {users′} {users″} more is = record { yes = λ w r h e o. yes-more x w users′ users″ more at h (is .yes w r h e o); no = is .no }
 
-  pub recalled-on : {memo′ users′ : List ℕ} → Keeps x memo users memo′ users′ → (closed : Bool) → closed ≡ shut x at → (goal word word′ : ℕ) (known s : Outlook) → word′ ≡ goal / wordBits → Recalled users′ word known
-      → LooksOn memo′ (wideIn (x .test)) (stampOf (x .test) closed) at goal word known s → Recalled users′ word′ s
-  recalled-on {memo′} {users′} k closed ec goal word word′ known s ew is (inl (e, same)) =
+  pub recalled-on : {memo′ users′ : List ℕ} → Keeps x memo users memo′ users′ → (goal word word′ : ℕ) (known s : Outlook) → word′ ≡ goal / wordBits → Recalled users′ word known
+      → LooksOn memo′ (wideIn (x .test)) (stampIn (x .test)) at goal word known s → Recalled users′ word′ s
+  recalled-on {memo′} {users′} k goal word word′ known s ew is (inl (e, same)) =
       record {
         yes = λ w r h f o. is .yes w r h (f ∙ ew ∙ e) (ap (λ (z : Outlook). bitOf (h % wordBits) (z .had)) (sym same) ∙ o);
         no = λ w r h f o. is .no w r h (f ∙ ew ∙ e) (ap (λ (z : Outlook). bitOf (h % wordBits) (z .lacked)) (sym same) ∙ o);
       }
-  recalled-on {memo′} {users′} k closed ec goal word word′ known s ew is (inr looks) =
+  recalled-on {memo′} {users′} k goal word word′ known s ew is (inr looks) =
       record {
-        yes = λ w r h f o. k .right w r .yes at h (says h true (looks .yes h (f ∙ ew) o));
-        no = λ w r h f o. k .right w r .no at h (says h false (looks .no h (f ∙ ew) o));
+        yes = λ w r h f o. k .right w r .yes at h (looks .yes h (f ∙ ew) o);
+        no = λ w r h f o. k .right w r .no at h (looks .no h (f ∙ ew) o);
       }
-    where
-      says : (h : ℕ) (b : Bool) → Says memo′ (wideIn (x .test)) (stampOf (x .test) closed) at h b → Says memo′ (wideIn (x .test)) (stampOf (x .test) (shut x at)) at h b
-      says h b = subst (λ c. Says memo′ (wideIn (x .test)) (stampOf (x .test) c) at h b) ec
 
   module _ {memo′ users′ : List ℕ} {j : ℕ} (a : Asked memo′ users′ j) (many : ℕ) (is-many : many ≡ manyOf (x .t) g) where
     -- all are had
@@ -201,7 +198,7 @@ module _ (x : Case) (memo users : List ℕ) (at g : ℕ) where
         recalled-yes d e j′ ej = had-more memo′ users′ (keeps-all x memo′ users′) (λ w r. is .yes w r goal (sym ew) (d .yes e)) j′ ej
 
       -- it is checked, and what was found is remembered
-      module _ (closed : Bool) (ec : closed ≡ shut x at) (bit : ℕ) (puts : Adds 0 (goal % wordBits) bit) (memo″ users″ : List ℕ) (b : Bool) (told : ChecksTerm x memo′ users′ at goal memo″ users″ b) (memo‴ : List ℕ) where
+      module _ (bit : ℕ) (puts : Adds 0 (goal % wordBits) bit) (memo″ users″ : List ℕ) (b : Bool) (told : ChecksTerm x memo′ users′ at goal memo″ users″ b) (memo‴ : List ℕ) where
         only : (h : ℕ) → h / wordBits ≡ goal / wordBits → bitOf (h % wordBits) bit ≡ 1 → goal ≡ h
         only h e o = go (puts .only (omega arith) (h % wordBits) o)
           where
@@ -209,20 +206,20 @@ module _ (x : Case) (memo users : List ℕ) (at g : ℕ) where
             go (inl z) = let n = zero-bit (h % wordBits) in absurd (omega arith)
             go (inr f) = omega arith
 
-        pub checked-no : b ≡ false → Learns memo″ (wideIn (x .test)) (stampOf (x .test) closed) at goal bit 0 memo‴ → ChecksMembers x memo users at g memo‴ users″ false
+        pub checked-no : b ≡ false → Learns memo″ (wideIn (x .test)) (stampIn (x .test)) at goal bit 0 memo‴ → ChecksMembers x memo users at g memo‴ users″ false
         checked-no e learns =
             lacked memo‴ users″
             (keeps-on (a .keeps)
-            (keeps-learn (told .keeps) at goal bit 0 closed ec memo‴ learns
+            (keeps-learn (told .keeps) at goal bit 0 memo‴ learns
             (record {
               yes = λ w r h f o i. let n = zero-bit (h % wordBits) in absurd (omega arith);
               no = λ w r h f o i. subst (No x w at) (only h f o) (told .no e w r);
             }))) (λ w r. told .no e w (ready-on (a .keeps) r))
 
-        pub checked-yes : b ≡ true → Learns memo″ (wideIn (x .test)) (stampOf (x .test) closed) at goal bit bit memo‴ → (j′ : ℕ) → j′ ≡ suc j → Asked memo‴ users″ j′
+        pub checked-yes : b ≡ true → Learns memo″ (wideIn (x .test)) (stampIn (x .test)) at goal bit bit memo‴ → (j′ : ℕ) → j′ ≡ suc j → Asked memo‴ users″ j′
         checked-yes e learns j′ ej =
             had-more memo‴ users″
-            (keeps-learn (told .keeps) at goal bit bit closed ec memo‴ learns
+            (keeps-learn (told .keeps) at goal bit bit memo‴ learns
             (record {
               yes = λ w r h f o i. subst (Yes x w users″ at) (only h f o) (told .yes e w r);
               no = λ w r h f o i. absurd (omega arith);

@@ -11,8 +11,8 @@ use Rattle.marks.proofs.Bits.{zero-bit}
 use Rattle.answers.specs.Answers.{Learns}
 use Rattle.tables.specs.Frames.{Adds}
 use Rattle.term_check.specs.masks.Masks.{Lowest, TakesOut, Leaves}
-use Rattle.term_check.specs.notes.Notes.{wideIn, stampOf}
-use Rattle.term_check.specs.Worlds.{Case, World, Ready, Yes, No, Keeps, ChecksTerm, ChecksAll, Finds, shut}
+use Rattle.term_check.specs.notes.Notes.{stampIn, wideIn}
+use Rattle.term_check.specs.Worlds.{Case, World, Ready, Yes, No, Keeps, ChecksTerm, ChecksAll, Finds}
 use Rattle.term_check.proofs.check.Keeping.{yes-more, ready-on, keeps-all, keeps-on, keeps-learn}
 
 -- What is found.
@@ -42,17 +42,17 @@ module _ (x : Case) (memo users : List ℕ) (at asked : ℕ) where
   pub left-start : {memo′ users′ : List ℕ} {had left : ℕ} → Finds x memo users at memo′ users′ had → Leaves asked had left → Left memo′ users′ had left
   left-start f leaves = record { finds = f; all = leaves .all; within = leaves .within }
 
-  module _ {memo′ users′ : List ℕ} {had left : ℕ} (s : Left memo′ users′ had left) (closed : Bool) (ec : closed ≡ shut x at) where
+  module _ {memo′ users′ : List ℕ} {had left : ℕ} (s : Left memo′ users′ had left) where
     -- the states stand in one cell
     state-bit : (h : ℕ) → h / wordBits ≡ 0 / wordBits → (n : ℕ) → bitOf (h % wordBits) n ≡ 1 → bitOf h n ≡ 1
     state-bit h e n b = subst (λ k. bitOf k n ≡ 1) (let f : h % wordBits ≡ h = omega arith in f) b
 
     -- all are had
-    pub left-end : left ≡ 0 → (memo″ : List ℕ) → Learns memo′ (wideIn (x .test)) (stampOf (x .test) closed) at 0 had had memo″ → ChecksAll x memo users at asked memo″ users′ true
+    pub left-end : left ≡ 0 → (memo″ : List ℕ) → Learns memo′ (wideIn (x .test)) (stampIn (x .test)) at 0 had had memo″ → ChecksAll x memo users at asked memo″ users′ true
     left-end z memo″ learns =
         record {
           keeps =
-              keeps-learn (s .finds .keeps) at 0 had had closed ec memo″ learns
+              keeps-learn (s .finds .keeps) at 0 had had memo″ learns
               (record { yes = λ w r h e k b. s .finds .found w r h (state-bit h e had b); no = λ w r h e k b. absurd (omega arith) });
           yes = λ y w r q b. go w r q (s .all q b);
           no = λ y. absurd (true≢false y);
@@ -80,11 +80,11 @@ module _ (x : Case) (memo users : List ℕ) (at asked : ℕ) where
               by (inl k) = inl k
               by (inr f) = inr (subst (λ k. bitOf k had′ ≡ 1) (sym f) (puts .put (is .within nz)))
 
-      pub left-fails : b ≡ false → (known : ℕ) → Adds had q known → (memo‴ : List ℕ) → Learns memo″ (wideIn (x .test)) (stampOf (x .test) closed) at 0 known had memo‴ → ChecksAll x memo users at asked memo‴ users″ false
+      pub left-fails : b ≡ false → (known : ℕ) → Adds had q known → (memo‴ : List ℕ) → Learns memo″ (wideIn (x .test)) (stampIn (x .test)) at 0 known had memo‴ → ChecksAll x memo users at asked memo‴ users″ false
       left-fails e known puts memo‴ learns =
           record {
             keeps =
-                keeps-learn (keeps-on (s .finds .keeps) (told .keeps)) at 0 known had closed ec memo‴ learns
+                keeps-learn (keeps-on (s .finds .keeps) (told .keeps)) at 0 known had memo‴ learns
                 (record {
                   yes = λ w r h f k o. yes-more x w users′ users″ (told .keeps .grows) at h (s .finds .found w r h (state-bit h f had o));
                   no = λ w r h f k o. lacks w r h f o (puts .only (is .within nz) (h % wordBits) k);

@@ -10,15 +10,15 @@ use Rattle.scheme.specs.Types.{state, members, takes}
 use Rattle.index.specs.layout.Layout.{maxStates, noTargets}
 use Rattle.tables.specs.reading.Cells.{nodeAt}
 use Rattle.tables.specs.declared.reading.Node.{Node}
-use Rattle.tables.specs.Facts.{Goal, of-state, AllAt, closed, closeds}
+use Rattle.tables.specs.Facts.{Goal, of-state, AllAt}
 use Rattle.term_check.specs.notes.Notes.{baseIn}
 use Rattle.term_check.specs.heads.Heads.{IsTargets}
-use Rattle.term_check.specs.Worlds.{Args, Case, World, Has, Ready, Includes, ChecksTerm, ChecksTargets, Targets, shut}
+use Rattle.term_check.specs.Worlds.{Args, Case, World, Has, Ready, Includes, ChecksTerm, ChecksTargets, Targets}
 use Rattle.tables.proofs.nodes.Places.{first-at}
 use Rattle.term_check.proofs.Places.{no-terms}
-use Rattle.term_check.proofs.check.Keeping.{includes-less, includes-part, ready-on, keeps-all, keeps-on}
+use Rattle.term_check.proofs.check.Keeping.{includes-less, ready-on, keeps-all, keeps-on}
 use Rattle.term_check.proofs.check.Terms.{no-targets, built-checked}
-use Rattle.term_check.proofs.check.Arguments.{node-there, closed-first, Several, several, some-terms, next-on, stuck}
+use Rattle.term_check.proofs.check.Arguments.{Several, several, some-terms, next-on, stuck}
 
 -- the first target, and the others
 pub data Split (n targets : ℕ) (qs : List ℕ) : Type 0 where
@@ -38,7 +38,7 @@ module _ (x : Case) (memo users : List ℕ) (at n targets : ℕ) where
   targets-none l =
       record {
         keeps = keeps-all x memo users;
-        yes = λ y w r closed flags inc ts al c cl qs q are. subst (λ z. Args (Has w flags) z (takes qs q)) (sym (no-terms ts (let e : countᵗ ts ≡ 0 = omega arith in e))) tt;
+        yes = λ y w r flags inc ts al c qs q are. subst (λ z. Args (Has w flags) z (takes qs q)) (sym (no-terms ts (let e : countᵗ ts ≡ 0 = omega arith in e))) tt;
         no = λ y. absurd (true≢false y);
       }
 
@@ -76,21 +76,19 @@ module _ (x : Case) (memo users : List ℕ) (at n targets : ℕ) where
         targets-rest =
             record {
               keeps = keeps-on (told .keeps) (rest-told .keeps);
-              yes = λ y w r closed flags inc ts al c cl qs q are. holds-all y w r closed flags inc ts al cl qs q (some-terms n ts c some-left) (targets-split n targets qs some-left are);
+              yes = λ y w r flags inc ts al c qs q are. holds-all y w r flags inc ts al qs q (some-terms n ts c some-left) (targets-split n targets qs some-left are);
               no = λ y w r ts al c qs q are h. lack y w r ts al qs q h (some-terms n ts c some-left) (targets-split n targets qs some-left are);
             }
           where
-            holds-all : d ≡ true → (w : World) → Ready x w memo users → (cl : Bool) (flags : List ℕ) → Includes x w users″ cl flags → (ts : Terms) → AllAt (w .ns) at ts → (cl ≡ true → closeds ts ≡ true) → (qs : List ℕ) (q : ℕ) → Several n ts → Split n targets qs → Args (Has w flags) ts (takes qs q)
-            holds-all y w r cl flags inc ts al shuts qs q (several t rest e f) (split p ps i j l are) =
+            holds-all : d ≡ true → (w : World) → Ready x w memo users → (flags : List ℕ) → Includes x w users″ flags → (ts : Terms) → AllAt (w .ns) at ts → (qs : List ℕ) (q : ℕ) → Several n ts → Split n targets qs → Args (Has w flags) ts (takes qs q)
+            holds-all y w r flags inc ts al qs q (several t rest e f) (split p ps i j l are) =
                 let s = r .setting in
                 let al′ = subst (AllAt (w .ns) at) e al in
                 let first = first-at (w .ns) at t rest al′ in
-                let less = includes-less x w users′ users″ (rest-told .keeps .grows) cl flags inc in
-                let parts : cl ≡ true → (closed t ≡ true) × (closeds rest ≡ true) = λ k. closed-first t rest (subst (λ z. closeds z ≡ true) e (shuts k)) in
-                let here = includes-part x w users′ cl (shut x at) (λ k. node-there x w s at t first .1 ∙ parts k .0) flags less in
+                let less = includes-less x w users′ users″ (rest-told .keeps .grows) flags inc in
                 let both : Args (Has w flags) (t ∷ᵗ rest) (takes (p ∷ ps) q) = (
-                  λ m k. subst (Has w flags t) (sym (List·Memᴰ·eq-of-singleton k)) (told .yes eb w r flags here t first (state p) (goal-is w p j l)),
-                  rest-told .yes y w (ready-on (told .keeps) r) cl flags inc rest (next-on x w s at next is-next t rest al′) f (λ k. parts k .1) ps q are,
+                  λ m k. subst (Has w flags t) (sym (List·Memᴰ·eq-of-singleton k)) (told .yes eb w r flags less t first (state p) (goal-is w p j l)),
+                  rest-told .yes y w (ready-on (told .keeps) r) flags inc rest (next-on x w s at next is-next t rest al′) f ps q are,
                 ) in
                 subst (λ z. Args (Has w flags) z (takes qs q)) (sym e) (subst (λ z. Args (Has w flags) (t ∷ᵗ rest) (takes z q)) (sym i) both)
 

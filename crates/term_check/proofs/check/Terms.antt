@@ -10,10 +10,10 @@ use Rattle.scheme.specs.Types.{Ty, takes}
 use Rattle.index.specs.layout.Layout.{maxNodes, noTargets}
 use Rattle.tables.specs.reading.Cells.{nodeAt}
 use Rattle.tables.specs.declared.reading.Node.{Node}
-use Rattle.tables.specs.Facts.{Goal, At, AllAt, headBy, off, closed, closeds}
+use Rattle.tables.specs.Facts.{Goal, At, AllAt, headBy, off}
 use Rattle.term_check.specs.notes.Notes.{baseIn}
 use Rattle.term_check.specs.heads.Heads.{IsTargets, Alone}
-use Rattle.term_check.specs.Worlds.{Case, World, Has, Setting, Ready, Includes, ChecksTerm, ChecksTargets, shut}
+use Rattle.term_check.specs.Worlds.{Case, World, Has, Setting, Ready, Includes, ChecksTerm, ChecksTargets}
 use Rattle.term_check.proofs.Rules.{built-has, built-had}
 use Rattle.term_check.proofs.check.Keeping.{keeps-all}
 use Rattle.term_check.proofs.check.Bound.{Split, split, split-term}
@@ -21,10 +21,6 @@ use Rattle.term_check.proofs.check.Bound.{Split, split, split-term}
 head-built : (tag number : ℕ) → tag ≡ 0 → headBy tag number ≡ con number
 unfolding headBy
 head-built tag number e = ap (λ k. headBy k number) e
-
-closed-built : (c : ℕ) (ts : Terms) → closed (node (con c) ts) ≡ closeds ts
-unfolding closed
-closed-built c ts = refl
 
 module _ (x : Case) (memo users : List ℕ) (at goal : ℕ) where
   -- no body has that many nodes
@@ -43,7 +39,7 @@ module _ (x : Case) (memo users : List ℕ) (at goal : ℕ) where
     no-targets e = record { keeps = keeps-all x memo users; yes = λ y. absurd (true≢false (sym y)); no = λ y w rd u here σ g has. none w rd u σ g has (split-term x w (rd .setting) a at ea u here) }
       where
         none : (w : World) → Ready x w memo users → (u : Term) (σ : Ty) → Goal (w .rs) goal σ → Has w (w .kept) u σ → Split x w a at u → ⊥
-        none w rd u σ g has (split ts eu al count few ec) =
+        none w rd u σ g has (split ts eu al count few) =
             let (q, qs, there, o, args) = built-had w (w .kept) ts σ (a .number) (subst (λ z. Has w (w .kept) z σ) (to-con u ts eu) has) in
             is .all x w refl (rd .setting) σ g q qs there (subst (λ k. off k (takes qs q) ≡ some σ) count o) .0 e
 
@@ -56,18 +52,17 @@ module _ (x : Case) (memo users : List ℕ) (at goal : ℕ) where
           no = λ y w rd u here σ g has. none y w rd u σ g has (split-term x w (rd .setting) a at ea u here);
         }
       where
-        serves : b ≡ true → (w : World) → Ready x w memo users → (flags : List ℕ) → Includes x w users′ (shut x at) flags → (u : Term) (σ : Ty) → Goal (w .rs) goal σ → Split x w a at u → Has w flags u σ
-        serves y w rd flags inc u σ g (split ts eu al count few ec) =
+        serves : b ≡ true → (w : World) → Ready x w memo users → (flags : List ℕ) → Includes x w users′ flags → (u : Term) (σ : Ty) → Goal (w .rs) goal σ → Split x w a at u → Has w flags u σ
+        serves y w rd flags inc u σ g (split ts eu al count few) =
             let s = rd .setting in
             let (q, qs, there, o) = is .found ne x w refl s σ g in
             let are = is .all x w refl s σ g q qs there o .1 in
             let eh = to-con u ts eu in
-            let shuts : shut x at ≡ true → closeds ts ≡ true = λ k. sym (closed-built (a .number) ts) ∙ ap closed (sym eh) ∙ sym ec ∙ ap (λ (z : Node). z .closed) ea ∙ k in
-            let args = told .yes y w rd (shut x at) flags inc ts (subst (λ k. AllAt (w .ns) k ts) (sym is-first) al) count shuts qs q are in
+            let args = told .yes y w rd flags inc ts (subst (λ k. AllAt (w .ns) k ts) (sym is-first) al) count qs q are in
             subst (λ z. Has w flags z σ) (sym eh) (built-has w flags ts σ (a .number) q qs (s .automaton .within q (a .number) qs there .0) there (subst (λ k. off k (takes qs q) ≡ some σ) (sym count) o) args)
 
         none : b ≡ false → (w : World) → Ready x w memo users → (u : Term) (σ : Ty) → Goal (w .rs) goal σ → Has w (w .kept) u σ → Split x w a at u → ⊥
-        none y w rd u σ g has (split ts eu al count few ec) =
+        none y w rd u σ g has (split ts eu al count few) =
             let (q, qs, there, o, args) = built-had w (w .kept) ts σ (a .number) (subst (λ z. Has w (w .kept) z σ) (to-con u ts eu) has) in
             let are = is .all x w refl (rd .setting) σ g q qs there (subst (λ k. off k (takes qs q) ≡ some σ) count o) .1 in
             told .no y w rd ts (subst (λ k. AllAt (w .ns) k ts) (sym is-first) al) count qs q are args

@@ -16,8 +16,8 @@ use Rattle.answers.specs.Answers.{Says, Looks}
 use Rattle.tables.specs.declared.reading.Node.{Node}
 use Rattle.tables.specs.reading.Cells.{statesOf, offOf, nodeAt}
 use Rattle.tables.specs.Facts.{Goal, of-state, At, off, headBy}
-use Rattle.term_check.specs.notes.Notes.{ownIn, baseIn, wideIn, stampOf}
-use Rattle.term_check.specs.Worlds.{Args, Case, World, Setting, Has, shut}
+use Rattle.term_check.specs.notes.Notes.{ownIn, baseIn, stampIn, wideIn}
+use Rattle.term_check.specs.Worlds.{Args, Case, World, Setting, Has}
 use Rattle.term_check.specs.heads.Heads.{Alone, Seen}
 use Rattle.term_check.proofs.Goals.{goal-type, state-below, off-some}
 use Rattle.term_check.proofs.Places.{no-terms}
@@ -44,8 +44,8 @@ module _ (x : Case) (memo : List ℕ) (i : ℕ) (r : Outlook) where
   node-is : (base : ℕ) (nd : Node) → base ≡ baseIn (x .test) → nd ≡ nodeAt (x .t) base i → nd ≡ nodeAt (x .t) (baseIn (x .test)) i
   node-is base nd e f = f ∙ ap (λ b. nodeAt (x .t) b i) e
 
-  pub seen-memo : (base wide stamp : ℕ) (nd : Node) → base ≡ baseIn (x .test) → nd ≡ nodeAt (x .t) base i → wide ≡ wideIn (x .test) → stamp ≡ stampOf (x .test) (nd .closed) → Looks memo wide stamp i 0 r → Seen x memo i r
-  seen-memo base wide stamp nd e f ew es l =
+  pub seen-memo : (wide stamp : ℕ) → wide ≡ wideIn (x .test) → stamp ≡ stampIn (x .test) → Looks memo wide stamp i 0 r → Seen x memo i r
+  seen-memo wide stamp ew es l =
       record {
         yes = λ w users ready q h b. ready .right .yes i q (says q true (l .yes q (omega arith) (at-bit q h (r .had) b)));
         no = λ w users ready q h b. ready .right .no i q (says q false (l .no q (omega arith) (at-bit q h (r .lacked) b)));
@@ -54,11 +54,8 @@ module _ (x : Case) (memo : List ℕ) (i : ℕ) (r : Outlook) where
       at-bit : (q : ℕ) → q < maxStates → (n : ℕ) → bitOf q n ≡ 1 → bitOf (q % 32) n ≡ 1
       at-bit q h n b = subst (λ k. bitOf k n ≡ 1) (let e : q ≡ q % 32 = omega arith in e) b
 
-      stamps : stamp ≡ stampOf (x .test) (shut x i)
-      stamps = es ∙ ap (λ (z : Node). stampOf (x .test) (z .closed)) (node-is base nd e f)
-
-      says : (q : ℕ) (b : Bool) → Says memo wide stamp i q b → Says memo (wideIn (x .test)) (stampOf (x .test) (shut x i)) i q b
-      says q b s = subst (λ v. Says memo v (stampOf (x .test) (shut x i)) i q b) ew (subst (λ v. Says memo wide v i q b) stamps s)
+      says : (q : ℕ) (b : Bool) → Says memo wide stamp i q b → Says memo (wideIn (x .test)) (stampIn (x .test)) i q b
+      says q b s = subst (λ v. Says memo v (stampIn (x .test)) i q b) ew (subst (λ v. Says memo wide v i q b) es s)
 
   -- a parameter alone
   module _ (base own given had : ℕ) (nd : Node) (e : base ≡ baseIn (x .test)) (f : nd ≡ nodeAt (x .t) base i) (tag : nd .tag ≡ 2) (none : nd .count ≡ 0) (eo : own ≡ ownIn (x .test)) (eg : given ≡ offOf (x .t) (nd .number) own) (there : given ≡ noNumber → ⊥) (big : maxStates ≤ given) (eh : had ≡ statesOf (x .t) given) where

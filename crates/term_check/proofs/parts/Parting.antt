@@ -2,14 +2,13 @@
 use Prim.Native.Nat.{ℕ, _+_, _-_, _<_, _≤_, min}
 use native.Mathlib.Omega.{arith}
 use mathlib.Core.Path.{_≡_, sym, ap, subst, _∙_}
-use mathlib.Core.Bool.{Bool}
 use mathlib.Core.List.{List, _++_, append-assoc}
 use lib.ListN.{length, getD, take, drop, set, length-append, length-drop, length-set}
 use lib.Seq.{length-take-le, take-all, take-at, drop-at, take-add, drop-drop, drop-set-lt, take-set-lt}
 use Rattle.index.specs.layout.Layout.{testUsers, testAnswers}
 use Rattle.answers.specs.Answers.{Looks, Learns}
 use Rattle.answers.specs.declared.Outlook.{Outlook}
-use Rattle.term_check.specs.notes.Notes.{wideIn, stampOf, Notes}
+use Rattle.term_check.specs.notes.Notes.{stampIn, wideIn, Notes}
 use Rattle.term_check.specs.Worlds.{splitAt, fromIn, answersOf, usersOf}
 
 -- where the parts begin
@@ -114,14 +113,14 @@ unfolding answersOf
 answers-lent r w split es hs = take-all (length w - split) (drop split w) (omega (arith, length-drop split w)) ∙ ap (λ s. drop s w) es
 
 -- the answers, lent
-module _ (r w : List ℕ) (split wide stamp : ℕ) (closed : Bool) (es : split ≡ splitAt r w) (hs : split ≤ length w) (ew : wide ≡ wideIn r) (et : stamp ≡ stampOf r closed) where
+module _ (r w : List ℕ) (split wide stamp : ℕ) (es : split ≡ splitAt r w) (hs : split ≤ length w) (ew : wide ≡ wideIn r) (et : stamp ≡ stampIn r) where
   lent : take (length w - split) (drop split w) ≡ answersOf r w
   lent = answers-lent r w split es hs
 
-  moved : (P : List ℕ → ℕ → ℕ → Type 0) → P (take (length w - split) (drop split w)) wide stamp → P (answersOf r w) (wideIn r) (stampOf r closed)
-  moved P p = subst (λ m. P m (wideIn r) (stampOf r closed)) lent (subst (λ v. P (take (length w - split) (drop split w)) v (stampOf r closed)) ew (subst (P (take (length w - split) (drop split w)) wide) et p))
+  moved : (P : List ℕ → ℕ → ℕ → Type 0) → P (take (length w - split) (drop split w)) wide stamp → P (answersOf r w) (wideIn r) (stampIn r)
+  moved P p = subst (λ m. P m (wideIn r) (stampIn r)) lent (subst (λ v. P (take (length w - split) (drop split w)) v (stampIn r)) ew (subst (P (take (length w - split) (drop split w)) wide) et p))
 
-  pub outlook-part : (at goal : ℕ) (s : Outlook) → Looks (take (length w - split) (drop split w)) wide stamp at goal s → Looks (answersOf r w) (wideIn r) (stampOf r closed) at goal s
+  pub outlook-part : (at goal : ℕ) (s : Outlook) → Looks (take (length w - split) (drop split w)) wide stamp at goal s → Looks (answersOf r w) (wideIn r) (stampIn r) at goal s
   outlook-part at goal s = moved (λ m v k. Looks m v k at goal s)
 
   module _ (m : List ℕ) (at goal known had : ℕ) (l : Learns (take (length w - split) (drop split w)) wide stamp at goal known had m) where
@@ -138,16 +137,16 @@ module _ (r w : List ℕ) (split wide stamp : ℕ) (closed : Bool) (es : split �
         ∙ ap (drop split) (sym (take-all (length w) put (omega (arith, learn-long))))
         ∙ after-middle w m split (length w) hs (omega arith) (l .long)
 
-    pub learn-part : (length put ≡ length w) × (usersOf r put ≡ usersOf r w) × Learns (answersOf r w) (wideIn r) (stampOf r closed) at goal known had (answersOf r put)
+    pub learn-part : (length put ≡ length w) × (usersOf r put ≡ usersOf r w) × Learns (answersOf r w) (wideIn r) (stampIn r) at goal known had (answersOf r put)
     learn-part =
-        (learn-long, users-same r w put learn-long (subst (λ s. take s put ≡ take s w) es (after-front w m split (length w) hs (omega arith) (l .long))), subst (Learns (answersOf r w) (wideIn r) (stampOf r closed) at goal known had) (sym learnt) (moved (λ n v k. Learns n v k at goal known had m) l))
+        (learn-long, users-same r w put learn-long (subst (λ s. take s put ≡ take s w) es (after-front w m split (length w) hs (omega arith) (l .long))), subst (Learns (answersOf r w) (wideIn r) (stampIn r) at goal known had) (sym learnt) (moved (λ n v k. Learns n v k at goal known had m) l))
 
 -- the users, lent
 module _ (r w : List ℕ) (from split : ℕ) (es : split ≡ splitAt r w) (hs : split ≤ length w) (ef : from ≡ fromIn r w) where
   pub from-below : from ≤ split
   from-below = omega (arith, from-split r w)
 
-  module _ (m : List ℕ) (closed : Bool) (c : ℕ) (n : Notes (take (split - from) (drop from w)) r closed c m) where
+  module _ (m : List ℕ) (c : ℕ) (n : Notes (take (split - from) (drop from w)) r c m) where
     abbrev put-back : List ℕ
     put-back = take from w ++ (m ++ drop (split - from) (drop from w))
 
@@ -162,9 +161,9 @@ module _ (r w : List ℕ) (from split : ℕ) (es : split ≡ splitAt r w) (hs : 
     unfolding usersOf
     lent-users = before-middle w m from split from-below hs (n .long) ∙ ap (λ f. drop f (take split w)) ef ∙ ap (λ s. drop (fromIn r w) (take s w)) es
 
-    pub note-part : (length put-back ≡ length w) × (answersOf r put-back ≡ answersOf r w) × Notes (usersOf r w) r closed c (usersOf r put-back)
+    pub note-part : (length put-back ≡ length w) × (answersOf r put-back ≡ answersOf r w) × Notes (usersOf r w) r c (usersOf r put-back)
     note-part =
-        (note-long, answers-same r w put-back note-long (subst (λ s. drop s put-back ≡ drop s w) es (after-behind w m from split from-below hs (n .long))), subst (Notes (usersOf r w) r closed c) (sym noted-in) (subst (λ l. Notes l r closed c m) lent-users n))
+        (note-long, answers-same r w put-back note-long (subst (λ s. drop s put-back ≡ drop s w) es (after-behind w m from split from-below hs (n .long))), subst (Notes (usersOf r w) r c) (sym noted-in) (subst (λ l. Notes l r c m) lent-users n))
 
 -- a cell in front of the users, written
 module _ (r w : List ℕ) (i v : ℕ) (h : i < fromIn r w) where

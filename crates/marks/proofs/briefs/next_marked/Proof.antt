@@ -48,7 +48,7 @@ word-in-requires-2 : tie.Need-word-in-requires-2 Inv-loop μ-loop
 word-in-requires-2 c κs = search needs
 
 returns-3 : tie.Need-returns-3 Inv-loop μ-loop
-returns-3 c = brief-past _ (passes-on (c .before .before .before .before .before .loop .inv) (passed-word (passed-none _ _ _) _ (c .before .before .before .word-in .ensures) (c .before .before .if1 .left))) (omega arith) _ (c .before .word-in2 .ensures) (omega arith) (c .if3 .taken) _
+returns-3 c = brief-past _ (passes-on (c .before .before .before .before .before .loop .inv) (passed-word (passed-none _ _ _) _ (c .before .before .before .word-in .ensures) (c .before .before .if1 .left))) (omega arith) _ (c .before .word-in2 .ensures) (c .if3 .taken) _
 
 cast-others : tie.Need-cast-others Inv-loop μ-loop
 cast-others c = search needs

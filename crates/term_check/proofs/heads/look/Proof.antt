@@ -41,7 +41,7 @@ outlook-in-requires : tie.Need-outlook-in-requires
 outlook-in-requires c κs = search needs
 
 returns-4 : tie.Need-returns-4
-returns-4 c = seen-memo _ _ _ _ _ _ _ _ (c .before .before .before .before .number-in .ensures .0) (c .before .before .before .node-of .ensures) refl refl (c .outlook-in .ensures)
+returns-4 c = seen-memo _ _ _ _ _ _ refl refl (c .outlook-in .ensures)
 
 pub look-spec : {M : Type 1} → statement M
 look-spec =

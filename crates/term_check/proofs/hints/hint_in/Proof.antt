@@ -7,14 +7,20 @@ use borrow.Author.Needs.{needs}
 use Rattle.term_check.proofs.hints.hint_in.Statement.{statement}
 use Rattle.term_check.proofs.hints.hint_in.Tie as tie
 
+number-in-requires : tie.Need-number-in-requires
+number-in-requires c κs = search needs
+
+returns : tie.Need-returns
+returns c = search needs
+
 from-of-requires : tie.Need-from-of-requires
 from-of-requires c κs = search needs
 
 same-length : tie.Need-same-length
 same-length c = search needs
 
-returns : tie.Need-returns
-returns c = search needs
+returns-2 : tie.Need-returns-2
+returns-2 c = search needs
 
 head-place-requires : tie.Need-head-place-requires
 head-place-requires c κs = search needs
@@ -35,21 +41,23 @@ mul-w-2 : tie.Need-mul-w-2
 mul-w-2 c = search needs
 
 slice-write-w-2 : tie.Need-slice-write-w-2
-slice-write-w-2 c = lt-length-set (now (c .before .before .before .before .before .before .before .args .w)) _ _ (let f = c .before .before .before .from-of .ensures .1 in let h = c .before .before .if1 .left in let n = c .node-place .ensures in omega arith)
+slice-write-w-2 c = lt-length-set (now (c .before .before .before .before .before .before .before .before .before .args .w)) _ _ (let f = c .before .before .before .from-of .ensures .1 in let h = c .before .before .if2 .left in let n = c .node-place .ensures in omega arith)
 
 same-length-2 : tie.Need-same-length-2
 same-length-2 c = search needs
 
-returns-2 : tie.Need-returns-2
-returns-2 c = set-twice _ _ _ _ _ _ (c .before .before .before .from-of .ensures .0) (let h = c .before .before .if1 .left in let n = c .before .head-place .ensures in omega arith) (let h = c .before .before .if1 .left in let n = c .node-place .ensures in omega arith)
+returns-3 : tie.Need-returns-3
+returns-3 c = set-twice _ _ _ _ _ _ (c .before .before .before .from-of .ensures .0) (let h = c .before .before .if2 .left in let n = c .before .head-place .ensures in omega arith) (let h = c .before .before .if2 .left in let n = c .node-place .ensures in omega arith)
 
 pub hint-in-spec : {M : Type 1} → statement M
 hint-in-spec =
     tie.close
     (tie.spec
+    number-in-requires
+    returns
     from-of-requires
     same-length
-    returns
+    returns-2
     head-place-requires
     node-place-requires
     cast-served
@@ -58,4 +66,4 @@ hint-in-spec =
     mul-w-2
     slice-write-w-2
     same-length-2
-    returns-2)
+    returns-3)

@@ -32,7 +32,7 @@ same-length : tie.Need-same-length
 same-length c = search needs
 
 returns : tie.Need-returns
-returns c = learn-part _ _ _ _ _ _ (c .before .before .before .before .before .before .split-of .ensures .0) (c .before .before .before .before .before .before .split-of .ensures .1) (c .before .before .before .before .before .number-in .ensures .0) (c .before .before .before .before .stamp-of .ensures) _ _ _ _ _ (c .before .before .learn .ensures)
+returns c = learn-part _ _ _ _ _ (c .before .before .before .before .before .before .split-of .ensures .0) (c .before .before .before .before .before .before .split-of .ensures .1) (c .before .before .before .before .before .number-in .ensures .0) (c .before .before .before .before .stamp-of .ensures) _ _ _ _ _ (c .before .before .learn .ensures)
 
 pub learn-in-spec : {M : Type 1} → statement M
 learn-in-spec =

@@ -29,7 +29,7 @@ same-length : tie.Need-same-length
 same-length c = search needs
 
 returns : tie.Need-returns
-returns c = note-part _ _ _ _ (c .before .before .before .before .before .before .split-of .ensures .0) (c .before .before .before .before .before .before .split-of .ensures .1) (c .before .before .before .before .from-of .ensures .0) _ _ _ (c .before .before .note .ensures)
+returns c = note-part _ _ _ _ (c .before .before .before .before .before .before .split-of .ensures .0) (c .before .before .before .before .before .before .split-of .ensures .1) (c .before .before .before .before .from-of .ensures .0) _ _ (c .before .before .note .ensures)
 
 pub note-in-spec : {M : Type 1} → statement M
 note-in-spec =

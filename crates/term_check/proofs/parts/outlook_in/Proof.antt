@@ -29,7 +29,7 @@ outlook-of-requires : tie.Need-outlook-of-requires
 outlook-of-requires c κs = search needs
 
 returns : tie.Need-returns
-returns c = outlook-part _ _ _ _ _ _ (c .before .before .before .before .split-of .ensures .0) (c .before .before .before .before .split-of .ensures .1) (c .before .before .before .number-in .ensures .0) (c .before .before .stamp-of .ensures) _ _ _ (c .outlook-of .ensures)
+returns c = outlook-part _ _ _ _ _ (c .before .before .before .before .split-of .ensures .0) (c .before .before .before .before .split-of .ensures .1) (c .before .before .before .number-in .ensures .0) (c .before .before .stamp-of .ensures) _ _ _ (c .outlook-of .ensures)
 
 pub outlook-in-spec : {M : Type 1} → statement M
 outlook-in-spec =

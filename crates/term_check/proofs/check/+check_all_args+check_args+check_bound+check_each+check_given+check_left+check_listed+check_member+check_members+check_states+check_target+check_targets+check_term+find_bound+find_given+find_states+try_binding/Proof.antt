@@ -14,7 +14,7 @@ use Rattle.term_check.specs.notes.Notes.{baseIn}
 use Rattle.term_check.specs.Worlds.{caseOf, answersOf, usersOf, ChecksArgs, ChecksTargets, Finds}
 use Rattle.term_check.proofs.heads.Candidates.{row-fits}
 use Rattle.term_check.proofs.heads.Sets.{next-behind-sets}
-use Rattle.term_check.proofs.check.Keeping.{node-by, next-by, closed-by, tells-on}
+use Rattle.term_check.proofs.check.Keeping.{node-by, next-by, tells-on}
 use Rattle.term_check.proofs.check.Arguments.{args-none, args-stuck, args-lack, args-rest}
 use Rattle.term_check.proofs.check.Targets.{targets-none, targets-stuck, targets-lack, targets-rest, down-none, down}
 use Rattle.term_check.proofs.check.Bound.{try-misses, try-lacks, try-serves, failed-start, tried-serves, tried-fails, tried-none, failed-end, try-next, served, next-behind, next-listed}
@@ -28,54 +28,57 @@ use Rattle.term_check.proofs.check.Terms.{term-past, no-targets, built-
 use Prim.Native.Nat.{ℕ, _<_}
 use borrow.Fn.Kinds.{In}
 use borrow.Fn.PlainCycle.{Measures, is, falls, and}
+use Rattle.term_check.proofs.check.check_all_args.Reads as check-all-args
+use Rattle.term_check.proofs.check.check_all_args.Kinds as check-all-args-kinds
+use Rattle.term_check.proofs.check.+check_all_args+check_args+check_bound+check_each+check_given+check_left+check_listed+check_member+check_members+check_states+check_target+check_targets+check_term+find_bound+find_given+find_states+try_binding.Lts-check_all_args as check-all-args-lts
 use Rattle.term_check.proofs.check.check_args.Reads as check-args
 use Rattle.term_check.proofs.check.check_args.Kinds as check-args-kinds
-use Rattle.term_check.proofs.check.+check_args+check_bound+check_each+check_given+check_left+check_listed+check_member+check_members+check_states+check_target+check_targets+check_term+find_bound+find_given+find_states+try_binding.Lts-check_args as check-args-lts
+use Rattle.term_check.proofs.check.+check_all_args+check_args+check_bound+check_each+check_given+check_left+check_listed+check_member+check_members+check_states+check_target+check_targets+check_term+find_bound+find_given+find_states+try_binding.Lts-check_args as check-args-lts
 use Rattle.term_check.proofs.check.check_bound.Reads as check-bound
 use Rattle.term_check.proofs.check.check_bound.Kinds as check-bound-kinds
-use Rattle.term_check.proofs.check.+check_args+check_bound+check_each+check_given+check_left+check_listed+check_member+check_members+check_states+check_target+check_targets+check_term+find_bound+find_given+find_states+try_binding.Lts-check_bound as check-bound-lts
+use Rattle.term_check.proofs.check.+check_all_args+check_args+check_bound+check_each+check_given+check_left+check_listed+check_member+check_members+check_states+check_target+check_targets+check_term+find_bound+find_given+find_states+try_binding.Lts-check_bound as check-bound-lts
 use Rattle.term_check.proofs.check.check_each.Reads as check-each
 use Rattle.term_check.proofs.check.check_each.Kinds as check-each-kinds
-use Rattle.term_check.proofs.check.+check_args+check_bound+check_each+check_given+check_left+check_listed+check_member+check_members+check_states+check_target+check_targets+check_term+find_bound+find_given+find_states+try_binding.Lts-check_each as check-each-lts
+use Rattle.term_check.proofs.check.+check_all_args+check_args+check_bound+check_each+check_given+check_left+check_listed+check_member+check_members+check_states+check_target+check_targets+check_term+find_bound+find_given+find_states+try_binding.Lts-check_each as check-each-lts
 use Rattle.term_check.proofs.check.check_given.Reads as check-given
 use Rattle.term_check.proofs.check.check_given.Kinds as check-given-kinds
-use Rattle.term_check.proofs.check.+check_args+check_bound+check_each+check_given+check_left+check_listed+check_member+check_members+check_states+check_target+check_targets+check_term+find_bound+find_given+find_states+try_binding.Lts-check_given as check-given-lts
+use Rattle.term_check.proofs.check.+check_all_args+check_args+check_bound+check_each+check_given+check_left+check_listed+check_member+check_members+check_states+check_target+check_targets+check_term+find_bound+find_given+find_states+try_binding.Lts-check_given as check-given-lts
 use Rattle.term_check.proofs.check.check_left.Reads as check-left
 use Rattle.term_check.proofs.check.check_left.Kinds as check-left-kinds
-use Rattle.term_check.proofs.check.+check_args+check_bound+check_each+check_given+check_left+check_listed+check_member+check_members+check_states+check_target+check_targets+check_term+find_bound+find_given+find_states+try_binding.Lts-check_left as check-left-lts
+use Rattle.term_check.proofs.check.+check_all_args+check_args+check_bound+check_each+check_given+check_left+check_listed+check_member+check_members+check_states+check_target+check_targets+check_term+find_bound+find_given+find_states+try_binding.Lts-check_left as check-left-lts
 use Rattle.term_check.proofs.check.check_listed.Reads as check-listed
 use Rattle.term_check.proofs.check.check_listed.Kinds as check-listed-kinds
-use Rattle.term_check.proofs.check.+check_args+check_bound+check_each+check_given+check_left+check_listed+check_member+check_members+check_states+check_target+check_targets+check_term+find_bound+find_given+find_states+try_binding.Lts-check_listed as check-listed-lts
+use Rattle.term_check.proofs.check.+check_all_args+check_args+check_bound+check_each+check_given+check_left+check_listed+check_member+check_members+check_states+check_target+check_targets+check_term+find_bound+find_given+find_states+try_binding.Lts-check_listed as check-listed-lts
 use Rattle.term_check.proofs.check.check_member.Reads as check-member
 use Rattle.term_check.proofs.check.check_member.Kinds as check-member-kinds
-use Rattle.term_check.proofs.check.+check_args+check_bound+check_each+check_given+check_left+check_listed+check_member+check_members+check_states+check_target+check_targets+check_term+find_bound+find_given+find_states+try_binding.Lts-check_member as check-member-lts
+use Rattle.term_check.proofs.check.+check_all_args+check_args+check_bound+check_each+check_given+check_left+check_listed+check_member+check_members+check_states+check_target+check_targets+check_term+find_bound+find_given+find_states+try_binding.Lts-check_member as check-member-lts
 use Rattle.term_check.proofs.check.check_members.Reads as check-members
 use Rattle.term_check.proofs.check.check_members.Kinds as check-members-kinds
-use Rattle.term_check.proofs.check.+check_args+check_bound+check_each+check_given+check_left+check_listed+check_member+check_members+check_states+check_target+check_targets+check_term+find_bound+find_given+find_states+try_binding.Lts-check_members as check-members-lts
+use Rattle.term_check.proofs.check.+check_all_args+check_args+check_bound+check_each+check_given+check_left+check_listed+check_member+check_members+check_states+check_target+check_targets+check_term+find_bound+find_given+find_states+try_binding.Lts-check_members as check-members-lts
 use Rattle.term_check.proofs.check.check_states.Reads as check-states
 use Rattle.term_check.proofs.check.check_states.Kinds as check-states-kinds
-use Rattle.term_check.proofs.check.+check_args+check_bound+check_each+check_given+check_left+check_listed+check_member+check_members+check_states+check_target+check_targets+check_term+find_bound+find_given+find_states+try_binding.Lts-check_states as check-states-lts
+use Rattle.term_check.proofs.check.+check_all_args+check_args+check_bound+check_each+check_given+check_left+check_listed+check_member+check_members+check_states+check_target+check_targets+check_term+find_bound+find_given+find_states+try_binding.Lts-check_states as check-states-lts
 use Rattle.term_check.proofs.check.check_target.Reads as check-target
 use Rattle.term_check.proofs.check.check_target.Kinds as check-target-kinds
-use Rattle.term_check.proofs.check.+check_args+check_bound+check_each+check_given+check_left+check_listed+check_member+check_members+check_states+check_target+check_targets+check_term+find_bound+find_given+find_states+try_binding.Lts-check_target as check-target-lts
+use Rattle.term_check.proofs.check.+check_all_args+check_args+check_bound+check_each+check_given+check_left+check_listed+check_member+check_members+check_states+check_target+check_targets+check_term+find_bound+find_given+find_states+try_binding.Lts-check_target as check-target-lts
 use Rattle.term_check.proofs.check.check_targets.Reads as check-targets
 use Rattle.term_check.proofs.check.check_targets.Kinds as check-targets-kinds
-use Rattle.term_check.proofs.check.+check_args+check_bound+check_each+check_given+check_left+check_listed+check_member+check_members+check_states+check_target+check_targets+check_term+find_bound+find_given+find_states+try_binding.Lts-check_targets as check-targets-lts
+use Rattle.term_check.proofs.check.+check_all_args+check_args+check_bound+check_each+check_given+check_left+check_listed+check_member+check_members+check_states+check_target+check_targets+check_term+find_bound+find_given+find_states+try_binding.Lts-check_targets as check-targets-lts
 use Rattle.term_check.proofs.check.check_term.Reads as check-term
 use Rattle.term_check.proofs.check.check_term.Kinds as check-term-kinds
-use Rattle.term_check.proofs.check.+check_args+check_bound+check_each+check_given+check_left+check_listed+check_member+check_members+check_states+check_target+check_targets+check_term+find_bound+find_given+find_states+try_binding.Lts-check_term as check-term-lts
+use Rattle.term_check.proofs.check.+check_all_args+check_args+check_bound+check_each+check_given+check_left+check_listed+check_member+check_members+check_states+check_target+check_targets+check_term+find_bound+find_given+find_states+try_binding.Lts-check_term as check-term-lts
 use Rattle.term_check.proofs.check.find_bound.Reads as find-bound
 use Rattle.term_check.proofs.check.find_bound.Kinds as find-bound-kinds
-use Rattle.term_check.proofs.check.+check_args+check_bound+check_each+check_given+check_left+check_listed+check_member+check_members+check_states+check_target+check_targets+check_term+find_bound+find_given+find_states+try_binding.Lts-find_bound as find-bound-lts
+use Rattle.term_check.proofs.check.+check_all_args+check_args+check_bound+check_each+check_given+check_left+check_listed+check_member+check_members+check_states+check_target+check_targets+check_term+find_bound+find_given+find_states+try_binding.Lts-find_bound as find-bound-lts
 use Rattle.term_check.proofs.check.find_given.Reads as find-given
 use Rattle.term_check.proofs.check.find_given.Kinds as find-given-kinds
-use Rattle.term_check.proofs.check.+check_args+check_bound+check_each+check_given+check_left+check_listed+check_member+check_members+check_states+check_target+check_targets+check_term+find_bound+find_given+find_states+try_binding.Lts-find_given as find-given-lts
+use Rattle.term_check.proofs.check.+check_all_args+check_args+check_bound+check_each+check_given+check_left+check_listed+check_member+check_members+check_states+check_target+check_targets+check_term+find_bound+find_given+find_states+try_binding.Lts-find_given as find-given-lts
 use Rattle.term_check.proofs.check.find_states.Reads as find-states
 use Rattle.term_check.proofs.check.find_states.Kinds as find-states-kinds
-use Rattle.term_check.proofs.check.+check_args+check_bound+check_each+check_given+check_left+check_listed+check_member+check_members+check_states+check_target+check_targets+check_term+find_bound+find_given+find_states+try_binding.Lts-find_states as find-states-lts
+use Rattle.term_check.proofs.check.+check_all_args+check_args+check_bound+check_each+check_given+check_left+check_listed+check_member+check_members+check_states+check_target+check_targets+check_term+find_bound+find_given+find_states+try_binding.Lts-find_states as find-states-lts
 use Rattle.term_check.proofs.check.try_binding.Reads as try-binding
 use Rattle.term_check.proofs.check.try_binding.Kinds as try-binding-kinds
-use Rattle.term_check.proofs.check.+check_args+check_bound+check_each+check_given+check_left+check_listed+check_member+check_members+check_states+check_target+check_targets+check_term+find_bound+find_given+find_states+try_binding.Lts-try_binding as try-binding-lts
+use Rattle.term_check.proofs.check.+check_all_args+check_args+check_bound+check_each+check_given+check_left+check_listed+check_member+check_members+check_states+check_target+check_targets+check_term+find_bound+find_given+find_states+try_binding.Lts-try_binding as try-binding-lts
 use Rattle.marks.proofs.next_in.Reads as next-in-reads
 use Rattle.tables.proofs.reading.arrows_of.Reads as arrows-of-reads
 use Rattle.tables.proofs.reading.group_of.Reads as group-of-reads
@@ -104,15 +107,18 @@ use Rattle.term_check.proofs.notes.number_in.Reads as number-in-reads
 use Rattle.term_check.proofs.parts.learn_in.Reads as learn-in-reads
 use Rattle.term_check.proofs.parts.note_in.Reads as note-in-reads
 use Rattle.term_check.proofs.parts.outlook_on.Reads as outlook-on-reads
-use Rattle.term_check.proofs.check.+check_args+check_bound+check_each+check_given+check_left+check_listed+check_member+check_members+check_states+check_target+check_targets+check_term+find_bound+find_given+find_states+try_binding.{
+use Rattle.term_check.proofs.check.+check_all_args+check_args+check_bound+check_each+check_given+check_left+check_listed+check_member+check_members+check_states+check_target+check_targets+check_term+find_bound+find_given+find_states+try_binding.{
   statement,
 }
-use Rattle.term_check.proofs.check.+check_args+check_bound+check_each+check_given+check_left+check_listed+check_member+check_members+check_states+check_target+check_targets+check_term+find_bound+find_given+find_states+try_binding.Tie.{
+use Rattle.term_check.proofs.check.+check_all_args+check_args+check_bound+check_each+check_given+check_left+check_listed+check_member+check_members+check_states+check_target+check_targets+check_term+find_bound+find_given+find_states+try_binding.Tie.{
   close,
 }
 
+abbrev μ-check-all-args : Measures 3 check-all-args-kinds.ps ℕ
+μ-check-all-args κs a = (18446744073709551616 - a .1 .1 .1 .0) * 16 + 10
+
 abbrev μ-check-args : Measures 3 check-args-kinds.ps ℕ
-μ-check-args κs a = (18446744073709551616 - a .1 .1 .1 .0) * 16 + 10
+μ-check-args κs a = (18446744073709551616 - a .1 .1 .1 .0) * 16 + 11
 
 abbrev μ-check-bound : Measures 3 check-bound-kinds.ps ℕ
 μ-check-bound κs a = (18446744073709551616 - a .1 .1 .1 .0) * 16 + 4
@@ -158,6 +164,14 @@ abbrev μ-find-states : Measures 3 find-states-kinds.ps ℕ
 
 abbrev μ-try-binding : Measures 3 try-binding-kinds.ps ℕ
 μ-try-binding κs a = (18446744073709551616 - a .1 .1 .1 .0) * 16 + 3
+
+abbrev check-all-args-at : ℕ → In 3 check-all-args-kinds.ps
+check-all-args-at t =
+    and 3 check-all-args-kinds.ps (is 3 check-all-args-kinds.ps μ-check-all-args t) check-all-args.Pre
+
+abbrev check-all-args-below : ℕ → In 3 check-all-args-kinds.ps
+check-all-args-below t =
+    and 3 check-all-args-kinds.ps (falls 3 check-all-args-kinds.ps _<_ μ-check-all-args t) check-all-args.Pre
 
 abbrev check-args-at : ℕ → In 3 check-args-kinds.ps
 check-args-at t =
@@ -311,9 +325,12 @@ abbrev try-binding-below : ℕ → In 3 try-binding-kinds.ps
 try-binding-below t =
     and 3 try-binding-kinds.ps (falls 3 try-binding-kinds.ps _<_ μ-try-binding t) try-binding.Pre
 
-abbrev check-args-claims : ℕ → check-args-lts.Claims
-check-args-claims t =
+abbrev check-all-args-claims : ℕ → check-all-args-lts.Claims
+check-all-args-claims t =
     (number-in-reads.Asked, number-in-reads.Learnt, node-of-reads.Asked, node-of-reads.Learnt, check-members-below t, check-members.Post, result-of-reads.Asked, result-of-reads.Learnt)
+
+abbrev check-args-claims : ℕ → check-args-lts.Claims
+check-args-claims t = (check-all-args-below t, check-all-args.Post)
 
 abbrev check-bound-claims : ℕ → check-bound-lts.Claims
 check-bound-claims t =
@@ -321,7 +338,7 @@ check-bound-claims t =
 
 abbrev check-each-claims : ℕ → check-each-lts.Claims
 check-each-claims t =
-    (number-in-reads.Asked, number-in-reads.Learnt, node-of-reads.Asked, node-of-reads.Learnt, many-of-reads.Asked, many-of-reads.Learnt, member-of-reads.Asked, member-of-reads.Learnt, outlook-on-reads.Asked, outlook-on-reads.Learnt, has-bit-reads.Asked, has-bit-reads.Learnt, with-bit-reads.Asked, with-bit-reads.Learnt, check-member-below t, check-member.Post, learn-in-reads.Asked, learn-in-reads.Learnt)
+    (many-of-reads.Asked, many-of-reads.Learnt, member-of-reads.Asked, member-of-reads.Learnt, outlook-on-reads.Asked, outlook-on-reads.Learnt, has-bit-reads.Asked, has-bit-reads.Learnt, with-bit-reads.Asked, with-bit-reads.Learnt, check-member-below t, check-member.Post, learn-in-reads.Asked, learn-in-reads.Learnt)
 
 abbrev check-given-claims : ℕ → check-given-lts.Claims
 check-given-claims t =
@@ -329,7 +346,7 @@ check-given-claims t =
 
 abbrev check-left-claims : ℕ → check-left-lts.Claims
 check-left-claims t =
-    (number-in-reads.Asked, number-in-reads.Learnt, node-of-reads.Asked, node-of-reads.Learnt, left-of-reads.Asked, left-of-reads.Learnt, lowest-reads.Asked, lowest-reads.Learnt, check-term-below t, check-term.Post, with-bit-reads.Asked, with-bit-reads.Learnt, learn-in-reads.Asked, learn-in-reads.Learnt, without-bit-reads.Asked, without-bit-reads.Learnt)
+    (left-of-reads.Asked, left-of-reads.Learnt, lowest-reads.Asked, lowest-reads.Learnt, check-term-below t, check-term.Post, with-bit-reads.Asked, with-bit-reads.Learnt, learn-in-reads.Asked, learn-in-reads.Learnt, without-bit-reads.Asked, without-bit-reads.Learnt)
 
 abbrev check-listed-claims : ℕ → check-listed-lts.Claims
 check-listed-claims t =
@@ -375,53 +392,65 @@ abbrev try-binding-claims : ℕ → try-binding-lts.Claims
 try-binding-claims t =
     (candidate-reads.Asked, candidate-reads.Learnt, check-args-below t, check-args.Post, note-in-reads.Asked, note-in-reads.Learnt)
 
-abbrev check-args-Inv-loop : check-args-lts.InvT-loop
-check-args-Inv-loop t r w₀ at count ty base here₀ rest₀ left₀ w here rest left = (length w ≡ length w₀) × (at ≤ here) × ((memo′ users′ : List ℕ) (b : Bool) → ChecksArgs (caseOf t r) (answersOf r w) (usersOf r w) here left rest memo′ users′ b → ChecksArgs (caseOf t r) (answersOf r w₀) (usersOf r w₀) at count ty memo′ users′ b)
+abbrev check-all-args-Inv-loop : check-all-args-lts.InvT-loop
+check-all-args-Inv-loop t r w₀ at count ty base here₀ rest₀ left₀ w here rest left = (length w ≡ length w₀) × (at ≤ here) × ((memo′ users′ : List ℕ) (b : Bool) → ChecksArgs (caseOf t r) (answersOf r w) (usersOf r w) here left rest memo′ users′ b → ChecksArgs (caseOf t r) (answersOf r w₀) (usersOf r w₀) at count ty memo′ users′ b)
 
-abbrev check-args-μ-loop : check-args-lts.MeasureT-loop
-check-args-μ-loop t r w₀ at count ty base here₀ rest₀ left₀ w here rest left = left
+abbrev check-all-args-μ-loop : check-all-args-lts.MeasureT-loop
+check-all-args-μ-loop t r w₀ at count ty base here₀ rest₀ left₀ w here rest left = left
 
-check-args-number-in-requires : (t : ℕ) → check-args-lts.Need-number-in-requires (check-args-claims t) (check-args-at t) check-args.Post check-args-Inv-loop check-args-μ-loop
-check-args-number-in-requires t c κs = search needs
+check-all-args-number-in-requires : (t : ℕ) → check-all-args-lts.Need-number-in-requires (check-all-args-claims t) (check-all-args-at t) check-all-args.Post check-all-args-Inv-loop check-all-args-μ-loop
+check-all-args-number-in-requires t c κs = search needs
 
-check-args-loop-holds : (t : ℕ) → check-args-lts.Need-loop-holds (check-args-claims t) (check-args-at t) check-args.Post check-args-Inv-loop check-args-μ-loop
-check-args-loop-holds t c = (refl, omega arith, λ _ _ _ told. told)
+check-all-args-loop-holds : (t : ℕ) → check-all-args-lts.Need-loop-holds (check-all-args-claims t) (check-all-args-at t) check-all-args.Post check-all-args-Inv-loop check-all-args-μ-loop
+check-all-args-loop-holds t c = (refl, omega arith, λ _ _ _ told. told)
 
-check-args-node-of-requires : (t : ℕ) → check-args-lts.Need-node-of-requires (check-args-claims t) (check-args-at t) check-args.Post check-args-Inv-loop check-args-μ-loop
-check-args-node-of-requires t c κs = search needs
+check-all-args-node-of-requires : (t : ℕ) → check-all-args-lts.Need-node-of-requires (check-all-args-claims t) (check-all-args-at t) check-all-args.Post check-all-args-Inv-loop check-all-args-μ-loop
+check-all-args-node-of-requires t c κs = search needs
 
-check-args-same-length : (t : ℕ) → check-args-lts.Need-same-length (check-args-claims t) (check-args-at t) check-args.Post check-args-Inv-loop check-args-μ-loop
-check-args-same-length t c = c .before .before .before .loop .inv .0
+check-all-args-same-length : (t : ℕ) → check-all-args-lts.Need-same-length (check-all-args-claims t) (check-all-args-at t) check-all-args.Post check-all-args-Inv-loop check-all-args-μ-loop
+check-all-args-same-length t c = c .before .before .before .loop .inv .0
 
-check-args-returns : (t : ℕ) → check-args-lts.Need-returns (check-args-claims t) (check-args-at t) check-args.Post check-args-Inv-loop check-args-μ-loop
-check-args-returns t c = (c .before .before .before .loop .inv .0, c .before .before .before .loop .inv .2 _ _ _ (args-stuck _ _ _ _ _ _ (c .before .before .loop-test .taken) _ (next-by _ (now (c .before .before .before .before .before .before .before .before .args .r)) _ _ _ (c .before .before .before .before .number-in .ensures .0) (c .before .node-of .ensures)) (c .if1 .taken)))
+check-all-args-returns : (t : ℕ) → check-all-args-lts.Need-returns (check-all-args-claims t) (check-all-args-at t) check-all-args.Post check-all-args-Inv-loop check-all-args-μ-loop
+check-all-args-returns t c = (c .before .before .before .loop .inv .0, c .before .before .before .loop .inv .2 _ _ _ (args-stuck _ _ _ _ _ _ (c .before .before .loop-test .taken) _ (next-by _ (now (c .before .before .before .before .before .before .before .before .args .r)) _ _ _ (c .before .before .before .before .number-in .ensures .0) (c .before .node-of .ensures)) (c .if1 .taken)))
 
-check-args-check-members-requires : (t : ℕ) → check-args-lts.Need-check-members-requires (check-args-claims t) (check-args-at t) check-args.Post check-args-Inv-loop check-args-μ-loop
-check-args-check-members-requires t c κs = let p = c .before .before .before .before .before .before .before .before .before .pre .0 in let l = c .before .before .before .before .loop .inv .1 in (omega arith, Prim.tt)
+check-all-args-check-members-requires : (t : ℕ) → check-all-args-lts.Need-check-members-requires (check-all-args-claims t) (check-all-args-at t) check-all-args.Post check-all-args-Inv-loop check-all-args-μ-loop
+check-all-args-check-members-requires t c κs = let p = c .before .before .before .before .before .before .before .before .before .pre .0 in let l = c .before .before .before .before .loop .inv .1 in (omega arith, Prim.tt)
 
-check-args-same-length-2 : (t : ℕ) → check-args-lts.Need-same-length-2 (check-args-claims t) (check-args-at t) check-args.Post check-args-Inv-loop check-args-μ-loop
-check-args-same-length-2 t c = c .before .before .before .check-members .ensures .0 ∙ c .before .before .before .before .before .before .before .before .loop .inv .0
+check-all-args-same-length-2 : (t : ℕ) → check-all-args-lts.Need-same-length-2 (check-all-args-claims t) (check-all-args-at t) check-all-args.Post check-all-args-Inv-loop check-all-args-μ-loop
+check-all-args-same-length-2 t c = c .before .before .before .check-members .ensures .0 ∙ c .before .before .before .before .before .before .before .before .loop .inv .0
 
-check-args-returns-2 : (t : ℕ) → check-args-lts.Need-returns-2 (check-args-claims t) (check-args-at t) check-args.Post check-args-Inv-loop check-args-μ-loop
-check-args-returns-2 t c = (c .before .before .before .check-members .ensures .0 ∙ c .before .before .before .before .before .before .before .before .loop .inv .0, c .before .before .before .before .before .before .before .before .loop .inv .2 _ _ _ (args-lack _ _ _ _ _ _ (c .before .before .before .before .before .before .before .loop-test .taken) _ (next-by _ (now (c .before .before .before .before .before .before .before .before .before .before .before .before .before .args .r)) _ _ _ (c .before .before .before .before .before .before .before .before .before .number-in .ensures .0) (c .before .before .before .before .before .before .node-of .ensures)) _ _ _ (c .before .before .before .check-members .ensures .1) (not-true _ (c .if2 .taken))))
+check-all-args-returns-2 : (t : ℕ) → check-all-args-lts.Need-returns-2 (check-all-args-claims t) (check-all-args-at t) check-all-args.Post check-all-args-Inv-loop check-all-args-μ-loop
+check-all-args-returns-2 t c = (c .before .before .before .check-members .ensures .0 ∙ c .before .before .before .before .before .before .before .before .loop .inv .0, c .before .before .before .before .before .before .before .before .loop .inv .2 _ _ _ (args-lack _ _ _ _ _ _ (c .before .before .before .before .before .before .before .loop-test .taken) _ (next-by _ (now (c .before .before .before .before .before .before .before .before .before .before .before .before .before .args .r)) _ _ _ (c .before .before .before .before .before .before .before .before .before .number-in .ensures .0) (c .before .before .before .before .before .before .node-of .ensures)) _ _ _ (c .before .before .before .check-members .ensures .1) (not-true _ (c .if2 .taken))))
 
-check-args-result-of-requires : (t : ℕ) → check-args-lts.Need-result-of-requires (check-args-claims t) (check-args-at t) check-args.Post check-args-Inv-loop check-args-μ-loop
-check-args-result-of-requires t c κs = search needs
+check-all-args-result-of-requires : (t : ℕ) → check-all-args-lts.Need-result-of-requires (check-all-args-claims t) (check-all-args-at t) check-all-args.Post check-all-args-Inv-loop check-all-args-μ-loop
+check-all-args-result-of-requires t c κs = search needs
 
-check-args-sub-left : (t : ℕ) → check-args-lts.Need-sub-left (check-args-claims t) (check-args-at t) check-args.Post check-args-Inv-loop check-args-μ-loop
-check-args-sub-left t c = let l = c .before .before .before .before .before .before .before .before .loop-test .taken in omega arith
+check-all-args-sub-left : (t : ℕ) → check-all-args-lts.Need-sub-left (check-all-args-claims t) (check-all-args-at t) check-all-args.Post check-all-args-Inv-loop check-all-args-μ-loop
+check-all-args-sub-left t c = let l = c .before .before .before .before .before .before .before .before .loop-test .taken in omega arith
 
-check-args-loop-less : (t : ℕ) → check-args-lts.Need-loop-less (check-args-claims t) (check-args-at t) check-args.Post check-args-Inv-loop check-args-μ-loop
-check-args-loop-less t c = let l = c .before .before .before .before .before .before .before .before .loop-test .taken in omega arith
+check-all-args-loop-less : (t : ℕ) → check-all-args-lts.Need-loop-less (check-all-args-claims t) (check-all-args-at t) check-all-args.Post check-all-args-Inv-loop check-all-args-μ-loop
+check-all-args-loop-less t c = let l = c .before .before .before .before .before .before .before .before .loop-test .taken in omega arith
 
-check-args-loop-again : (t : ℕ) → check-args-lts.Need-loop-again (check-args-claims t) (check-args-at t) check-args.Post check-args-Inv-loop check-args-μ-loop
-check-args-loop-again t c = (c .before .before .before .before .check-members .ensures .0 ∙ c .before .before .before .before .before .before .before .before .before .loop .inv .0, let l = c .before .before .before .before .before .before .before .before .before .loop .inv .1 in let h = c .before .before .before .before .before .before .if1 .left in omega arith, λ m u r told. c .before .before .before .before .before .before .before .before .before .loop .inv .2 m u r (args-rest _ _ _ _ _ _ (c .before .before .before .before .before .before .before .before .loop-test .taken) _ (next-by _ (now (c .before .before .before .before .before .before .before .before .before .before .before .before .before .before .args .r)) _ _ _ (c .before .before .before .before .before .before .before .before .before .before .number-in .ensures .0) (c .before .before .before .before .before .before .before .node-of .ensures)) _ _ _ (c .before .before .before .before .check-members .ensures .1) (not-false _ (c .before .if2 .left)) _ (c .result-of .ensures .0) m u r told))
+check-all-args-loop-again : (t : ℕ) → check-all-args-lts.Need-loop-again (check-all-args-claims t) (check-all-args-at t) check-all-args.Post check-all-args-Inv-loop check-all-args-μ-loop
+check-all-args-loop-again t c = (c .before .before .before .before .check-members .ensures .0 ∙ c .before .before .before .before .before .before .before .before .before .loop .inv .0, let l = c .before .before .before .before .before .before .before .before .before .loop .inv .1 in let h = c .before .before .before .before .before .before .if1 .left in omega arith, λ m u r told. c .before .before .before .before .before .before .before .before .before .loop .inv .2 m u r (args-rest _ _ _ _ _ _ (c .before .before .before .before .before .before .before .before .loop-test .taken) _ (next-by _ (now (c .before .before .before .before .before .before .before .before .before .before .before .before .before .before .args .r)) _ _ _ (c .before .before .before .before .before .before .before .before .before .before .number-in .ensures .0) (c .before .before .before .before .before .before .before .node-of .ensures)) _ _ _ (c .before .before .before .before .check-members .ensures .1) (not-false _ (c .before .if2 .left)) _ (c .result-of .ensures .0) m u r told))
 
-check-args-same-length-3 : (t : ℕ) → check-args-lts.Need-same-length-3 (check-args-claims t) (check-args-at t) check-args.Post check-args-Inv-loop check-args-μ-loop
-check-args-same-length-3 t c = c .before .loop .inv .0
+check-all-args-same-length-3 : (t : ℕ) → check-all-args-lts.Need-same-length-3 (check-all-args-claims t) (check-all-args-at t) check-all-args.Post check-all-args-Inv-loop check-all-args-μ-loop
+check-all-args-same-length-3 t c = c .before .loop .inv .0
 
-check-args-returns-3 : (t : ℕ) → check-args-lts.Need-returns-3 (check-args-claims t) (check-args-at t) check-args.Post check-args-Inv-loop check-args-μ-loop
-check-args-returns-3 t c = (c .before .loop .inv .0, c .before .loop .inv .2 _ _ _ (args-none _ _ _ (c .before .loop .here) _ _ (c .loop-test .left)))
+check-all-args-returns-3 : (t : ℕ) → check-all-args-lts.Need-returns-3 (check-all-args-claims t) (check-all-args-at t) check-all-args.Post check-all-args-Inv-loop check-all-args-μ-loop
+check-all-args-returns-3 t c = (c .before .loop .inv .0, c .before .loop .inv .2 _ _ _ (args-none _ _ _ (c .before .loop .here) _ _ (c .loop-test .left)))
+
+check-args-returns : (t : ℕ) → check-args-lts.Need-returns (check-args-claims t) (check-args-at t) check-args.Post
+check-args-returns t c = (refl, args-none _ _ _ (c .before .before .before .before .args .at) _ _ (omega (arith, c .if1 .taken)))
+
+check-args-check-all-args-requires : (t : ℕ) → check-args-lts.Need-check-all-args-requires (check-args-claims t) (check-args-at t) check-args.Post
+check-args-check-all-args-requires t c κs = let p = c .before .before .before .before .before .pre .0 in (omega arith, Prim.tt)
+
+check-args-same-length : (t : ℕ) → check-args-lts.Need-same-length (check-args-claims t) (check-args-at t) check-args.Post
+check-args-same-length t c = c .before .before .check-all-args .ensures .0
+
+check-args-returns-2 : (t : ℕ) → check-args-lts.Need-returns-2 (check-args-claims t) (check-args-at t) check-args.Post
+check-args-returns-2 t c = (c .before .before .check-all-args .ensures .0, c .before .before .check-all-args .ensures .1)
 
 check-bound-head-hint-requires : (t : ℕ) → check-bound-lts.Need-head-hint-requires (check-bound-claims t) (check-bound-at t) check-bound.Post
 check-bound-head-hint-requires t c κs = search needs
@@ -445,16 +474,10 @@ check-bound-returns-2 : (t : ℕ) → check-bound-lts.Need-returns-2 (check-boun
 check-bound-returns-2 t c = (c .before .before .check-listed .ensures .0 ∙ c .before .before .before .before .before .before .before .try-binding .ensures .0, λ ea et. tells-on (c .before .before .before .before .before .before .before .try-binding .ensures .1 ea et .keeps) (c .before .before .check-listed .ensures .1 ea et))
 
 abbrev check-each-Inv-loop : check-each-lts.InvT-loop
-check-each-Inv-loop t r w₀ at ty closed many known₀ word₀ j₀ w known word j = (length w ≡ length w₀) × Asked (caseOf t r) (answersOf r w₀) (usersOf r w₀) at ty (answersOf r w) (usersOf r w) j × Recalled (caseOf t r) (answersOf r w₀) (usersOf r w₀) at ty (usersOf r w) word known
+check-each-Inv-loop t r w₀ at ty many known₀ word₀ j₀ w known word j = (length w ≡ length w₀) × Asked (caseOf t r) (answersOf r w₀) (usersOf r w₀) at ty (answersOf r w) (usersOf r w) j × Recalled (caseOf t r) (answersOf r w₀) (usersOf r w₀) at ty (usersOf r w) word known
 
 abbrev check-each-μ-loop : check-each-lts.MeasureT-loop
-check-each-μ-loop t r w₀ at ty closed many known₀ word₀ j₀ w known word j = many - j
-
-check-each-number-in-requires : (t : ℕ) → check-each-lts.Need-number-in-requires (check-each-claims t) (check-each-at t) check-each.Post check-each-Inv-loop check-each-μ-loop
-check-each-number-in-requires t c κs = search needs
-
-check-each-node-of-requires : (t : ℕ) → check-each-lts.Need-node-of-requires (check-each-claims t) (check-each-at t) check-each.Post check-each-Inv-loop check-each-μ-loop
-check-each-node-of-requires t c κs = search needs
+check-each-μ-loop t r w₀ at ty many known₀ word₀ j₀ w known word j = many - j
 
 check-each-many-of-requires : (t : ℕ) → check-each-lts.Need-many-of-requires (check-each-claims t) (check-each-at t) check-each.Post check-each-Inv-loop check-each-μ-loop
 check-each-many-of-requires t c κs = search needs
@@ -478,7 +501,7 @@ check-each-same-length : (t : ℕ) → check-each-lts.Need-same-length (check-ea
 check-each-same-length t c = c .before .before .before .before .before .before .loop .inv .0
 
 check-each-returns : (t : ℕ) → check-each-lts.Need-returns (check-each-claims t) (check-each-at t) check-each.Post check-each-Inv-loop check-each-μ-loop
-check-each-returns t c = (c .before .before .before .before .before .before .loop .inv .0, recalled-no _ _ _ _ _ (c .before .before .before .before .before .before .loop .inv .1) _ (c .before .before .before .before .before .before .before .many-of .ensures .0) (c .before .before .before .before .before .loop-test .taken) _ (c .before .before .before .before .member-of .ensures .0) _ _ (recalled-on _ _ _ _ _ (c .before .before .before .before .before .before .loop .inv .1 .keeps) _ (closed-by _ (now (c .before .before .before .before .before .before .before .before .before .before .before .before .before .args .r)) _ _ _ (c .before .before .before .before .before .before .before .before .before .number-in .ensures .0) (c .before .before .before .before .before .before .before .before .node-of .ensures)) _ _ _ _ _ refl (c .before .before .before .before .before .before .loop .inv .2) (c .before .before .outlook-on .ensures)) refl _ (c .before .has-bit .ensures) (c .if1 .taken))
+check-each-returns t c = (c .before .before .before .before .before .before .loop .inv .0, recalled-no _ _ _ _ _ (c .before .before .before .before .before .before .loop .inv .1) _ (c .before .before .before .before .before .before .before .many-of .ensures .0) (c .before .before .before .before .before .loop-test .taken) _ (c .before .before .before .before .member-of .ensures .0) _ _ (recalled-on _ _ _ _ _ (c .before .before .before .before .before .before .loop .inv .1 .keeps) _ _ _ _ _ refl (c .before .before .before .before .before .before .loop .inv .2) (c .before .before .outlook-on .ensures)) refl _ (c .before .has-bit .ensures) (c .if1 .taken))
 
 check-each-has-bit-requires-2 : (t : ℕ) → check-each-lts.Need-has-bit-requires-2 (check-each-claims t) (check-each-at t) check-each.Post check-each-Inv-loop check-each-μ-loop
 check-each-has-bit-requires-2 t c κs = search needs
@@ -487,7 +510,7 @@ check-each-with-bit-requires : (t : ℕ) → check-each-lts.Need-with-bit-requir
 check-each-with-bit-requires t c κs = search needs
 
 check-each-check-member-requires : (t : ℕ) → check-each-lts.Need-check-member-requires (check-each-claims t) (check-each-at t) check-each.Post check-each-Inv-loop check-each-μ-loop
-check-each-check-member-requires t c κs = let p = c .before .before .before .before .before .before .before .before .before .before .before .before .before .before .before .before .before .pre .0 in (omega arith, Prim.tt)
+check-each-check-member-requires t c κs = let p = c .before .before .before .before .before .before .before .before .before .before .before .before .before .before .before .pre .0 in (omega arith, Prim.tt)
 
 check-each-learn-in-requires : (t : ℕ) → check-each-lts.Need-learn-in-requires (check-each-claims t) (check-each-at t) check-each.Post check-each-Inv-loop check-each-μ-loop
 check-each-learn-in-requires t c κs = search needs
@@ -496,7 +519,7 @@ check-each-same-length-2 : (t : ℕ) → check-each-lts.Need-same-length-2 (chec
 check-each-same-length-2 t c = c .before .before .learn-in .ensures .0 ∙ c .before .before .before .before .before .before .before .check-member .ensures .0 ∙ c .before .before .before .before .before .before .before .before .before .before .before .before .before .before .before .before .before .before .loop .inv .0
 
 check-each-returns-2 : (t : ℕ) → check-each-lts.Need-returns-2 (check-each-claims t) (check-each-at t) check-each.Post check-each-Inv-loop check-each-μ-loop
-check-each-returns-2 t c = (c .before .before .learn-in .ensures .0 ∙ c .before .before .before .before .before .before .before .check-member .ensures .0 ∙ c .before .before .before .before .before .before .before .before .before .before .before .before .before .before .before .before .before .before .loop .inv .0, members-moved _ _ _ _ _ _ _ _ _ (c .before .before .learn-in .ensures .1) (checked-no _ _ _ _ _ (c .before .before .before .before .before .before .before .before .before .before .before .before .before .before .before .before .before .before .loop .inv .1) _ (c .before .before .before .before .before .before .before .before .before .before .before .before .before .before .before .before .before .before .before .many-of .ensures .0) (c .before .before .before .before .before .before .before .before .before .before .before .before .before .before .before .before .before .loop-test .taken) _ (c .before .before .before .before .before .before .before .before .before .before .before .before .before .before .before .before .member-of .ensures .0) _ (closed-by _ (now (c .before .before .before .before .before .before .before .before .before .before .before .before .before .before .before .before .before .before .before .before .before .before .before .before .before .args .r)) _ _ _ (c .before .before .before .before .before .before .before .before .before .before .before .before .before .before .before .before .before .before .before .before .before .number-in .ensures .0) (c .before .before .before .before .before .before .before .before .before .before .before .before .before .before .before .before .before .before .before .before .node-of .ensures)) _ (c .before .before .before .before .before .before .before .before .before .with-bit .ensures) _ _ _ (c .before .before .before .before .before .before .before .check-member .ensures .1) _ (not-true _ (c .before .before .before .before .if3 .taken)) (c .before .before .learn-in .ensures .2)))
+check-each-returns-2 t c = (c .before .before .learn-in .ensures .0 ∙ c .before .before .before .before .before .before .before .check-member .ensures .0 ∙ c .before .before .before .before .before .before .before .before .before .before .before .before .before .before .before .before .before .before .loop .inv .0, members-moved _ _ _ (c .before .before .before .before .before .before .before .before .before .before .before .before .before .before .before .before .before .before .before .before .before .before .before .args .at) _ _ _ _ _ (c .before .before .learn-in .ensures .1) (checked-no _ _ _ _ _ (c .before .before .before .before .before .before .before .before .before .before .before .before .before .before .before .before .before .before .loop .inv .1) _ (c .before .before .before .before .before .before .before .before .before .before .before .before .before .before .before .before .before .before .before .many-of .ensures .0) (c .before .before .before .before .before .before .before .before .before .before .before .before .before .before .before .before .before .loop-test .taken) _ (c .before .before .before .before .before .before .before .before .before .before .before .before .before .before .before .before .member-of .ensures .0) _ (c .before .before .before .before .before .before .before .before .before .with-bit .ensures) _ _ _ (c .before .before .before .before .before .before .before .check-member .ensures .1) _ (not-true _ (c .before .before .before .before .if3 .taken)) (c .before .before .learn-in .ensures .2)))
 
 check-each-learn-in-requires-2 : (t : ℕ) → check-each-lts.Need-learn-in-requires-2 (check-each-claims t) (check-each-at t) check-each.Post check-each-Inv-loop check-each-μ-loop
 check-each-learn-in-requires-2 t c κs = search needs
@@ -505,13 +528,13 @@ check-each-loop-less : (t : ℕ) → check-each-lts.Need-loop-less (check-each-c
 check-each-loop-less t c = let h = c .before .before .before .before .before .before .before .before .before .before .before .before .before .before .before .before .before .loop-test .taken in omega arith
 
 check-each-loop-again : (t : ℕ) → check-each-lts.Need-loop-again (check-each-claims t) (check-each-at t) check-each.Post check-each-Inv-loop check-each-μ-loop
-check-each-loop-again t c = (c .before .before .learn-in2 .ensures .0 ∙ c .before .before .before .before .before .before .before .check-member .ensures .0 ∙ c .before .before .before .before .before .before .before .before .before .before .before .before .before .before .before .before .before .before .loop .inv .0, asked-moved _ _ _ _ _ _ _ _ _ (c .before .before .learn-in2 .ensures .1) (checked-yes _ _ _ _ _ (c .before .before .before .before .before .before .before .before .before .before .before .before .before .before .before .before .before .before .loop .inv .1) _ (c .before .before .before .before .before .before .before .before .before .before .before .before .before .before .before .before .before .before .before .many-of .ensures .0) (c .before .before .before .before .before .before .before .before .before .before .before .before .before .before .before .before .before .loop-test .taken) _ (c .before .before .before .before .before .before .before .before .before .before .before .before .before .before .before .before .member-of .ensures .0) _ (closed-by _ (now (c .before .before .before .before .before .before .before .before .before .before .before .before .before .before .before .before .before .before .before .before .before .before .before .before .before .args .r)) _ _ _ (c .before .before .before .before .before .before .before .before .before .before .before .before .before .before .before .before .before .before .before .before .before .number-in .ensures .0) (c .before .before .before .before .before .before .before .before .before .before .before .before .before .before .before .before .before .before .before .before .node-of .ensures)) _ (c .before .before .before .before .before .before .before .before .before .with-bit .ensures) _ _ _ (c .before .before .before .before .before .before .before .check-member .ensures .1) _ (not-false _ (c .before .before .before .before .if3 .left)) (c .before .before .learn-in2 .ensures .2) _ (omega arith)), recalled-moved _ _ _ _ _ _ _ _ _ (c .before .before .learn-in2 .ensures .1) (recalled-more _ _ _ _ _ (c .before .before .before .before .before .before .before .check-member .ensures .1 .keeps .grows) (recalled-on _ _ _ _ _ (c .before .before .before .before .before .before .before .before .before .before .before .before .before .before .before .before .before .before .loop .inv .1 .keeps) _ (closed-by _ (now (c .before .before .before .before .before .before .before .before .before .before .before .before .before .before .before .before .before .before .before .before .before .before .before .before .before .args .r)) _ _ _ (c .before .before .before .before .before .before .before .before .before .before .before .before .before .before .before .before .before .before .before .before .before .number-in .ensures .0) (c .before .before .before .before .before .before .before .before .before .before .before .before .before .before .before .before .before .before .before .before .node-of .ensures)) _ _ _ _ _ refl (c .before .before .before .before .before .before .before .before .before .before .before .before .before .before .before .before .before .before .loop .inv .2) (c .before .before .before .before .before .before .before .before .before .before .before .before .before .before .outlook-on .ensures))))
+check-each-loop-again t c = (c .before .before .learn-in2 .ensures .0 ∙ c .before .before .before .before .before .before .before .check-member .ensures .0 ∙ c .before .before .before .before .before .before .before .before .before .before .before .before .before .before .before .before .before .before .loop .inv .0, asked-moved _ _ _ _ _ _ _ _ _ (c .before .before .learn-in2 .ensures .1) (checked-yes _ _ _ _ _ (c .before .before .before .before .before .before .before .before .before .before .before .before .before .before .before .before .before .before .loop .inv .1) _ (c .before .before .before .before .before .before .before .before .before .before .before .before .before .before .before .before .before .before .before .many-of .ensures .0) (c .before .before .before .before .before .before .before .before .before .before .before .before .before .before .before .before .before .loop-test .taken) _ (c .before .before .before .before .before .before .before .before .before .before .before .before .before .before .before .before .member-of .ensures .0) _ (c .before .before .before .before .before .before .before .before .before .with-bit .ensures) _ _ _ (c .before .before .before .before .before .before .before .check-member .ensures .1) _ (not-false _ (c .before .before .before .before .if3 .left)) (c .before .before .learn-in2 .ensures .2) _ (omega arith)), recalled-moved _ _ _ _ _ _ _ _ _ (c .before .before .learn-in2 .ensures .1) (recalled-more _ _ _ _ _ (c .before .before .before .before .before .before .before .check-member .ensures .1 .keeps .grows) (recalled-on _ _ _ _ _ (c .before .before .before .before .before .before .before .before .before .before .before .before .before .before .before .before .before .before .loop .inv .1 .keeps) _ _ _ _ _ refl (c .before .before .before .before .before .before .before .before .before .before .before .before .before .before .before .before .before .before .loop .inv .2) (c .before .before .before .before .before .before .before .before .before .before .before .before .before .before .outlook-on .ensures))))
 
 check-each-loop-less-2 : (t : ℕ) → check-each-lts.Need-loop-less-2 (check-each-claims t) (check-each-at t) check-each.Post check-each-Inv-loop check-each-μ-loop
 check-each-loop-less-2 t c = let h = c .before .before .before .before .before .before .before .loop-test .taken in omega arith
 
 check-each-loop-again-2 : (t : ℕ) → check-each-lts.Need-loop-again-2 (check-each-claims t) (check-each-at t) check-each.Post check-each-Inv-loop check-each-μ-loop
-check-each-loop-again-2 t c = (c .before .before .before .before .before .before .before .before .loop .inv .0, recalled-yes _ _ _ _ _ (c .before .before .before .before .before .before .before .before .loop .inv .1) _ (c .before .before .before .before .before .before .before .before .before .many-of .ensures .0) (c .before .before .before .before .before .before .before .loop-test .taken) _ (c .before .before .before .before .before .before .member-of .ensures .0) _ _ (recalled-on _ _ _ _ _ (c .before .before .before .before .before .before .before .before .loop .inv .1 .keeps) _ (closed-by _ (now (c .before .before .before .before .before .before .before .before .before .before .before .before .before .before .before .args .r)) _ _ _ (c .before .before .before .before .before .before .before .before .before .before .before .number-in .ensures .0) (c .before .before .before .before .before .before .before .before .before .before .node-of .ensures)) _ _ _ _ _ refl (c .before .before .before .before .before .before .before .before .loop .inv .2) (c .before .before .before .before .outlook-on .ensures)) refl _ (c .before .has-bit2 .ensures) (not-false _ (c .if2 .left)) _ (omega arith), (recalled-on _ _ _ _ _ (c .before .before .before .before .before .before .before .before .loop .inv .1 .keeps) _ (closed-by _ (now (c .before .before .before .before .before .before .before .before .before .before .before .before .before .before .before .args .r)) _ _ _ (c .before .before .before .before .before .before .before .before .before .before .before .number-in .ensures .0) (c .before .before .before .before .before .before .before .before .before .before .node-of .ensures)) _ _ _ _ _ refl (c .before .before .before .before .before .before .before .before .loop .inv .2) (c .before .before .before .before .outlook-on .ensures)))
+check-each-loop-again-2 t c = (c .before .before .before .before .before .before .before .before .loop .inv .0, recalled-yes _ _ _ _ _ (c .before .before .before .before .before .before .before .before .loop .inv .1) _ (c .before .before .before .before .before .before .before .before .before .many-of .ensures .0) (c .before .before .before .before .before .before .before .loop-test .taken) _ (c .before .before .before .before .before .before .member-of .ensures .0) _ _ (recalled-on _ _ _ _ _ (c .before .before .before .before .before .before .before .before .loop .inv .1 .keeps) _ _ _ _ _ refl (c .before .before .before .before .before .before .before .before .loop .inv .2) (c .before .before .before .before .outlook-on .ensures)) refl _ (c .before .has-bit2 .ensures) (not-false _ (c .if2 .left)) _ (omega arith), (recalled-on _ _ _ _ _ (c .before .before .before .before .before .before .before .before .loop .inv .1 .keeps) _ _ _ _ _ refl (c .before .before .before .before .before .before .before .before .loop .inv .2) (c .before .before .before .before .outlook-on .ensures)))
 
 check-each-same-length-3 : (t : ℕ) → check-each-lts.Need-same-length-3 (check-each-claims t) (check-each-at t) check-each.Post check-each-Inv-loop check-each-μ-loop
 check-each-same-length-3 t c = c .before .loop .inv .0
@@ -580,16 +603,10 @@ check-given-returns-3 : (t : ℕ) → check-given-lts.Need-returns-3 (check-give
 check-given-returns-3 t c = (c .before .loop .inv .0, λ ea nc nn. given-end _ _ _ _ _ _ _ (c .before .before .before .before .off .ensures ∙ ap (offOf _ _) (c .before .before .before .before .before .number-in .ensures .0)) ea nc nn (c .before .loop .inv .1) _ (c .before .before .many-of .ensures .0) (c .loop-test .left))
 
 abbrev check-left-Inv-loop : check-left-lts.InvT-loop
-check-left-Inv-loop t r w₀ at asked found closed had₀ left₀ w had left = (length w ≡ length w₀) × ((memo users : List ℕ) → Finds (caseOf t r) memo users at (answersOf r w₀) (usersOf r w₀) found → Left (caseOf t r) memo users at asked (answersOf r w) (usersOf r w) had left)
+check-left-Inv-loop t r w₀ at asked found had₀ left₀ w had left = (length w ≡ length w₀) × ((memo users : List ℕ) → Finds (caseOf t r) memo users at (answersOf r w₀) (usersOf r w₀) found → Left (caseOf t r) memo users at asked (answersOf r w) (usersOf r w) had left)
 
 abbrev check-left-μ-loop : check-left-lts.MeasureT-loop
-check-left-μ-loop t r w₀ at asked found closed had₀ left₀ w had left = left
-
-check-left-number-in-requires : (t : ℕ) → check-left-lts.Need-number-in-requires (check-left-claims t) (check-left-at t) check-left.Post check-left-Inv-loop check-left-μ-loop
-check-left-number-in-requires t c κs = search needs
-
-check-left-node-of-requires : (t : ℕ) → check-left-lts.Need-node-of-requires (check-left-claims t) (check-left-at t) check-left.Post check-left-Inv-loop check-left-μ-loop
-check-left-node-of-requires t c κs = search needs
+check-left-μ-loop t r w₀ at asked found had₀ left₀ w had left = left
 
 check-left-left-of-requires : (t : ℕ) → check-left-lts.Need-left-of-requires (check-left-claims t) (check-left-at t) check-left.Post check-left-Inv-loop check-left-μ-loop
 check-left-left-of-requires t c κs = search needs
@@ -601,7 +618,7 @@ check-left-lowest-requires : (t : ℕ) → check-left-lts.Need-lowest-requires (
 check-left-lowest-requires t c κs = search needs
 
 check-left-check-term-requires : (t : ℕ) → check-left-lts.Need-check-term-requires (check-left-claims t) (check-left-at t) check-left.Post check-left-Inv-loop check-left-μ-loop
-check-left-check-term-requires t c κs = let p = c .before .before .before .before .before .before .before .before .before .before .pre .0 in (omega arith, Prim.tt)
+check-left-check-term-requires t c κs = let p = c .before .before .before .before .before .before .before .before .pre .0 in (omega arith, Prim.tt)
 
 check-left-with-bit-requires : (t : ℕ) → check-left-lts.Need-with-bit-requires (check-left-claims t) (check-left-at t) check-left.Post check-left-Inv-loop check-left-μ-loop
 check-left-with-bit-requires t c κs = search needs
@@ -613,7 +630,7 @@ check-left-same-length : (t : ℕ) → check-left-lts.Need-same-length (check-le
 check-left-same-length t c = c .before .before .learn-in .ensures .0 ∙ c .before .before .before .before .before .before .before .before .check-term .ensures .0 ∙ c .before .before .before .before .before .before .before .before .before .before .before .before .loop .inv .0
 
 check-left-returns : (t : ℕ) → check-left-lts.Need-returns (check-left-claims t) (check-left-at t) check-left.Post check-left-Inv-loop check-left-μ-loop
-check-left-returns t c = (c .before .before .learn-in .ensures .0 ∙ c .before .before .before .before .before .before .before .before .check-term .ensures .0 ∙ c .before .before .before .before .before .before .before .before .before .before .before .before .loop .inv .0, λ m u f. all-moved _ _ _ _ _ _ _ _ _ (c .before .before .learn-in .ensures .1) (left-fails _ _ _ _ _ (c .before .before .before .before .before .before .before .before .before .before .before .before .loop .inv .1 m u f) _ (closed-by _ (now (c .before .before .before .before .before .before .before .before .before .before .before .before .before .before .before .before .before .before .before .args .r)) _ _ _ (c .before .before .before .before .before .before .before .before .before .before .before .before .before .before .before .number-in .ensures .0) (c .before .before .before .before .before .before .before .before .before .before .before .before .before .before .node-of .ensures)) (c .before .before .before .before .before .before .before .before .before .before .before .loop-test .taken) _ (c .before .before .before .before .before .before .before .before .before .before .lowest .ensures) _ _ _ (c .before .before .before .before .before .before .before .before .check-term .ensures .1) (not-true _ (c .before .before .before .before .before .if1 .taken)) _ (c .before .before .before .with-bit .ensures) _ (c .before .before .learn-in .ensures .2)))
+check-left-returns t c = (c .before .before .learn-in .ensures .0 ∙ c .before .before .before .before .before .before .before .before .check-term .ensures .0 ∙ c .before .before .before .before .before .before .before .before .before .before .before .before .loop .inv .0, λ m u f. all-moved _ _ _ (c .before .before .before .before .before .before .before .before .before .before .before .before .before .before .before .before .before .args .at) _ _ _ _ _ (c .before .before .learn-in .ensures .1) (left-fails _ _ _ _ _ (c .before .before .before .before .before .before .before .before .before .before .before .before .loop .inv .1 m u f) (c .before .before .before .before .before .before .before .before .before .before .before .loop-test .taken) _ (c .before .before .before .before .before .before .before .before .before .before .lowest .ensures) _ _ _ (c .before .before .before .before .before .before .before .before .check-term .ensures .1) (not-true _ (c .before .before .before .before .before .if1 .taken)) _ (c .before .before .before .with-bit .ensures) _ (c .before .before .learn-in .ensures .2)))
 
 check-left-with-bit-requires-2 : (t : ℕ) → check-left-lts.Need-with-bit-requires-2 (check-left-claims t) (check-left-at t) check-left.Post check-left-Inv-loop check-left-μ-loop
 check-left-with-bit-requires-2 t c κs = search needs
@@ -625,7 +642,7 @@ check-left-loop-less : (t : ℕ) → check-left-lts.Need-loop-less (check-left-c
 check-left-loop-less t c = c .without-bit .ensures .less (c .before .before .before .before .before .before .before .lowest .ensures .within (c .before .before .before .before .before .before .before .before .loop-test .taken)) (c .before .before .before .before .before .before .before .lowest .ensures .has (c .before .before .before .before .before .before .before .before .loop-test .taken))
 
 check-left-loop-again : (t : ℕ) → check-left-lts.Need-loop-again (check-left-claims t) (check-left-at t) check-left.Post check-left-Inv-loop check-left-μ-loop
-check-left-loop-again t c = (c .before .before .before .before .before .check-term .ensures .0 ∙ c .before .before .before .before .before .before .before .before .before .loop .inv .0, λ m u f. left-more _ _ _ _ _ (c .before .before .before .before .before .before .before .before .before .loop .inv .1 m u f) _ (closed-by _ (now (c .before .before .before .before .before .before .before .before .before .before .before .before .before .before .before .before .args .r)) _ _ _ (c .before .before .before .before .before .before .before .before .before .before .before .before .number-in .ensures .0) (c .before .before .before .before .before .before .before .before .before .before .before .node-of .ensures)) (c .before .before .before .before .before .before .before .before .loop-test .taken) _ (c .before .before .before .before .before .before .before .lowest .ensures) _ _ _ (c .before .before .before .before .before .check-term .ensures .1) (not-false _ (c .before .before .if1 .left)) _ _ (c .before .with-bit2 .ensures) (c .without-bit .ensures))
+check-left-loop-again t c = (c .before .before .before .before .before .check-term .ensures .0 ∙ c .before .before .before .before .before .before .before .before .before .loop .inv .0, λ m u f. left-more _ _ _ _ _ (c .before .before .before .before .before .before .before .before .before .loop .inv .1 m u f) (c .before .before .before .before .before .before .before .before .loop-test .taken) _ (c .before .before .before .before .before .before .before .lowest .ensures) _ _ _ (c .before .before .before .before .before .check-term .ensures .1) (not-false _ (c .before .before .if1 .left)) _ _ (c .before .with-bit2 .ensures) (c .without-bit .ensures))
 
 check-left-learn-in-requires-2 : (t : ℕ) → check-left-lts.Need-learn-in-requires-2 (check-left-claims t) (check-left-at t) check-left.Post check-left-Inv-loop check-left-μ-loop
 check-left-learn-in-requires-2 t c κs = search needs
@@ -634,7 +651,7 @@ check-left-same-length-2 : (t : ℕ) → check-left-lts.Need-same-length-2 (chec
 check-left-same-length-2 t c = c .before .before .learn-in2 .ensures .0 ∙ c .before .before .before .before .before .loop .inv .0
 
 check-left-returns-2 : (t : ℕ) → check-left-lts.Need-returns-2 (check-left-claims t) (check-left-at t) check-left.Post check-left-Inv-loop check-left-μ-loop
-check-left-returns-2 t c = (c .before .before .learn-in2 .ensures .0 ∙ c .before .before .before .before .before .loop .inv .0, λ m u f. all-moved _ _ _ _ _ _ _ _ _ (c .before .before .learn-in2 .ensures .1) (left-end _ _ _ _ _ (c .before .before .before .before .before .loop .inv .1 m u f) _ (closed-by _ (now (c .before .before .before .before .before .before .before .before .before .before .before .before .args .r)) _ _ _ (c .before .before .before .before .before .before .before .before .number-in .ensures .0) (c .before .before .before .before .before .before .before .node-of .ensures)) (c .before .before .before .before .loop-test .left) _ (c .before .before .learn-in2 .ensures .2)))
+check-left-returns-2 t c = (c .before .before .learn-in2 .ensures .0 ∙ c .before .before .before .before .before .loop .inv .0, λ m u f. all-moved _ _ _ (c .before .before .before .before .before .before .before .before .before .before .args .at) _ _ _ _ _ (c .before .before .learn-in2 .ensures .1) (left-end _ _ _ _ _ (c .before .before .before .before .before .loop .inv .1 m u f) (c .before .before .before .before .loop-test .left) _ (c .before .before .learn-in2 .ensures .2)))
 
 abbrev check-listed-Inv-loop : check-listed-lts.InvT-loop
 check-listed-Inv-loop t r w₀ at goal node row high from₀ w from = (length w ≡ length w₀) × (node ≡ nodeAt t (baseIn r) at → node .tag ≡ 1 → Bound.Failed (caseOf t r) (answersOf r w₀) (usersOf r w₀) at goal node (answersOf r w) (usersOf r w) from)
@@ -1167,10 +1184,11 @@ try-binding-same-length-2 t c = c .before .before .note-in .ensures .0 ∙ c .be
 try-binding-returns-3 : (t : ℕ) → try-binding-lts.Need-returns-3 (try-binding-claims t) (try-binding-at t) try-binding.Post
 try-binding-returns-3 t c = (c .before .before .note-in .ensures .0 ∙ c .before .before .before .before .before .before .before .check-args .ensures .0, tries-moved _ _ _ _ _ _ _ _ _ _ _ _ (c .before .before .note-in .ensures .1) refl (try-serves _ _ _ _ _ _ _ _ (c .before .before .before .before .before .before .before .before .before .before .candidate .ensures) (c .before .before .before .before .before .before .before .before .before .if1 .left) ((c .before .before .before .before .before .before .before .before .before .before .before .before .before .before .args .at) + 1) (omega arith) _ _ _ (c .before .before .before .before .before .before .before .check-args .ensures .1) (not-false _ (c .before .before .before .before .if2 .left)) _ (c .before .before .note-in .ensures .2)))
 
-pub +check-args+check-bound+check-each+check-given+check-left+check-listed+check-member+check-members+check-states+check-target+check-targets+check-term+find-bound+find-given+find-states+try-binding-spec :
+pub +check-all-args+check-args+check-bound+check-each+check-given+check-left+check-listed+check-member+check-members+check-states+check-target+check-targets+check-term+find-bound+find-given+find-states+try-binding-spec :
     {M : Type 1} → statement M
-+check-args+check-bound+check-each+check-given+check-left+check-listed+check-member+check-members+check-states+check-target+check-targets+check-term+find-bound+find-given+find-states+try-binding-spec =
++check-all-args+check-args+check-bound+check-each+check-given+check-left+check-listed+check-member+check-members+check-states+check-target+check-targets+check-term+find-bound+find-given+find-states+try-binding-spec =
     close
+    μ-check-all-args
     μ-check-args
     μ-check-bound
     μ-check-each
@@ -1187,25 +1205,32 @@ pub +check-args+check-bound+check-each+check-given+check-left+check-listed+check
     μ-find-given
     μ-find-states
     μ-try-binding
+    (λ t. check-all-args-lts.spec (check-all-args-claims t)
+    (check-all-args-at t)
+    check-all-args.Post
+    check-all-args-Inv-loop
+    check-all-args-μ-loop
+    (check-all-args-number-in-requires t)
+    (check-all-args-loop-holds t)
+    (check-all-args-node-of-requires t)
+    (check-all-args-same-length t)
+    (check-all-args-returns t)
+    (check-all-args-check-members-requires t)
+    (check-all-args-same-length-2 t)
+    (check-all-args-returns-2 t)
+    (check-all-args-result-of-requires t)
+    (check-all-args-sub-left t)
+    (check-all-args-loop-less t)
+    (check-all-args-loop-again t)
+    (check-all-args-same-length-3 t)
+    (check-all-args-returns-3 t))
     (λ t. check-args-lts.spec (check-args-claims t)
     (check-args-at t)
     check-args.Post
-    check-args-Inv-loop
-    check-args-μ-loop
-    (check-args-number-in-requires t)
-    (check-args-loop-holds t)
-    (check-args-node-of-requires t)
-    (check-args-same-length t)
     (check-args-returns t)
-    (check-args-check-members-requires t)
-    (check-args-same-length-2 t)
-    (check-args-returns-2 t)
-    (check-args-result-of-requires t)
-    (check-args-sub-left t)
-    (check-args-loop-less t)
-    (check-args-loop-again t)
-    (check-args-same-length-3 t)
-    (check-args-returns-3 t))
+    (check-args-check-all-args-requires t)
+    (check-args-same-length t)
+    (check-args-returns-2 t))
     (λ t. check-bound-lts.spec (check-bound-claims t)
     (check-bound-at t)
     check-bound.Post
@@ -1221,8 +1246,6 @@ pub +check-args+check-bound+check-each+check-given+check-left+check-listed+check
     check-each.Post
     check-each-Inv-loop
     check-each-μ-loop
-    (check-each-number-in-requires t)
-    (check-each-node-of-requires t)
     (check-each-many-of-requires t)
     (check-each-loop-holds t)
     (check-each-member-of-requires t)
@@ -1272,8 +1295,6 @@ pub +check-args+check-bound+check-each+check-given+check-left+check-listed+check
     check-left.Post
     check-left-Inv-loop
     check-left-μ-loop
-    (check-left-number-in-requires t)
-    (check-left-node-of-requires t)
     (check-left-left-of-requires t)
     (check-left-loop-holds t)
     (check-left-lowest-requires t)
