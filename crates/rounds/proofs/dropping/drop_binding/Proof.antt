@@ -1,6 +1,6 @@
 -- `drop_binding` meets its contract.
 use native.Mathlib.Omega.{arith}
-use Rattle.rounds.proofs.dropping.Gone.{product-fits, dropped-one}
+use Rattle.rounds.proofs.dropping.Gone.{columns-fit, product-fits, dropped-one}
 use borrow.Author.Needs.{needs}
 use Rattle.rounds.proofs.dropping.drop_binding.Statement.{statement}
 use Rattle.rounds.proofs.dropping.drop_binding.Tie as tie
@@ -16,6 +16,12 @@ drop-flag-requires c κs = search needs
 
 mul-join-users : tie.Need-mul-join-users
 mul-join-users c = omega (arith, product-fits (c .before .before .before .before .before .before .before .before .before .before .before .args .b) (c .before .before .before .before .before .before .before .before .before .before .before .args .sizes .bindings))
+
+mul-join-users-2 : tie.Need-mul-join-users-2
+mul-join-users-2 c = omega (arith, columns-fit (c .before .before .before .before .before .before .before .before .before .before .before .args .sizes .bindings))
+
+add-join-users : tie.Need-add-join-users
+add-join-users c = omega (arith, columns-fit (c .before .before .before .before .before .before .before .before .before .before .before .args .sizes .bindings))
 
 join-users-requires : tie.Need-join-users-requires
 join-users-requires c κs = search needs
@@ -43,6 +49,8 @@ drop-binding-spec =
     add-words
     drop-flag-requires
     mul-join-users
+    mul-join-users-2
+    add-join-users
     join-users-requires
     leave-requires
     same-length

@@ -9,8 +9,7 @@ use Rattle.term_check.proofs.parts.Parting.{same-lengths}
 use Rattle.rounds.specs.tested.Tested.{Same}
 use Rattle.rounds.proofs.tested.Placing.{same-none, same-more}
 use Rattle.rounds.proofs.tested.Retesting.{retests-from}
-use Rattle.rounds.proofs.shrinking.Turning.{Turning, turn-none, turn-more, turn-all}
-use Rattle.rounds.proofs.dropping.Gone.{finds-less}
+use Rattle.rounds.proofs.shrinking.Turning.{marked-less, Turning, turn-none, turn-more, turn-all}
 use borrow.Author.Needs.{needs}
 use Rattle.rounds.proofs.shrinking.turn.Statement.{statement}
 use Rattle.rounds.proofs.shrinking.turn.Tie as tie
@@ -21,30 +20,30 @@ Inv-loop t firsts sizes flags todo r₀ w₀ failed₀ last total n₀ b₀ r w 
 abbrev μ-loop : tie.MeasureT-loop
 μ-loop t firsts sizes flags todo r₀ w₀ failed₀ last total n₀ b₀ r w failed n b = total - b
 
-next-in-requires : tie.Need-next-in-requires Inv-loop μ-loop
-next-in-requires c κs = search needs
+next-marked-requires : tie.Need-next-marked-requires Inv-loop μ-loop
+next-marked-requires c κs = search needs
 
 loop-holds : tie.Need-loop-holds Inv-loop μ-loop
-loop-holds c = (c .next-in .ensures .within, refl, same-none _, turn-none _ _ _ _ _ _ _ _ _ _ _ _ (c .next-in .ensures))
+loop-holds c = (c .next-marked .ensures .within, refl, same-none _, turn-none _ _ _ _ _ _ _ _ _ _ _ _ (c .next-marked .ensures))
 
 retest-requires : tie.Need-retest-requires Inv-loop μ-loop
 retest-requires c κs = search needs
 
-add-next-in : tie.Need-add-next-in Inv-loop μ-loop
-add-next-in c = omega arith
+add-next-marked : tie.Need-add-next-marked Inv-loop μ-loop
+add-next-marked c = omega arith
 
-next-in-requires-2 : tie.Need-next-in-requires-2 Inv-loop μ-loop
-next-in-requires-2 c κs = search needs
+next-marked-requires-2 : tie.Need-next-marked-requires-2 Inv-loop μ-loop
+next-marked-requires-2 c κs = search needs
 
 loop-less : tie.Need-loop-less Inv-loop μ-loop
-loop-less c = finds-less (c .next-in2 .ensures) (c .before .before .before .before .before .before .before .before .before .before .before .loop-test .taken)
+loop-less c = marked-less (c .next-marked2 .ensures) (c .before .before .before .before .before .before .before .before .before .before .before .loop-test .taken)
 
 loop-again : tie.Need-loop-again Inv-loop μ-loop
 loop-again c =
     let i = c .before .before .before .before .before .before .before .before .before .before .before .before .loop .inv in
     let h = c .before .before .before .before .before .before .before .before .before .before .before .loop-test .taken in
     let x = c .before .before .before .before .before .before .before .retest .ensures in
-    (c .next-in2 .ensures .within, x .0 ∙ i .1, same-more (i .2) (x .1), turn-more _ _ _ _ _ _ _ _ _ _ _ _ _ _ _ (i .3) _ refl h _ _ _ _ _ (same-lengths _ _ _ (x .0) .1) (x .2) (retests-from _ _ _ _ _ _ _ _ _ _ _ _ _ (i .2) (x .3)) (c .next-in2 .ensures))
+    (c .next-marked2 .ensures .within, x .0 ∙ i .1, same-more (i .2) (x .1), turn-more _ _ _ _ _ _ _ _ _ _ _ _ _ _ _ (i .3) _ refl h _ _ _ _ _ (same-lengths _ _ _ (x .0) .1) (x .2) (retests-from _ _ _ _ _ _ _ _ _ _ _ _ _ (i .2) (x .3)) (c .next-marked2 .ensures))
 
 same-length : tie.Need-same-length Inv-loop μ-loop
 same-length c = c .before .loop .inv .2 .placed .long
@@ -64,11 +63,11 @@ turn-spec =
     (tie.spec
     Inv-loop
     μ-loop
-    next-in-requires
+    next-marked-requires
     loop-holds
     retest-requires
-    add-next-in
-    next-in-requires-2
+    add-next-marked
+    next-marked-requires-2
     loop-less
     loop-again
     same-length

@@ -55,12 +55,6 @@ cast-t24 c = search needs
 cast-t25 : tie.Need-cast-t25
 cast-t25 c = search needs
 
-cast-t26 : tie.Need-cast-t26
-cast-t26 c = search needs
-
-cast-t27 : tie.Need-cast-t27
-cast-t27 c = search needs
-
 slice-aggregate-set-test : tie.Need-slice-aggregate-set-test
 slice-aggregate-set-test c = search needs
 
@@ -102,8 +96,6 @@ holds-spec =
     cast-t23
     cast-t24
     cast-t25
-    cast-t26
-    cast-t27
     slice-aggregate-set-test
     set-test-requires
     end-of-requires
