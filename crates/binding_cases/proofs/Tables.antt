@@ -72,7 +72,7 @@ module _ (file before counts ends lent-firsts lent-table read write : List ℕ) 
 
   module _ (bytes : Bytes file) (et : IsPlace counts 8 total) (em : IsPlace counts 6 transitions) (er : IsPlace counts 4 rules) (ey : IsPlace counts 7 types)
       (fills-rows : FillsRows file before transitions index) (fills-firsts : FillsFirsts file index rules lent-firsts firsts) (fills-table : FillsTable file index counts ends firsts lent-table t nodes)
-      (ew : words ≡ (total + 31) / wordBits) (places : Places (hints % placeLimit) (hints % placeLimit + total * words) read placed) (fills : Fills t total words placed reads)
+      (ew : words ≡ (total + 31) / wordBits) (places : Places (hints % placeLimit) (hints % placeLimit + (total * words + total)) read placed) (fills : Fills t total words placed reads)
       (en : sizes .nodes ≡ nodes) (eg : sizes .goals ≡ types + maxStates) (eb : sizes .bindings ≡ total)
       (shrinks : ShrinksByRounds t sets firsts sizes (answersOf reads write) (usersOf reads write) lent flags kept rounds) (starts : FindsStart t flags total r) where
     module _ (lens : List ℕ) (rs : List Record) (known₀ : Known file before lens counts rs) (ok : Passed rs) (ends-are : EndsAre rs ends) (whole : refuseWhole rs (length lent) ≡ none)
@@ -163,13 +163,13 @@ module _ (file before counts ends lent-firsts lent-table read write : List ℕ) 
       hints-are : hints % placeLimit ≡ hints
       hints-are = omega (arith, room-for .few-hints)
 
-      sizes-are : total * words ≡ count Kind.binding rs * wordsFor rs
-      sizes-are = ap (λ n. n * words) bindings-count ∙ ap (λ n. count Kind.binding rs * n) words-are
+      sizes-are : total * words + total ≡ count Kind.binding rs * wordsFor rs + count Kind.binding rs
+      sizes-are = ap (λ n. n * words + n) bindings-count ∙ ap (λ n. count Kind.binding rs * n + count Kind.binding rs) words-are
 
-      users-long : count Kind.binding rs * wordsFor rs ≤ length (usersOf reads write)
+      users-long : count Kind.binding rs * wordsFor rs + count Kind.binding rs ≤ length (usersOf reads write)
       users-long =
-          users-room reads write hints (count Kind.binding rs * wordsFor rs) (fills .placed .users-at ∙ places .users-at few-cells ∙ hints-are)
-          (fills .placed .answers-at ∙ places .answers-at few-cells ∙ ap (_+ total * words) hints-are ∙ ap (λ n. hints + n) sizes-are) (room-for .write-long)
+          users-room reads write hints (count Kind.binding rs * wordsFor rs + count Kind.binding rs) (fills .placed .users-at ∙ places .users-at few-cells ∙ hints-are)
+          (fills .placed .answers-at ∙ places .answers-at few-cells ∙ ap (_+ (total * words + total)) hints-are ∙ ap (λ n. hints + n) sizes-are) (room-for .write-long)
 
       candidates : CandidatesAre rs (replicate (count Kind.binding rs) 1) sets (wordsFor rs)
       candidates =

@@ -56,12 +56,12 @@ pub record Fills (t : List ℕ) (bindings words : ℕ) (r r′ : List ℕ) : Typ
   pub filled : testCells ≤ length r → FillsSets t bindings words (drop testCells r) (drop testCells r′)
 
 -- the tables that are lent have room for a file, and those that must be are empty: what is read has the numbers of the test and then the
--- sets of candidates, what is written has hints and then users
+-- sets of candidates, what is written has hints and then users, with a brief each
 pub record Lent (rs : List Record) (firsts t r w : List ℕ) (hints : ℕ) : Type 0 where
   pub firsts-long : rowsSize ≤ length firsts
   pub table-long : tableFor rs ≤ length t
   pub read-long : testCells + (count Kind.type rs + maxStates) * wordsFor rs ≤ length r
-  pub write-long : hints + count Kind.binding rs * wordsFor rs ≤ length w
+  pub write-long : hints + (count Kind.binding rs * wordsFor rs + count Kind.binding rs) ≤ length w
   pub few-hints : hints < placeLimit
   pub no-numbers : (i : ℕ) → getD r i 0 ≡ 0
   pub no-answers : (i : ℕ) → getD w i 0 ≡ 0

@@ -103,7 +103,8 @@ pub fn judge_bindings(
     let nodes = fill_table(file, index, counts, ends, firsts, t);
     let words = (total + (WORD - 1)) / WORD;
     let from = hints % PLACE_LIMIT;
-    set_places(r, from, from + total * words);
+    let users = total * words + total;
+    set_places(r, from, from + users);
     fill_candidates(t, total, words, r);
     let sizes = Sizes {
         nodes,

@@ -31,8 +31,11 @@ sub-words c = search needs
 add-words : tie.Need-add-words
 add-words c = search needs
 
-mul-set-places : tie.Need-mul-set-places
-mul-set-places c = omega (arith, users-small (c .before .before .before .before .before .before .before .before .before .before .before .before .before .before .before .before .before .before .place-at .result) (c .before .before .before .before .before .before .before .before .before .before .before .before .before .before .before .before .before .before .place-at .ensures .bound))
+mul-users : tie.Need-mul-users
+mul-users c = omega (arith, users-small (c .before .before .before .before .before .before .before .before .before .before .before .before .before .before .before .before .before .place-at .result) (c .before .before .before .before .before .before .before .before .before .before .before .before .before .before .before .before .before .place-at .ensures .bound))
+
+add-users : tie.Need-add-users
+add-users c = omega (arith, users-small (c .before .before .before .before .before .before .before .before .before .before .before .before .before .before .before .before .before .place-at .result) (c .before .before .before .before .before .before .before .before .before .before .before .before .before .before .before .before .before .place-at .ensures .bound))
 
 add-set-places : tie.Need-add-set-places
 add-set-places c = omega (arith, users-small (c .before .before .before .before .before .before .before .before .before .before .before .before .before .before .before .before .before .before .place-at .result) (c .before .before .before .before .before .before .before .before .before .before .before .before .before .before .before .before .before .before .place-at .ensures .bound))
@@ -46,8 +49,8 @@ fill-candidates-requires c κs = search needs
 place-at-requires-4 : tie.Need-place-at-requires-4
 place-at-requires-4 c κs = search needs
 
-add-t32 : tie.Need-add-t32
-add-t32 c = search needs
+add-t22 : tie.Need-add-t22
+add-t22 c = search needs
 
 shrink-requires : tie.Need-shrink-requires
 shrink-requires c κs = search needs
@@ -92,12 +95,13 @@ judge-bindings-spec =
     fill-table-requires
     sub-words
     add-words
-    mul-set-places
+    mul-users
+    add-users
     add-set-places
     set-places-requires
     fill-candidates-requires
     place-at-requires-4
-    add-t32
+    add-t22
     shrink-requires
     start-kept-requires
     same-length
