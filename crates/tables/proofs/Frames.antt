@@ -11,7 +11,7 @@ use lib.Pow.{pow-lt}
 use lib.Seq.{getD-set-other}
 use Rattle.index.specs.layout.Layout.{rowLimit, rowCells}
 use Rattle.index.specs.enter.Entering.{stored}
-use Rattle.index.proofs.enter.Storing.{stored-length, stored-here, stored-other}
+use Rattle.index.proofs.enter.Storing.{stored-set, stored-length, stored-here, stored-other}
 use Rattle.marks.specs.Marks.{bitOf}
 use Rattle.marks.proofs.Bits.{shifted, shifted-is}
 use Rattle.marks.proofs.Sets.{put-same, put-grows, put-only}
@@ -48,6 +48,10 @@ column-apart p q k l hk hl e = go (decLt (p % rowLimit) (q % rowLimit)) (decLt (
 -- a row that did not change
 pub other-row : {q : ℕ} {a b : List ℕ} → Within (rowAt q) (rowAt q + rowCells) a b → (p k : ℕ) → p < rowLimit → q < rowLimit → k < rowCells → (p ≡ q → ⊥) → cellOf b p k ≡ cellOf a p k
 other-row {q} w p k hp hq hk ne = w .outside (rowAt p + k) (λ x y. ne (let e : rowAt p + k ≡ rowAt q + (rowAt p + k - rowAt q) = omega arith in row-apart p q k (rowAt p + k - rowAt q) hp hq hk (omega arith) e))
+
+-- a number of two bytes set is stored
+pub stores : (t : List ℕ) (i v : ℕ) → v < 65536 → set t i v ≡ stored t i v
+stores t i v h = sym (stored-set t i v h)
 
 -- a cell set
 pub within-set : {lo hi : ℕ} (t : List ℕ) (i v : ℕ) → lo ≤ i → i < hi → Within lo hi t (set t i v)
