@@ -160,11 +160,14 @@ pub fn fill_types(file: &[u8], index: &[u16], types: usize, t: &mut [u16])
     }
 }
 
-// Enters the rows of all bindings.
+// Enters the rows of all bindings, where the table has them.
 pub fn fill_bindings(file: &[u8], index: &[u16], bindings: usize, t: &mut [u16])
     ensures { λ _. ⌜ FillsBindings (now (file .entry)) (now (index .entry)) bindings (now (t .entry)) (now (t .exit)) ⌝ }
 {
     if MAX_BINDINGS < bindings {
+        return;
+    }
+    if t.len() < ROWS_AT + bindings * ROW_CELLS {
         return;
     }
     let mut b: usize = 0;
@@ -173,8 +176,8 @@ pub fn fill_bindings(file: &[u8], index: &[u16], bindings: usize, t: &mut [u16])
         let place = place_at(index, BINDINGS_AT + b);
         let symbol = word_at(file, place);
         let own = goal_of(t, word_at(file, place + 2));
-        store(t, row + SYMBOL, symbol);
-        store(t, row + OWN, own);
+        t[row + SYMBOL] = symbol as u16;
+        t[row + OWN] = own as u16;
         b = b + 1;
     }
 }

@@ -210,13 +210,16 @@ pub record BindingsTo (file index : List ℕ) (bindings : ℕ) (before : List �
 pub bindings-many : {file index : List ℕ} {bindings : ℕ} {before : List ℕ} → maxBindings < bindings → FillsBindings file index bindings before before
 bindings-many h = record { within = within-none; others = λ i k l x y. refl; symbol = λ few. absurd (omega arith); own = λ few. absurd (omega arith) }
 
+pub bindings-far : {file index : List ℕ} {bindings : ℕ} {before : List ℕ} → length before < rowsAt + bindings * rowCells → FillsBindings file index bindings before before
+bindings-far h = record { within = within-none; others = λ i k l x y. refl; symbol = λ few room. absurd (omega arith); own = λ few room. absurd (omega arith) }
+
 pub bindings-none : {file index : List ℕ} {bindings : ℕ} {before : List ℕ} → bindings ≤ maxBindings → BindingsTo file index bindings before 0 before
 bindings-none few = record { upTo = omega arith; few = few; within = within-none; others = λ i k l x y. refl; symbol = λ l i h. absurd (omega arith); own = λ l i h. absurd (omega arith) }
 
 module _ {file index : List ℕ} {bindings : ℕ} {before : List ℕ} {b : ℕ} {t : List ℕ} (so : BindingsTo file index bindings before b t) where
   pub bindings-more : b < bindings → (row place symbol w own : ℕ) → row ≡ rowAt b → place ≡ getD index (bindingsAt + b) 0 → symbol ≡ word file place → symbol < 65536 → w ≡ word file (place + 2) → own ≡ goalOf t w → own < 65536
-      → (a c : List ℕ) → a ≡ stored t (row + symbolCell) symbol → c ≡ stored a (row + ownCell) own → BindingsTo file index bindings before (b + 1) c
-  bindings-more h row place symbol w own er ep es small ew eo small′ a c ea ec =
+      → BindingsTo file index bindings before (b + 1) (set (set t (row + symbolCell) symbol) (row + ownCell) own)
+  bindings-more h row place symbol w own er ep es small ew eo small′ =
       let few = so .few in
       record {
         upTo = omega arith;
@@ -227,11 +230,17 @@ module _ {file index : List ℕ} {bindings : ℕ} {before : List ℕ} {b : ℕ} 
         own = λ l i k. own-at l i k (ℕ-discrete i b);
       }
     where
+      a : List ℕ
+      a = set t (row + symbolCell) symbol
+
+      c : List ℕ
+      c = set a (row + ownCell) own
+
       pa : Put t (row + symbolCell) symbol a
-      pa = record { is = ea }
+      pa = record { is = stores t (row + symbolCell) symbol small }
 
       pc : Put a (row + ownCell) own c
-      pc = record { is = ec }
+      pc = record { is = stores a (row + ownCell) own small′ }
 
       both : (i k : ℕ) → (rowAt i + k ≡ row + symbolCell → ⊥) → (rowAt i + k ≡ row + ownCell → ⊥) → cellOf c i k ≡ cellOf t i k
       both i k x y = store-other pc (rowAt i + k) y ∙ store-other pa (rowAt i + k) x

@@ -5,12 +5,6 @@ use Rattle.tables.proofs.types.Filling.{arrow-filled}
 use borrow.Author.Needs.{needs}
 use Rattle.tables.proofs.types.fill_arrow.Statement.{statement}
 use Rattle.tables.proofs.types.fill_arrow.Tie as tie
-use Rattle.records.proofs.fields.word_at.Reads as word-at-reads
-use Rattle.tables.proofs.reading.end_of.Reads as end-of-reads
-use Rattle.tables.proofs.reading.row_at.Reads as row-at-reads
-use Rattle.tables.proofs.types.fill_members.Reads as fill-members-reads
-use Rattle.tables.proofs.types.goal_of.Reads as goal-of-reads
-use Rattle.tables.proofs.types.members_in.Reads as members-in-reads
 
 add-row-at : tie.Need-add-row-at
 add-row-at c = search needs

@@ -6,11 +6,6 @@ use Rattle.tables.proofs.types.Filling.{type-far, type-state, type-arro
 use borrow.Author.Needs.{needs}
 use Rattle.tables.proofs.types.fill_type.Statement.{statement}
 use Rattle.tables.proofs.types.fill_type.Tie as tie
-use Rattle.index.proofs.entries.place_at.Reads as place-at-reads
-use Rattle.records.proofs.fields.byte_at.Reads as byte-at-reads
-use Rattle.records.proofs.fields.length_at.Reads as length-at-reads
-use Rattle.tables.proofs.reading.row_at.Reads as row-at-reads
-use Rattle.tables.proofs.types.fill_arrow.Reads as fill-arrow-reads
 
 add-row-at : tie.Need-add-row-at
 add-row-at c = search needs
