@@ -1,7 +1,8 @@
 // Sets of numbers as the bits of words: the words of a set begin at a place, and number n is bit n % 32 of word n / 32.
 use index::layout::WORD;
 ghost use mathlib.Core.Path.{_≡_};
-ghost use Prim.Native.Nat.{_+_};
+ghost use Prim.Native.Nat.{_+_, _<_, min};
+ghost use lib.Count.{trailingZeros};
 ghost use lib.ListN.{getD};
 ghost use Rattle.marks.specs.Marks.{Decides, Puts, TakesOut, Quiet, FindsNext};
 
@@ -79,8 +80,20 @@ fn quiet(words: &[u32], i: usize) -> bool
     all == 0
 }
 
-// The least number of the set at a place, from one on and below an end; the end where there is none.
-pub fn next_in(words: &[u32], at: usize, from: usize, end: usize) -> usize
+// The number of the lowest bit that a word has left, where its lowest place is that of number n; the end where that comes first.
+fn lowest(rest: u32, n: usize, end: usize) -> usize
+    requires { ⌜ n < end ⌝ }
+    ensures { λ r. ⌜ r ≡ min end (n + trailingZeros 32 rest) ⌝ }
+{
+    let zeros = u32::trailing_zeros(rest) as usize;
+    if end - n <= zeros {
+        return end;
+    }
+    n + zeros
+}
+
+// The same as next_in, for a search that may pass many words.
+fn next_beyond(words: &[u32], at: usize, from: usize, end: usize) -> usize
     ensures { λ r. ⌜ FindsNext (now (words .entry)) at from end r ⌝ }
 {
     if words.len() <= at {
@@ -91,11 +104,7 @@ pub fn next_in(words: &[u32], at: usize, from: usize, end: usize) -> usize
         let word = word_in(words, at, n / WORD);
         let rest = word >> ((n % WORD) as u32);
         if rest != 0 {
-            let zeros = u32::trailing_zeros(rest) as usize;
-            if end - n <= zeros {
-                return end;
-            }
-            return n + zeros;
+            return lowest(rest, n, end);
         }
         let skip = WORD - n % WORD;
         if end - n <= skip {
@@ -110,4 +119,24 @@ pub fn next_in(words: &[u32], at: usize, from: usize, end: usize) -> usize
         }
     }
     end
+}
+
+// The least number of the set at a place, from one on and below an end; the end where there is none. Most searches end in the first
+// word, so it is looked at here, and the others by a function of their own.
+pub fn next_in(words: &[u32], at: usize, from: usize, end: usize) -> usize
+    ensures { λ r. ⌜ FindsNext (now (words .entry)) at from end r ⌝ }
+{
+    if end <= from {
+        return end;
+    }
+    let word = word_in(words, at, from / WORD);
+    let rest = word >> ((from % WORD) as u32);
+    if rest != 0 {
+        return lowest(rest, from, end);
+    }
+    let skip = WORD - from % WORD;
+    if end - from <= skip {
+        return end;
+    }
+    next_beyond(&*words, at, from + skip, end)
 }
