@@ -4,7 +4,7 @@ ghost use mathlib.Core.Path.{_≡_};
 ghost use Prim.Native.Nat.{_+_, _<_, min};
 ghost use lib.Count.{trailingZeros};
 ghost use lib.ListN.{getD};
-ghost use Rattle.marks.specs.Marks.{Decides, Puts, TakesOut, Quiet, FindsNext};
+ghost use Rattle.marks.specs.Marks.{Decides, Puts, Quiet, FindsNext};
 
 // The words that a search passes at once, and the numbers in them.
 const QUIET_WORDS: usize = 8;
@@ -46,21 +46,6 @@ pub fn put_in(words: &mut [u32], at: usize, n: usize)
     words[i] = words[i] | (1u32 << ((n % WORD) as u32));
 }
 
-// Takes number n out of the set at a place.
-pub fn take_out(words: &mut [u32], at: usize, n: usize)
-    ensures { λ _. ⌜ TakesOut (now (words .entry)) at n (now (words .exit)) ⌝ }
-{
-    if words.len() <= at {
-        return;
-    }
-    if words.len() - at <= n / WORD {
-        return;
-    }
-    let i = at + n / WORD;
-    let bit = 1u32 << ((n % WORD) as u32);
-    words[i] = words[i] - (words[i] & bit);
-}
-
 // Whether QUIET_WORDS words are there from one on, and no bit is in them.
 fn quiet(words: &[u32], i: usize) -> bool
     ensures { λ r. ⌜ Quiet (now (words .entry)) i r ⌝ }
@@ -92,8 +77,9 @@ fn lowest(rest: u32, n: usize, end: usize) -> usize
     n + zeros
 }
 
-// The same as next_in, for a search that may pass many words.
-fn next_beyond(words: &[u32], at: usize, from: usize, end: usize) -> usize
+// The least number of the set at a place, from one on and below an end; the end where there is none. This is the search that is
+// expected to pass words in which there is no number.
+pub fn next_beyond(words: &[u32], at: usize, from: usize, end: usize) -> usize
     ensures { λ r. ⌜ FindsNext (now (words .entry)) at from end r ⌝ }
 {
     if words.len() <= at {
@@ -121,8 +107,7 @@ fn next_beyond(words: &[u32], at: usize, from: usize, end: usize) -> usize
     end
 }
 
-// The least number of the set at a place, from one on and below an end; the end where there is none. Most searches end in the first
-// word, so it is looked at here, and the others by a function of their own.
+// The same, for a search that is expected to end in the first word: it is small enough to be put in place where it is called.
 pub fn next_in(words: &[u32], at: usize, from: usize, end: usize) -> usize
     ensures { λ r. ⌜ FindsNext (now (words .entry)) at from end r ⌝ }
 {
