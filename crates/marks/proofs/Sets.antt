@@ -1,6 +1,6 @@
 -- Sets of numbers as the bits of words. A store changes one word, and in it one bit, so every other bit is as it was. A
 -- search that has passed all numbers below n looks at what is left of n's word: its bits are the numbers from n on.
-use Prim.Native.Nat.{ℕ, _+_, _-_, _/_, _%_, _^_, _<_, _≤_}
+use Prim.Native.Nat.{ℕ, _+_, _-_, _/_, _%_, _^_, _<_, _≤_, min}
 use native.Mathlib.Omega.{arith}
 use native.Mathlib.Decide.{decLt, ℕ-discrete}
 use mathlib.Core.Path.{_≡_, refl, sym, ap, subst, _∙_}
@@ -189,14 +189,19 @@ module _ {words : List ℕ} {at from n : ℕ} (p : Passed words at from n) (word
         let t = zeros-few (32 - n % 32) 32 (word / 2 ^ (n % 32)) low full in
         omega arith
 
-    pub passed-zeros : Passed words at from (n + trailingZeros 32 (word / 2 ^ (n % 32)))
+    passed-zeros : Passed words at from (n + trailingZeros 32 (word / 2 ^ (n % 32)))
     passed-zeros = let f = few in record { on = omega (arith, p .on); none = passed-on (trailingZeros 32 (word / 2 ^ (n % 32))) (omega arith) (zeros-below 32 (word / 2 ^ (n % 32))) }
 
     next-in : In words at (n + trailingZeros 32 (word / 2 ^ (n % 32)))
     next-in = let f = few in same-bit words at n (trailingZeros 32 (word / 2 ^ (n % 32))) f word e ∙ zeros-end 32 (word / 2 ^ (n % 32)) (omega arith)
 
-    pub finds-here : (end : ℕ) → n + trailingZeros 32 (word / 2 ^ (n % 32)) ≤ end → FindsNext words at from end (n + trailingZeros 32 (word / 2 ^ (n % 32)))
-    finds-here end h = record { within = h; passed = passed-zeros .none; found = λ l. (passed-zeros .on, next-in) }
+    pub finds-lowest : (end r : ℕ) → r ≡ min end (n + trailingZeros 32 (word / 2 ^ (n % 32))) → FindsNext words at from end r
+    finds-lowest end r er =
+        record {
+          within = omega arith;
+          passed = λ m h l. passed-zeros .none m h (omega arith);
+          found = λ l. let is : n + trailingZeros 32 (word / 2 ^ (n % 32)) ≡ r = omega arith in (omega (arith, passed-zeros .on), subst (In words at) is next-in);
+        }
 
 -- where what k words have together is nothing, no bit is in them; one word more
 pub record Quiets (words : List ℕ) (i all k : ℕ) : Type 0 where
@@ -237,3 +242,11 @@ finds-past {words} {at} h end =
 -- all numbers below the end are passed
 pub finds-end : {words : List ℕ} {at from n : ℕ} → Passed words at from n → (end : ℕ) → end ≤ n → FindsNext words at from end end
 finds-end p end h = record { within = omega arith; passed = λ m f l. p .none m f (omega arith); found = λ l. absurd (omega arith) }
+
+-- a search that goes on from n
+pub finds-on : {words : List ℕ} {at from n end r : ℕ} → Passed words at from n → FindsNext words at n end r → FindsNext words at from end r
+finds-on {words} {at} {from} {n} {end} {r} p f = record { within = f .within; passed = λ m h l i. go m h l i (decLt m n); found = λ l. let (a, b) = f .found l in (omega (arith, p .on), b) }
+  where
+    go : (m : ℕ) → from ≤ m → m < r → In words at m → Dec (m < n) → ⊥
+    go m h l i (yes b) = p .none m h b i
+    go m h l i (no b) = f .passed m (omega arith) l i

@@ -3,9 +3,10 @@ pub mod briefs;
 
 use index::layout::WORD;
 ghost use mathlib.Core.Path.{_≡_};
-ghost use Prim.Native.Nat.{_+_};
+ghost use Prim.Native.Nat.{_+_, _<_, min};
+ghost use lib.Count.{trailingZeros};
 ghost use lib.ListN.{getD};
-ghost use Rattle.marks.specs.Marks.{Decides, Puts, TakesOut, Quiet, FindsNext};
+ghost use Rattle.marks.specs.Marks.{Decides, Puts, Quiet, FindsNext};
 
 // The words that a search passes at once, and the numbers in them.
 const QUIET_WORDS: usize = 8;
@@ -47,21 +48,6 @@ pub fn put_in(words: &mut [u32], at: usize, n: usize)
     words[i] = words[i] | (1u32 << ((n % WORD) as u32));
 }
 
-// Takes number n out of the set at a place.
-pub fn take_out(words: &mut [u32], at: usize, n: usize)
-    ensures { λ _. ⌜ TakesOut (now (words .entry)) at n (now (words .exit)) ⌝ }
-{
-    if words.len() <= at {
-        return;
-    }
-    if words.len() - at <= n / WORD {
-        return;
-    }
-    let i = at + n / WORD;
-    let bit = 1u32 << ((n % WORD) as u32);
-    words[i] = words[i] - (words[i] & bit);
-}
-
 // Whether QUIET_WORDS words are there from one on, and no bit is in them.
 fn quiet(words: &[u32], i: usize) -> bool
     ensures { λ r. ⌜ Quiet (now (words .entry)) i r ⌝ }
@@ -81,8 +67,21 @@ fn quiet(words: &[u32], i: usize) -> bool
     all == 0
 }
 
-// The least number of the set at a place, from one on and below an end; the end where there is none.
-pub fn next_in(words: &[u32], at: usize, from: usize, end: usize) -> usize
+// The number of the lowest bit that a word has left, where its lowest place is that of number n; the end where that comes first.
+fn lowest(rest: u32, n: usize, end: usize) -> usize
+    requires { ⌜ n < end ⌝ }
+    ensures { λ r. ⌜ r ≡ min end (n + trailingZeros 32 rest) ⌝ }
+{
+    let zeros = u32::trailing_zeros(rest) as usize;
+    if end - n <= zeros {
+        return end;
+    }
+    n + zeros
+}
+
+// The least number of the set at a place, from one on and below an end; the end where there is none. This is the search that is
+// expected to pass words in which there is no number.
+pub fn next_beyond(words: &[u32], at: usize, from: usize, end: usize) -> usize
     ensures { λ r. ⌜ FindsNext (now (words .entry)) at from end r ⌝ }
 {
     if words.len() <= at {
@@ -93,11 +92,7 @@ pub fn next_in(words: &[u32], at: usize, from: usize, end: usize) -> usize
         let word = word_in(words, at, n / WORD);
         let rest = word >> ((n % WORD) as u32);
         if rest != 0 {
-            let zeros = u32::trailing_zeros(rest) as usize;
-            if end - n <= zeros {
-                return end;
-            }
-            return n + zeros;
+            return lowest(rest, n, end);
         }
         let skip = WORD - n % WORD;
         if end - n <= skip {
@@ -112,4 +107,23 @@ pub fn next_in(words: &[u32], at: usize, from: usize, end: usize) -> usize
         }
     }
     end
+}
+
+// The same, for a search that is expected to end in the first word: it is small enough to be put in place where it is called.
+pub fn next_in(words: &[u32], at: usize, from: usize, end: usize) -> usize
+    ensures { λ r. ⌜ FindsNext (now (words .entry)) at from end r ⌝ }
+{
+    if end <= from {
+        return end;
+    }
+    let word = word_in(words, at, from / WORD);
+    let rest = word >> ((from % WORD) as u32);
+    if rest != 0 {
+        return lowest(rest, from, end);
+    }
+    let skip = WORD - from % WORD;
+    if end - from <= skip {
+        return end;
+    }
+    next_beyond(&*words, at, from + skip, end)
 }

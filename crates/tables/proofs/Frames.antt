@@ -6,11 +6,12 @@ use mathlib.Core.Path.{_≡_, refl, sym, ap, subst, _∙_}
 use mathlib.Core.Logic.{_⊎_}
 use mathlib.Core.List.{List}
 use lib.Bits.{bitOr, or-lt}
-use lib.ListN.{length, getD}
+use lib.ListN.{length, getD, set, length-set}
 use lib.Pow.{pow-lt}
+use lib.Seq.{getD-set-other}
 use Rattle.index.specs.layout.Layout.{rowLimit, rowCells}
 use Rattle.index.specs.enter.Entering.{stored}
-use Rattle.index.proofs.enter.Storing.{stored-length, stored-here, stored-other}
+use Rattle.index.proofs.enter.Storing.{stored-set, stored-length, stored-here, stored-other}
 use Rattle.marks.specs.Marks.{bitOf}
 use Rattle.marks.proofs.Bits.{shifted, shifted-is}
 use Rattle.marks.proofs.Sets.{put-same, put-grows, put-only}
@@ -47,6 +48,14 @@ column-apart p q k l hk hl e = go (decLt (p % rowLimit) (q % rowLimit)) (decLt (
 -- a row that did not change
 pub other-row : {q : ℕ} {a b : List ℕ} → Within (rowAt q) (rowAt q + rowCells) a b → (p k : ℕ) → p < rowLimit → q < rowLimit → k < rowCells → (p ≡ q → ⊥) → cellOf b p k ≡ cellOf a p k
 other-row {q} w p k hp hq hk ne = w .outside (rowAt p + k) (λ x y. ne (let e : rowAt p + k ≡ rowAt q + (rowAt p + k - rowAt q) = omega arith in row-apart p q k (rowAt p + k - rowAt q) hp hq hk (omega arith) e))
+
+-- a number of two bytes set is stored
+pub stores : (t : List ℕ) (i v : ℕ) → v < 65536 → set t i v ≡ stored t i v
+stores t i v h = sym (stored-set t i v h)
+
+-- a cell set
+pub within-set : {lo hi : ℕ} (t : List ℕ) (i v : ℕ) → lo ≤ i → i < hi → Within lo hi t (set t i v)
+within-set t i v l h = record { long = length-set t i v; outside = λ j n. getD-set-other t i j v 0 (λ z. n (omega arith) (omega arith)) }
 
 -- a store
 pub record Put (t : List ℕ) (i v : ℕ) (after : List ℕ) : Type 0 where

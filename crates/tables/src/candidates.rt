@@ -3,8 +3,7 @@ use crate::reading::own_of;
 use crate::reading::result_of;
 use index::layout::MAX_BINDINGS;
 use index::layout::NONE;
-use marks::put_in;
-use marks::take_out;
+use index::layout::WORD;
 ghost use Rattle.tables.specs.Filling.{FillsSets, LeavesSets};
 ghost use Rattle.tables.specs.candidates.Chains.{Enters};
 
@@ -14,18 +13,22 @@ const STEPS: usize = 256;
 // No set has as many words: a cell numbers fewer than 65,536 bindings.
 const WIDEST: usize = 4096;
 
-// Enters a binding in the sets along its chain.
+// Enters a binding in the sets along its chain: in each it is the same bit of the same word.
 fn enter(t: &[u16], b: usize, words: usize, sets: &mut [u32])
     ensures { λ _. ⌜ Enters (now (t .entry)) b words (now (sets .entry)) (now (sets .exit)) ⌝ }
 {
     let wide = words % WIDEST;
+    let bit = 1u32 << ((b % WORD) as u32);
     let mut goal = own_of(t, b);
     let mut k: usize = 0;
     while k < STEPS {
         if goal == NONE {
             return;
         }
-        put_in(sets, goal * wide, b);
+        let i = goal * wide + b / WORD;
+        if i < sets.len() {
+            sets[i] = sets[i] | bit;
+        }
         goal = result_of(t, goal);
         k = k + 1;
     }
@@ -50,13 +53,17 @@ pub fn leave_sets(t: &[u16], b: usize, words: usize, sets: &mut [u32])
     ensures { λ _. ⌜ LeavesSets (now (t .entry)) b words (now (sets .entry)) (now (sets .exit)) ⌝ }
 {
     let wide = words % WIDEST;
+    let bit = 1u32 << ((b % WORD) as u32);
     let mut goal = own_of(t, b);
     let mut k: usize = 0;
     while k < STEPS {
         if goal == NONE {
             return;
         }
-        take_out(sets, goal * wide, b);
+        let i = goal * wide + b / WORD;
+        if i < sets.len() {
+            sets[i] = sets[i] - (sets[i] & bit);
+        }
         goal = result_of(t, goal);
         k = k + 1;
     }

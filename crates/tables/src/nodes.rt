@@ -1,5 +1,4 @@
 // The nodes of the bodies in the flat table: of each the tag and how many arguments; the number; the node behind its term.
-use index::enter::store;
 use index::entries::place_at;
 use index::layout::MAX_NODES;
 use index::layout::MAX_NONTERMINALS;
@@ -9,21 +8,11 @@ use index::layout::NODE_CELLS;
 use index::layout::NUMBER;
 use index::layout::PLACE_LIMIT;
 use index::layout::RULES_AT;
-use records::fields::byte_at;
 use records::fields::length_at;
-use records::fields::word_at;
-ghost use mathlib.Core.Path.{_≡_};
-ghost use Prim.Native.Nat.{_<_, _≤_};
-ghost use Rattle.index.specs.layout.Layout.{maxNodes};
-ghost use Rattle.tables.specs.nodes.Bodies.{headCell, CountsNodes, EntersNode, FillsBody, FillsNodes};
-
-// The head cell of a node, by its tag and how many arguments it has.
-fn head_of(tag: usize, count: usize) -> usize
-    requires { ⌜ count < 256 ⌝ }
-    ensures { λ r. ⌜ (r ≡ headCell tag count) × (r < 65536) ⌝ }
-{
-    tag % 4 + 4 * count
-}
+ghost use Prim.Native.Nat.{_+_, _<_, _≤_};
+ghost use lib.ListN.{length};
+ghost use Rattle.index.specs.layout.Layout.{maxNodes, nodeCells};
+ghost use Rattle.tables.specs.nodes.Bodies.{CountsNodes, EntersNode, FillsBody, FillsNodes};
 
 // The number of nodes of the payload at a place, 256 at most.
 fn count_nodes(file: &[u8], start: usize) -> usize
@@ -36,21 +25,21 @@ fn count_nodes(file: &[u8], start: usize) -> usize
     n
 }
 
-// Enters a node whose bytes begin at a place.
+// Enters a node whose bytes begin at a place; the file has them, and the table has the cells.
 fn enter_node(file: &[u8], place: usize, next: usize, cell: usize, t: &mut [u16])
-    requires { ⌜ (place < 1048576) × (next < 65536) × (cell < 4194304) ⌝ }
+    requires { ⌜ (place + 4 ≤ length (now file)) × (next < 65536) × (cell + nodeCells ≤ length (now t)) ⌝ }
     ensures { λ _. ⌜ EntersNode (now (file .entry)) place next cell (now (t .entry)) (now (t .exit)) ⌝ }
 {
-    let tag = byte_at(file, place);
-    let number = word_at(file, place + 1);
-    let count = byte_at(file, place + 3);
-    let head = head_of(tag, count);
-    store(t, cell, head);
-    store(t, cell + NUMBER, number);
-    store(t, cell + NEXT, next);
+    let tag = file[place] as u16;
+    let low = file[place + 1] as u16;
+    let high = file[place + 2] as u16;
+    let count = file[place + 3] as u16;
+    t[cell] = tag % 4 + 4 * count;
+    t[cell + NUMBER] = low + 256 * high;
+    t[cell + NEXT] = next as u16;
 }
 
-// Enters the nodes of a body.
+// Enters the nodes of a body, where the file has them all and the table has their cells.
 fn fill_body(
     file: &[u8],
     start: usize,
@@ -63,6 +52,12 @@ fn fill_body(
     requires { ⌜ (start < 65536) × (n ≤ maxNodes) × (first < 65536) × (at < 4000000) ⌝ }
     ensures { λ _. ⌜ FillsBody (now (file .entry)) start n (now (ends .entry)) first at (now (t .entry)) (now (t .exit)) ⌝ }
 {
+    if file.len() < start + n * NODE {
+        return;
+    }
+    if t.len() < at + n * NODE_CELLS {
+        return;
+    }
     let mut i: usize = 0;
     while i < n {
         let place = start + i * NODE;

@@ -29,7 +29,7 @@ use records::fields::word_at;
 ghost use mathlib.Core.Path.{_≡_};
 ghost use Prim.Native.Nat.{_<_, _≤_};
 ghost use Rattle.index.specs.layout.Layout.{maxTypes, maxMembers};
-ghost use Rattle.tables.specs.types.Rows.{goalOf, FillsStates, CountsMembers, AddsMember, FillsMembers, FillsArrow, FillsType, FillsTypes, FillsBindings};
+ghost use Rattle.tables.specs.types.Rows.{rowOf, goalOf, Room, FillsStates, CountsMembers, AddsMember, FillsMembers, FillsArrow, FillsType, FillsTypes, FillsBindings};
 
 // The goal that type m is.
 fn goal_of(t: &[u16], m: usize) -> usize
@@ -89,9 +89,9 @@ fn with_member(among: Among, member: usize) -> Among
     }
 }
 
-// Enters the members of type m, an arrow whose payload begins at a place, and returns what there is among them.
+// Enters the members of type m, an arrow whose payload begins at a place and whose row is there, and returns what there is among them.
 fn fill_members(file: &[u8], start: usize, many: usize, m: usize, t: &mut [u16]) -> Among
-    requires { ⌜ (start < 65536) × (many ≤ maxMembers) × (m < maxTypes) ⌝ }
+    requires { ⌜ (start < 65536) × (many ≤ maxMembers) × (m < maxTypes) × Room (rowOf m) (now t) ⌝ }
     ensures { λ r. ⌜ FillsMembers (now (file .entry)) start many m (now (t .entry)) (now (t .exit)) (r .states) (r .arrows) ⌝ }
 {
     let row = row_at(MAX_STATES + m);
@@ -102,44 +102,47 @@ fn fill_members(file: &[u8], start: usize, many: usize, m: usize, t: &mut [u16])
     let mut j: usize = 0;
     while j < many {
         let goal = goal_of(t, word_at(file, start + 2 + 2 * j));
-        store(t, row + (MEMBERS + j), goal);
+        t[row + (MEMBERS + j)] = goal as u16;
         among = with_member(among, goal);
         j = j + 1;
     }
     among
 }
 
-// Enters the row of type m, an arrow whose payload begins at a place and has a length.
+// Enters the row of type m, an arrow whose payload begins at a place and has a length; the row is there.
 fn fill_arrow(file: &[u8], start: usize, len: usize, m: usize, t: &mut [u16])
-    requires { ⌜ (start < 65536) × (m < maxTypes) ⌝ }
+    requires { ⌜ (start < 65536) × (m < maxTypes) × Room (rowOf m) (now t) ⌝ }
     ensures { λ _. ⌜ FillsArrow (now (file .entry)) start len m (now (t .entry)) (now (t .exit)) ⌝ }
 {
     let row = row_at(MAX_STATES + m);
     let result = goal_of(t, word_at(file, start));
     let end = end_of(t, result);
     let many = members_in(len);
-    store(t, row + RESULT, result);
-    store(t, row + END, end);
-    store(t, row + MANY, many);
     let among = fill_members(file, start, many, m, t);
-    store(t, row + MEMBER_STATES, among.states as usize);
-    store(t, row + ARROWS, among.arrows);
+    t[row + RESULT] = result as u16;
+    t[row + END] = end as u16;
+    t[row + MEMBER_STATES] = among.states as u16;
+    t[row + ARROWS] = among.arrows as u16;
+    t[row + MANY] = many as u16;
 }
 
-// Enters the row of type m.
+// Enters the row of type m, where the table has it.
 fn fill_type(file: &[u8], index: &[u16], m: usize, t: &mut [u16])
     requires { ⌜ m < maxTypes ⌝ }
     ensures { λ _. ⌜ FillsType (now (file .entry)) (now (index .entry)) m (now (t .entry)) (now (t .exit)) ⌝ }
 {
     let row = row_at(MAX_STATES + m);
+    if t.len() < row + ROW_CELLS {
+        return;
+    }
     let start = place_at(index, TYPES_AT + m);
     let len = length_at(file, start);
     if len == 1 {
         let state = byte_at(file, start) % MAX_STATES;
-        store(t, row + GOAL, state);
+        t[row + GOAL] = state as u16;
         return;
     }
-    store(t, row + GOAL, MAX_STATES + m);
+    t[row + GOAL] = (MAX_STATES + m) as u16;
     fill_arrow(file, start, len, m, t);
 }
 
@@ -157,11 +160,14 @@ pub fn fill_types(file: &[u8], index: &[u16], types: usize, t: &mut [u16])
     }
 }
 
-// Enters the rows of all bindings.
+// Enters the rows of all bindings, where the table has them.
 pub fn fill_bindings(file: &[u8], index: &[u16], bindings: usize, t: &mut [u16])
     ensures { λ _. ⌜ FillsBindings (now (file .entry)) (now (index .entry)) bindings (now (t .entry)) (now (t .exit)) ⌝ }
 {
     if MAX_BINDINGS < bindings {
+        return;
+    }
+    if t.len() < ROWS_AT + bindings * ROW_CELLS {
         return;
     }
     let mut b: usize = 0;
@@ -170,8 +176,8 @@ pub fn fill_bindings(file: &[u8], index: &[u16], bindings: usize, t: &mut [u16])
         let place = place_at(index, BINDINGS_AT + b);
         let symbol = word_at(file, place);
         let own = goal_of(t, word_at(file, place + 2));
-        store(t, row + SYMBOL, symbol);
-        store(t, row + OWN, own);
+        t[row + SYMBOL] = symbol as u16;
+        t[row + OWN] = own as u16;
         b = b + 1;
     }
 }

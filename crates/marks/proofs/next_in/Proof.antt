@@ -1,117 +1,59 @@
--- `next_in` meets its contract. The invariant: no number from the first on and below n is in the set.
-use Prim.Native.Nat.{_-_, _/_, _%_, _^_}
+-- `next_in` meets its contract.
 use native.Mathlib.Omega.{arith}
 use borrow.Author.Needs.{needs}
-use lib.Count.{trailing-le}
-use Rattle.marks.proofs.Sets.{Passed, passed-none, passed-word, passed-zeros, passed-quiet, finds-here, finds-past, finds-end}
+use Rattle.marks.proofs.Sets.{passed-none, passed-word, finds-lowest, finds-end, finds-on}
 use Rattle.marks.proofs.next_in.Statement.{statement}
 use Rattle.marks.proofs.next_in.Tie as tie
 
-abbrev Inv-loop : tie.InvT-loop
-Inv-loop words at from end n₀ n = Passed words at from n
+returns : tie.Need-returns
+returns c = finds-end (passed-none _ _ _) _ (c .if1 .taken)
 
-abbrev μ-loop : tie.MeasureT-loop
-μ-loop words at from end n₀ n = end - n
-
-returns : tie.Need-returns Inv-loop μ-loop
-returns c = finds-past (c .if1 .taken) _
-
-loop-holds : tie.Need-loop-holds Inv-loop μ-loop
-loop-holds c = passed-none _ _ _
-
-word-in-requires : tie.Need-word-in-requires Inv-loop μ-loop
+word-in-requires : tie.Need-word-in-requires
 word-in-requires c κs = search needs
 
-cast-rest : tie.Need-cast-rest Inv-loop μ-loop
+cast-rest : tie.Need-cast-rest
 cast-rest c = search needs
 
-shr-rest : tie.Need-shr-rest Inv-loop μ-loop
+shr-rest : tie.Need-shr-rest
 shr-rest c = search needs
 
-cast-zeros : tie.Need-cast-zeros Inv-loop μ-loop
-cast-zeros c = omega (arith, trailing-le 32 (c .before .word-in .result / 2 ^ (c .before .before .before .loop .n % 32)))
+lowest-requires : tie.Need-lowest-requires
+lowest-requires c κs = omega (arith, c .before .before .if1 .left)
 
-sub-if3 : tie.Need-sub-if3 Inv-loop μ-loop
-sub-if3 c = search needs
+returns-2 : tie.Need-returns-2
+returns-2 c = finds-lowest (passed-none _ _ _) _ (c .before .before .word-in .ensures) (omega arith) (c .before .if2 .taken) _ _ (c .lowest .ensures)
 
-returns-2 : tie.Need-returns-2 Inv-loop μ-loop
-returns-2 c = finds-end (passed-zeros (c .before .before .before .before .loop .inv) _ (c .before .before .word-in .ensures) (omega arith) (c .before .if2 .taken)) _ (omega (arith, c .if3 .taken))
-
-add-result : tie.Need-add-result Inv-loop μ-loop
-add-result c = search needs
-
-returns-3 : tie.Need-returns-3 Inv-loop μ-loop
-returns-3 c = finds-here (c .before .before .before .before .loop .inv) _ (c .before .before .word-in .ensures) (omega arith) (c .before .if2 .taken) _ (omega (arith, c .if3 .left))
-
-sub-skip : tie.Need-sub-skip Inv-loop μ-loop
+sub-skip : tie.Need-sub-skip
 sub-skip c = search needs
 
-sub-if4 : tie.Need-sub-if4 Inv-loop μ-loop
-sub-if4 c = search needs
+sub-if3 : tie.Need-sub-if3
+sub-if3 c = search needs
 
-returns-4 : tie.Need-returns-4 Inv-loop μ-loop
-returns-4 c = finds-end (passed-word (c .before .before .before .before .loop .inv) _ (c .before .before .word-in .ensures) (c .before .if2 .left)) _ (omega (arith, c .if4 .taken))
+returns-3 : tie.Need-returns-3
+returns-3 c = finds-end (passed-word (passed-none _ _ _) _ (c .before .before .word-in .ensures) (c .before .if2 .left)) _ (omega (arith, c .if3 .taken))
 
-add-n : tie.Need-add-n Inv-loop μ-loop
-add-n c = search needs
+add-next-beyond : tie.Need-add-next-beyond
+add-next-beyond c = search needs
 
-add-quiet : tie.Need-add-quiet Inv-loop μ-loop
-add-quiet c = search needs
+next-beyond-requires : tie.Need-next-beyond-requires
+next-beyond-requires c κs = search needs
 
-quiet-requires : tie.Need-quiet-requires Inv-loop μ-loop
-quiet-requires c κs = search needs
-
-sub-if6 : tie.Need-sub-if6 Inv-loop μ-loop
-sub-if6 c = search needs
-
-returns-5 : tie.Need-returns-5 Inv-loop μ-loop
-returns-5 c = finds-end (passed-quiet (passed-word (c .before .before .before .before .before .before .before .loop .inv) _ (c .before .before .before .before .before .word-in .ensures) (c .before .before .before .before .if2 .left)) (omega arith) (c .before .before .quiet .ensures (c .before .if5 .taken))) _ (omega (arith, c .if6 .taken))
-
-add-n-2 : tie.Need-add-n-2 Inv-loop μ-loop
-add-n-2 c = search needs
-
-loop-less : tie.Need-loop-less Inv-loop μ-loop
-loop-less c = search needs
-
-loop-again : tie.Need-loop-again Inv-loop μ-loop
-loop-again c = passed-quiet (passed-word (c .before .before .before .before .before .before .before .loop .inv) _ (c .before .before .before .before .before .word-in .ensures) (c .before .before .before .before .if2 .left)) (omega arith) (c .before .before .quiet .ensures (c .before .if5 .taken))
-
-loop-less-2 : tie.Need-loop-less-2 Inv-loop μ-loop
-loop-less-2 c = search needs
-
-loop-again-2 : tie.Need-loop-again-2 Inv-loop μ-loop
-loop-again-2 c = passed-word (c .before .before .before .before .before .before .loop .inv) _ (c .before .before .before .before .word-in .ensures) (c .before .before .before .if2 .left)
-
-returns-6 : tie.Need-returns-6 Inv-loop μ-loop
-returns-6 c = finds-end (c .before .loop .inv) _ (c .loop-test .left)
+returns-4 : tie.Need-returns-4
+returns-4 c = finds-on (passed-word (passed-none _ _ _) _ (c .before .before .before .word-in .ensures) (c .before .before .if2 .left)) (c .next-beyond .ensures)
 
 pub next-in-spec : {M : Type 1} → statement M
 next-in-spec =
     tie.close
     (tie.spec
-    Inv-loop
-    μ-loop
     returns
-    loop-holds
     word-in-requires
     cast-rest
     shr-rest
-    cast-zeros
-    sub-if3
+    lowest-requires
     returns-2
-    add-result
-    returns-3
     sub-skip
-    sub-if4
-    returns-4
-    add-n
-    add-quiet
-    quiet-requires
-    sub-if6
-    returns-5
-    add-n-2
-    loop-less
-    loop-again
-    loop-less-2
-    loop-again-2
-    returns-6)
+    sub-if3
+    returns-3
+    add-next-beyond
+    next-beyond-requires
+    returns-4)

@@ -8,20 +8,30 @@ use mathlib.Core.Logic.{_⊎_, inl, inr}
 use mathlib.Core.Bool.{true}
 use mathlib.Core.List.{List}
 use mathlib.Core.Option.{some}
-use lib.ListN.{length, getD, replicate}
+use lib.Bits.{bitOr}
+use lib.ListN.{length, getD, set, replicate}
 use Rattle.scheme.specs.Types.{Ty}
 use Rattle.scheme.specs.Flags.{isKept}
 use Rattle.casefile.specs.Records.{Record}
 use Rattle.casefile.specs.Kinds.{Kind, count}
 use Rattle.index.specs.layout.Layout.{maxStates, maxBindings, wordBits, noNumber}
 use Rattle.marks.specs.Marks.{bitOf, In, Puts}
-use Rattle.marks.proofs.Bits.{zero-bit}
+use Rattle.marks.proofs.Bits.{zero-bit, shifted}
+use Rattle.marks.proofs.Sets.{puts-here, puts-past}
 use Rattle.tables.specs.Facts.{Goal, TypesAre, BindingsAre, bindingAt, off}
 use Rattle.tables.specs.Filling.{wordsFor, FillsSets}
 use Rattle.tables.specs.reading.Cells.{resultOf, ownOf}
 use Rattle.tables.specs.candidates.Chains.{along, widest, setAt, OnChain, Enters}
 use Rattle.tables.proofs.candidates.Walking.{Walked, walk-none, walk-more, walk-ended, chain, on-chain, same-bit}
 use Rattle.tables.proofs.types.Meaning.{goal-below}
+
+-- a bit put in where the sets have its word, and no bit where they have not
+module _ {sets after : List ℕ} {at b : ℕ} where
+  pub put-there : at + b / wordBits < length sets → after ≡ set sets (at + b / wordBits) (bitOr (getD sets (at + b / wordBits) 0) (shifted (b % wordBits))) → Puts sets at b after
+  put-there h e = subst (Puts sets at b) (sym e) (puts-here sets at b h)
+
+  pub put-past : length sets ≤ at + b / wordBits → after ≡ sets → Puts sets at b after
+  put-past h e = subst (Puts sets at b) (sym e) (puts-past sets at b h)
 
 -- While a binding is entered: the first k goals of its chain have it.
 pub record EnterTo (t : List ℕ) (b words : ℕ) (before : List ℕ) (goal k : ℕ) (sets : List ℕ) : Type 0 where

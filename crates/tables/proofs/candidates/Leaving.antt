@@ -1,11 +1,12 @@
 -- A binding taken out of the sets along its chain: no other set has it, and no other binding has the same bit of the same word.
-use Prim.Native.Nat.{ℕ, suc, _+_, _*_, _/_, _%_, _<_, _≤_}
+use Prim.Native.Nat.{ℕ, suc, _+_, _-_, _*_, _/_, _%_, _<_, _≤_}
 use native.Mathlib.Omega.{arith}
 use native.Mathlib.Decide.{ℕ-discrete, decLt}
 use mathlib.Core.Path.{_≡_, refl, sym, ap, subst, _∙_}
 use mathlib.Core.Logic.{_⊎_, inl, inr}
 use mathlib.Core.Bool.{true, true≢false}
 use mathlib.Core.List.{List}
+use lib.Bits.{bitAnd}
 use lib.ListN.{length, getD, set}
 use lib.Seq.{getD-set-same, getD-set-other}
 use Rattle.scheme.specs.Flags.{isKept}
@@ -13,11 +14,21 @@ use Rattle.casefile.specs.Records.{Record}
 use Rattle.casefile.specs.Kinds.{Kind, count}
 use Rattle.index.specs.layout.Layout.{maxGoals, groupsAt, rowLimit, wordBits, noNumber}
 use Rattle.marks.specs.Marks.{bitOf, In, TakesOut}
+use Rattle.marks.proofs.Bits.{shifted}
+use Rattle.marks.proofs.Sets.{takes-here, takes-past}
 use Rattle.tables.specs.Facts.{TypesAre, BindingsAre, bindingAt, CandidatesAre}
 use Rattle.tables.specs.Filling.{wordsFor, LeavesSets}
 use Rattle.tables.specs.reading.Cells.{resultOf, ownOf}
 use Rattle.tables.specs.candidates.Chains.{along, widest, setAt, OnChain}
 use Rattle.tables.proofs.candidates.Walking.{Walked, walk-none, walk-more, walk-ended, chain, same-bit}
+
+-- a bit taken out where the sets have its word, and no bit where they have not
+module _ {sets after : List ℕ} {at b : ℕ} where
+  pub out-there : at + b / wordBits < length sets → after ≡ set sets (at + b / wordBits) (getD sets (at + b / wordBits) 0 - bitAnd (getD sets (at + b / wordBits) 0) (shifted (b % wordBits))) → TakesOut sets at b after
+  out-there h e = subst (TakesOut sets at b) (sym e) (takes-here sets at b h)
+
+  pub out-past : length sets ≤ at + b / wordBits → after ≡ sets → TakesOut sets at b after
+  out-past h e = subst (TakesOut sets at b) (sym e) (takes-past sets at b h)
 
 -- the cells number fewer than 65,536 bindings
 pub numbered : {rs : List Record} {t : List ℕ} → BindingsAre rs t → ((i : ℕ) → getD t i 0 < 65536) → count Kind.binding rs ≤ 65536

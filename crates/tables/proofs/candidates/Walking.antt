@@ -19,6 +19,10 @@ use Rattle.tables.proofs.types.Meaning.{goal-below, state-goal}
 pub place-fits : (a b : ℕ) → a < 65536 → a * (b % widest) < 18446744073709551616
 place-fits a b h = let l : b % widest ≤ widest = omega arith in let m : a * (b % widest) ≤ a * widest = mul-le-mul-left a l in omega arith
 
+-- and so does the place of a word there
+pub word-fits : (a b n : ℕ) → a < 65536 → n < 18446744073709551616 → a * (b % widest) + n / wordBits < 18446744073709551616
+word-fits a b n h m = let l : b % widest ≤ widest = omega arith in let p : a * (b % widest) ≤ a * widest = mul-le-mul-left a l in omega arith
+
 -- one arrow more off
 module _ (t : List ℕ) where
   pub off-last : (k g : ℕ) → (offOf t k g ≡ noNumber → ⊥) → offOf t (suc k) g ≡ resultOf t (offOf t k g)

@@ -1,17 +1,17 @@
 -- The nodes of bodies as they are filled, one body after another.
-use Prim.Native.Nat.{ℕ, _+_, _-_, _*_, _/_, _<_, _≤_}
+use Prim.Native.Nat.{ℕ, _+_, _-_, _*_, _/_, _%_, _<_, _≤_}
 use native.Mathlib.Omega.{arith}
 use native.Mathlib.Decide.{ℕ-discrete}
 use mathlib.Core.Path.{_≡_, refl, sym, ap, subst, _∙_}
 use mathlib.Core.List.{List}
-use lib.ListN.{length, getD}
-use Rattle.casefile.specs.Fields.{byte, word}
+use lib.ListN.{length, getD, set, length-set}
+use lib.Seq.{getD-set-same, getD-set-other}
+use Rattle.casefile.specs.Fields.{field, word}
 use Rattle.records.specs.fields.Promises.{HasLength}
 use Rattle.index.specs.layout.Layout.{maxNonterminals, maxNodes, placeLimit, nodeCells, numberCell, nextCell}
-use Rattle.index.specs.enter.Entering.{stored}
 use Rattle.tables.specs.Frames.{Within}
-use Rattle.tables.specs.nodes.Bodies.{headCell, CountsNodes, EntersNode, NodeSays, BodySays, FillsBody, startOf, firstOf, Bodied, FillsNodes}
-use Rattle.tables.proofs.Frames.{Put, within-none, within-then, within-wider, store-long, store-here, store-other, within-store}
+use Rattle.tables.specs.nodes.Bodies.{CountsNodes, EntersNode, NodeSays, BodySays, FillsBody, startOf, firstOf, Bodied, FillsNodes}
+use Rattle.tables.proofs.Frames.{within-none, within-then, within-wider, within-set}
 
 -- the number of nodes
 module _ {file : List ℕ} {start len : ℕ} (is : HasLength file start len) where
@@ -22,33 +22,43 @@ module _ {file : List ℕ} {start len : ℕ} (is : HasLength file start len) whe
   nodes-few h = record { few = h; counted = λ l few. ap (λ x. x / 4) (is .headed l) }
 
 -- one node
-pub node-entered : {file : List ℕ} {t : List ℕ} (place next cell tag number count head : ℕ) → next < 65536 → tag ≡ byte file place → number ≡ word file (place + 1) → number < 65536 → count ≡ byte file (place + 3) → head ≡ headCell tag count → head < 65536
-    → (a b c : List ℕ) → a ≡ stored t cell head → b ≡ stored a (cell + numberCell) number → c ≡ stored b (cell + nextCell) next → EntersNode file place next cell t c
-node-entered {file} {t} place next cell tag number count head small et en small′ ec eh small″ a b c ea eb ed =
+pub node-entered : {file t : List ℕ} (place next cell : ℕ) → cell + nodeCells ≤ length t
+    → EntersNode file place next cell t (set (set (set t cell (getD file place 0 % 4 + 4 * getD file (place + 3) 0)) (cell + numberCell) (getD file (place + 1) 0 + 256 * getD file (place + 2) 0)) (cell + nextCell) next)
+unfolding field
+node-entered {file} {t} place next cell room =
     record {
-      within = within-then (within-store pa (omega arith) (omega arith)) (within-then (within-store pb (omega arith) (omega arith)) (within-store pc (omega arith) (omega arith)));
-      head = λ room. store-other pc cell (λ z. omega arith) ∙ store-other pb cell (λ z. omega arith) ∙ store-here pa small″ (omega arith) ∙ eh ∙ ap (λ x. headCell x count) et ∙ ap (headCell (byte file place)) ec;
-      number = λ room. let la = store-long pa in store-other pc (cell + numberCell) (λ z. omega arith) ∙ store-here pb small′ (omega arith) ∙ en;
-      behind = λ room. let la = store-long pa in let lb = store-long pb in store-here pc small (omega arith);
+      within = within-then (within-set t cell head (omega arith) (omega arith)) (within-then (within-set a (cell + numberCell) number (omega arith) (omega arith)) (within-set b (cell + nextCell) next (omega arith) (omega arith)));
+      head = getD-set-other b (cell + nextCell) cell next 0 (λ z. omega arith) ∙ getD-set-other a (cell + numberCell) cell number 0 (λ z. omega arith) ∙ getD-set-same t cell head 0 (omega arith) ∙ omega arith;
+      number = getD-set-other b (cell + nextCell) (cell + numberCell) next 0 (λ z. omega arith) ∙ getD-set-same a (cell + numberCell) number 0 (let l = length-set t cell head in omega arith) ∙ ap (λ x. getD file (place + 1) 0 + 256 * x) (let e = ap (λ k. getD file k 0) (let z : place + 2 ≡ place + 1 + 1 = omega arith in z) in omega arith);
+      behind = getD-set-same b (cell + nextCell) next 0 (let l = length-set t cell head in let m = length-set a (cell + numberCell) number in omega arith);
     }
   where
-    pa : Put t cell head a
-    pa = record { is = ea }
+    head : ℕ
+    head = getD file place 0 % 4 + 4 * getD file (place + 3) 0
 
-    pb : Put a (cell + numberCell) number b
-    pb = record { is = eb }
+    number : ℕ
+    number = getD file (place + 1) 0 + 256 * getD file (place + 2) 0
 
-    pc : Put b (cell + nextCell) next c
-    pc = record { is = ed }
+    a : List ℕ
+    a = set t cell head
+
+    b : List ℕ
+    b = set a (cell + numberCell) number
 
 -- One body.
 pub record BodyTo (file : List ℕ) (start n : ℕ) (ends : List ℕ) (first at : ℕ) (before : List ℕ) (i : ℕ) (t : List ℕ) : Type 0 where
   pub upTo : i ≤ n
   pub within : Within at (at + n * nodeCells) before t
-  pub says : at + n * nodeCells ≤ length before → (j : ℕ) → j < i → NodeSays file start (getD ends (first + j) 0) j (at + j * nodeCells) t
+  pub says : (j : ℕ) → j < i → NodeSays file start (getD ends (first + j) 0) j (at + j * nodeCells) t
+
+pub body-short : {file : List ℕ} {start n : ℕ} {ends : List ℕ} {first at : ℕ} {before : List ℕ} → length file < start + n * 4 → FillsBody file start n ends first at before before
+body-short h = record { within = within-none; says = λ there room j k. absurd (omega arith) }
+
+pub body-far : {file : List ℕ} {start n : ℕ} {ends : List ℕ} {first at : ℕ} {before : List ℕ} → length before < at + n * nodeCells → FillsBody file start n ends first at before before
+body-far h = record { within = within-none; says = λ there room j k. absurd (omega arith) }
 
 pub body-none : {file : List ℕ} {start n : ℕ} {ends : List ℕ} {first at : ℕ} {before : List ℕ} → BodyTo file start n ends first at before 0 before
-body-none = record { upTo = omega arith; within = within-none; says = λ room j h. absurd (omega arith) }
+body-none = record { upTo = omega arith; within = within-none; says = λ j h. absurd (omega arith) }
 
 -- a node stays while its cells stay
 node-stays : {file : List ℕ} {start next i cell : ℕ} {t : List ℕ} (after : List ℕ) → ((k : ℕ) → cell ≤ k → k < cell + nodeCells → getD after k 0 ≡ getD t k 0) → NodeSays file start next i cell t → NodeSays file start next i cell after
@@ -61,20 +71,18 @@ module _ {file : List ℕ} {start n : ℕ} {ends : List ℕ} {first at : ℕ} {b
       record {
         upTo = omega arith;
         within = within-then (so .within) (within-wider at (at + n * nodeCells) (omega arith) (omega arith) (enters .within));
-        says = λ room j l. node room j l (ℕ-discrete j i);
+        says = λ j l. node j l (ℕ-discrete j i);
       }
     where
-      node : at + n * nodeCells ≤ length before → (j : ℕ) → j < i + 1 → Dec (j ≡ i) → NodeSays file start (getD ends (first + j) 0) j (at + j * nodeCells) after
-      node room j l (no z) =
+      node : (j : ℕ) → j < i + 1 → Dec (j ≡ i) → NodeSays file start (getD ends (first + j) 0) j (at + j * nodeCells) after
+      node j l (no z) =
           let y : (j ≡ i → ⊥) = z in
-          node-stays after (λ c a b. enters .within .outside c (λ p q. omega arith)) (so .says room j (omega arith))
-      node room j l (yes z) =
-          let lt = so .within .long in
-          let room′ : at + i * nodeCells + nodeCells ≤ length t = omega arith in
-          subst (λ x. NodeSays file start (getD ends (first + x) 0) x (at + x * nodeCells) after) (sym z) (record { head = enters .head room′; number = enters .number room′; behind = enters .behind room′ ∙ en })
+          node-stays after (λ c a b. enters .within .outside c (λ p q. omega arith)) (so .says j (omega arith))
+      node j l (yes z) =
+          subst (λ x. NodeSays file start (getD ends (first + x) 0) x (at + x * nodeCells) after) (sym z) (record { head = enters .head; number = enters .number; behind = enters .behind ∙ en })
 
   pub body-all : n ≤ i → FillsBody file start n ends first at before t
-  body-all h = record { within = so .within; says = λ room j k. so .says room j (omega arith) }
+  body-all h = record { within = so .within; says = λ there room j k. so .says j (omega arith) }
 
 -- All bodies.
 pub record NodesTo (file index ends firsts : List ℕ) (rules at : ℕ) (before : List ℕ) (f : ℕ) (t : List ℕ) : Type 0 where
@@ -112,7 +120,7 @@ module _ {file index ends firsts : List ℕ} {rules at : ℕ} {before : List ℕ
           subst (λ x. BodySays file (startOf index x) (nodes x) ends (firstOf firsts x) (at + firstOf firsts x * nodeCells) after) (sym z)
           (subst (λ x. BodySays file x (nodes f) ends (firstOf firsts f) (at + firstOf firsts f * nodeCells) after) es
           (subst (λ x. BodySays file start (nodes f) ends x (at + x * nodeCells) after) ef
-          (subst (λ x. BodySays file start x ends first (at + first * nodeCells) after) same (fills .says room))))
+          (subst (λ x. BodySays file start x ends first (at + first * nodeCells) after) same (fills .says there room))))
         where
           same : n ≡ nodes f
           same =
@@ -120,6 +128,9 @@ module _ {file index ends firsts : List ℕ} {rules at : ℕ} {before : List ℕ
               let b = w .few f h in
               let s = ap (λ x. word file (x - 4) / 4) es in
               counts .counted (let a = w .headed f h in omega arith) (omega arith) ∙ s ∙ sym c
+
+          there : n * 4 ≤ length file - start
+          there = let r = w .there f h in let s = same in let q = es in omega arith
 
           room : at + first * nodeCells + n * nodeCells ≤ length t
           room = let r = w .room f h in let s = same in let q = so .long in omega arith

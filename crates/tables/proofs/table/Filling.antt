@@ -1,6 +1,7 @@
 -- The whole table: its parts are filled one after another, and each leaves the others as they are.
 use Prim.Native.Nat.{ℕ, zero, suc, _+_, _-_, _*_, _/_, _%_, _<_, _≤_, max}
 use native.Mathlib.Omega.{arith}
+use native.Mathlib.Decide.{decLe}
 use mathlib.Core.Path.{_≡_, refl, sym, ap, subst, _∙_}
 use mathlib.Core.List.{List, _++_}
 use lib.ListN.{length, getD, take, drop, length-drop}
@@ -10,6 +11,8 @@ use Rattle.casefile.specs.Records.{Record}
 use Rattle.casefile.specs.Kinds.{Kind, number, payloads, count}
 use Rattle.casefile.specs.Tables.{nodesOf}
 use Rattle.casefile.proofs.TypeTable.{count-payloads}
+use Rattle.records.specs.cursor.Reading.{partOf}
+use Rattle.records.proofs.cursor.Reading.{part-out}
 use Rattle.index.specs.layout.Layout.{maxStates, maxTypes, maxBindings, maxConstructors, maxNonterminals, rowsSize, groupsAt, rowsAt, rowCells, rowLimit, nodeCells}
 use Rattle.index.specs.entries.Index.{Indexed}
 use Rattle.intake.proofs.plan.Contents.{payload-bytes}
@@ -63,6 +66,14 @@ nodes-upTo ps f (suc d) h =
     let m = nodes-more ps (f + d) (omega arith) in
     let ih = nodes-upTo ps f d (omega arith) in
     subst (λ k. nodesIn (take f ps) ≤ nodesIn (take k ps)) z (omega arith)
+
+-- the nodes of a payload lie in the file
+part-there : (file : List ℕ) (start : ℕ) (p : List ℕ) → partOf file start (length p) ≡ p → length p / 4 * 4 ≤ length file - start
+part-there file start p e = go (decLe (start + length p) (length file))
+  where
+    go : Dec (start + length p ≤ length file) → length p / 4 * 4 ≤ length file - start
+    go (yes l) = omega arith
+    go (no l) = let none : length p ≡ 0 = ap length (sym e ∙ part-out file start (length p) (omega arith)) in omega arith
 
 -- where the nodes begin
 pub nodes-from : {file index counts ends firsts : List ℕ} (rs : List Record) → Given file index counts ends firsts rs → (types bindings r : ℕ) → types ≡ getD counts 7 0 → bindings ≡ getD counts 8 0 → r ≡ max (types + maxStates) bindings → rowsAt + r * rowCells ≡ nodesFrom rs
@@ -229,6 +240,7 @@ module _ {file index counts ends firsts : List ℕ} (rs : List Record) (given : 
             let z : (startOf index g - 4) + 4 ≡ startOf index g = omega arith in
             ap (λ k. k / 4) (sym (rule-there .length-there g (startOf index g - 4) h z));
         few = λ g h. let n = rule-there .counted in given .bodies g (omega arith) .short;
+        there = λ g h. part-there file (startOf index g) (ruleOf rs g) (rule-there .payload-there g h);
         apart = λ g g′ l h.
             let m = rules-many in
             let z : g + 1 + (g′ - (g + 1)) ≡ g′ = omega arith in

@@ -6,7 +6,8 @@ use native.Mathlib.Decide.{decLt, ℕ-discrete}
 use mathlib.Core.Path.{_≡_, refl, sym, ap, subst, _∙_}
 use mathlib.Core.Logic.{_⊎_, inl, inr}
 use mathlib.Core.List.{List}
-use lib.ListN.{length, getD}
+use lib.ListN.{length, getD, set}
+use lib.Seq.{getD-set-same, getD-set-other}
 use Rattle.casefile.specs.Fields.{byte, word}
 use Rattle.records.specs.fields.Promises.{HasLength}
 use Rattle.index.specs.layout.Layout.{maxStates, maxTypes, maxBindings, maxMembers, typesAt, bindingsAt, rowsAt, rowCells, goalCell, symbolCell, ownCell, membersCell}
@@ -17,7 +18,7 @@ use Rattle.tables.specs.Facts.{StateRow}
 use Rattle.tables.specs.Frames.{Within, Adds}
 use Rattle.tables.specs.reading.Cells.{rowAt, cellOf, endOf, memberOf, symbolOf, ownOf}
 use Rattle.tables.specs.types.Rows.{rowOf, goalOf, memberIn, Room, FillsStates, CountsMembers, FillsMembers, StatesAmong, ArrowsAmong, AddsMember, ArrowSays, Low, FillsArrow, TypeSays, FillsType, FillsTypes, FillsBindings}
-use Rattle.tables.proofs.Frames.{Put, within-none, within-then, within-wider, store-long, store-here, store-other, within-store, row-apart, column-apart, other-row}
+use Rattle.tables.proofs.Frames.{Put, within-none, within-then, within-wider, store-long, store-here, store-other, within-store, within-set, stores, row-apart, column-apart, other-row}
 
 -- The states.
 pub record StatesTo (before : List ℕ) (q : ℕ) (t : List ℕ) : Type 0 where
@@ -141,45 +142,47 @@ pub record MembersTo (file : List ℕ) (start many m : ℕ) (before : List ℕ) 
   pub upTo : j ≤ many
   pub few : many ≤ maxMembers
   pub types : m < maxTypes
+  pub room : Room (rowOf m) before
   pub within : Within (rowAt (rowOf m) + membersCell) (rowAt (rowOf m) + rowCells) before t
-  pub member : Room (rowOf m) before → (i : ℕ) → i < j → memberIn file start i < m → memberOf t (rowOf m) i ≡ goalOf before (memberIn file start i)
+  pub member : (i : ℕ) → i < j → memberIn file start i < m → memberOf t (rowOf m) i ≡ goalOf before (memberIn file start i)
   pub count : arrows ≤ j
-  pub states-so : Room (rowOf m) before → StatesAmong t (rowOf m) j states
-  pub arrows-so : Room (rowOf m) before → ArrowsAmong t (rowOf m) j arrows
+  pub states-so : StatesAmong t (rowOf m) j states
+  pub arrows-so : ArrowsAmong t (rowOf m) j arrows
 
-pub members-none : {file : List ℕ} {start many m : ℕ} {before : List ℕ} → many ≤ maxMembers → m < maxTypes → MembersTo file start many m before 0 before 0 0
-members-none few types = record { upTo = omega arith; few = few; types = types; within = within-none; member = λ l i h. absurd (omega arith); count = omega arith; states-so = λ l. among-none; arrows-so = λ l. arrows-none }
+pub members-none : {file : List ℕ} {start many m : ℕ} {before : List ℕ} → many ≤ maxMembers → m < maxTypes → Room (rowOf m) before → MembersTo file start many m before 0 before 0 0
+members-none few types room = record { upTo = omega arith; few = few; types = types; room = room; within = within-none; member = λ i h. absurd (omega arith); count = omega arith; states-so = among-none; arrows-so = arrows-none }
 
 module _ {file : List ℕ} {start many m : ℕ} {before : List ℕ} {j : ℕ} {t : List ℕ} {states arrows : ℕ} (so : MembersTo file start many m before j t states arrows) where
-  pub members-more : j < many → (row w goal : ℕ) → row ≡ rowAt (rowOf m) → w ≡ memberIn file start j → goal ≡ goalOf t w → goal < 65536 → (after : List ℕ) → after ≡ stored t (row + (membersCell + j)) goal → {states′ arrows′ : ℕ} → AddsMember states arrows goal states′ arrows′ → MembersTo file start many m before (j + 1) after states′ arrows′
-  members-more h row w goal er ew eg small after ea is =
+  pub members-more : j < many → (row w goal : ℕ) → row ≡ rowAt (rowOf m) → w ≡ memberIn file start j → goal ≡ goalOf t w → {states′ arrows′ : ℕ} → AddsMember states arrows goal states′ arrows′ → MembersTo file start many m before (j + 1) (set t (row + (membersCell + j)) goal) states′ arrows′
+  members-more h row w goal er ew eg is =
       record {
         upTo = omega arith;
         few = so .few;
         types = so .types;
-        within = within-then (so .within) (within-store put (omega arith) (omega (arith, so .few)));
-        member = λ l i k below. at l i k below (ℕ-discrete i j);
+        room = so .room;
+        within = within-then (so .within) (within-set t (row + (membersCell + j)) goal (omega arith) (omega (arith, so .few)));
+        member = λ i k below. at i k below (ℕ-discrete i j);
         count = omega (arith, is .few, so .count);
-        states-so = λ l. add-states is (new l j refl) (states-same old refl refl (so .states-so l));
-        arrows-so = λ l. add-arrows is (new l j refl) (arrows-same old refl refl (so .arrows-so l));
+        states-so = add-states is (new j refl) (states-same old refl refl (so .states-so));
+        arrows-so = add-arrows is (new j refl) (arrows-same old refl refl (so .arrows-so));
       }
     where
-      put : Put t (row + (membersCell + j)) goal after
-      put = record { is = ea }
+      after : List ℕ
+      after = set t (row + (membersCell + j)) goal
 
       old : (i : ℕ) → i < j → memberOf after (rowOf m) i ≡ memberOf t (rowOf m) i
-      old i k = store-other put (rowAt (rowOf m) + (membersCell + i % maxMembers)) (λ e. omega (arith, so .few))
+      old i k = getD-set-other t (row + (membersCell + j)) (rowAt (rowOf m) + (membersCell + i % maxMembers)) goal 0 (λ e. omega (arith, so .few))
 
-      new : Room (rowOf m) before → (i : ℕ) → i ≡ j → memberOf after (rowOf m) i ≡ goal
-      new l i z =
+      new : (i : ℕ) → i ≡ j → memberOf after (rowOf m) i ≡ goal
+      new i z =
           let here : rowAt (rowOf m) + (membersCell + i % maxMembers) ≡ row + (membersCell + j) = omega (arith, so .few) in
-          ap (λ x. getD after x 0) here ∙ store-here put small (omega (arith, so .few, so .within .long))
+          ap (λ x. getD after x 0) here ∙ getD-set-same t (row + (membersCell + j)) goal 0 (omega (arith, so .room, so .few, so .within .long))
 
-      at : Room (rowOf m) before → (i : ℕ) → i < j + 1 → memberIn file start i < m → Dec (i ≡ j) → memberOf after (rowOf m) i ≡ goalOf before (memberIn file start i)
-      at l i k below (no z) = let y : (i ≡ j → ⊥) = z in old i (omega arith) ∙ so .member l i (omega arith) below
-      at l i k below (yes z) =
+      at : (i : ℕ) → i < j + 1 → memberIn file start i < m → Dec (i ≡ j) → memberOf after (rowOf m) i ≡ goalOf before (memberIn file start i)
+      at i k below (no z) = let y : (i ≡ j → ⊥) = z in old i (omega arith) ∙ so .member i (omega arith) below
+      at i k below (yes z) =
           let e : w ≡ memberIn file start i = ew ∙ ap (memberIn file start) (sym z) in
-          new l i z ∙ eg ∙ so .within .outside (rowAt (rowOf w) + goalCell) (λ a b. apart (omega arith) a b) ∙ ap (goalOf before) e
+          new i z ∙ eg ∙ so .within .outside (rowAt (rowOf w) + goalCell) (λ a b. apart (omega arith) a b) ∙ ap (goalOf before) e
         where
           apart : w < m → rowAt (rowOf m) + membersCell ≤ rowAt (rowOf w) + goalCell → rowAt (rowOf w) + goalCell < rowAt (rowOf m) + rowCells → ⊥
           apart b x y = omega (arith, so .types)
@@ -190,9 +193,9 @@ module _ {file : List ℕ} {start many m : ℕ} {before : List ℕ} {j : ℕ} {t
       let e : j ≡ many = omega arith in
       record {
         within = so .within;
-        member = λ l i k. so .member l i (omega arith);
-        states-so = λ l. states-same (λ i k. refl) e refl (so .states-so l);
-        arrows-so = λ l. arrows-same (λ i k. refl) e refl (so .arrows-so l);
+        member = λ i k. so .member i (omega arith);
+        states-so = states-same (λ i k. refl) e refl (so .states-so);
+        arrows-so = arrows-same (λ i k. refl) e refl (so .arrows-so);
       }
 
 -- The bindings.
@@ -207,13 +210,16 @@ pub record BindingsTo (file index : List ℕ) (bindings : ℕ) (before : List �
 pub bindings-many : {file index : List ℕ} {bindings : ℕ} {before : List ℕ} → maxBindings < bindings → FillsBindings file index bindings before before
 bindings-many h = record { within = within-none; others = λ i k l x y. refl; symbol = λ few. absurd (omega arith); own = λ few. absurd (omega arith) }
 
+pub bindings-far : {file index : List ℕ} {bindings : ℕ} {before : List ℕ} → length before < rowsAt + bindings * rowCells → FillsBindings file index bindings before before
+bindings-far h = record { within = within-none; others = λ i k l x y. refl; symbol = λ few room. absurd (omega arith); own = λ few room. absurd (omega arith) }
+
 pub bindings-none : {file index : List ℕ} {bindings : ℕ} {before : List ℕ} → bindings ≤ maxBindings → BindingsTo file index bindings before 0 before
 bindings-none few = record { upTo = omega arith; few = few; within = within-none; others = λ i k l x y. refl; symbol = λ l i h. absurd (omega arith); own = λ l i h. absurd (omega arith) }
 
 module _ {file index : List ℕ} {bindings : ℕ} {before : List ℕ} {b : ℕ} {t : List ℕ} (so : BindingsTo file index bindings before b t) where
   pub bindings-more : b < bindings → (row place symbol w own : ℕ) → row ≡ rowAt b → place ≡ getD index (bindingsAt + b) 0 → symbol ≡ word file place → symbol < 65536 → w ≡ word file (place + 2) → own ≡ goalOf t w → own < 65536
-      → (a c : List ℕ) → a ≡ stored t (row + symbolCell) symbol → c ≡ stored a (row + ownCell) own → BindingsTo file index bindings before (b + 1) c
-  bindings-more h row place symbol w own er ep es small ew eo small′ a c ea ec =
+      → BindingsTo file index bindings before (b + 1) (set (set t (row + symbolCell) symbol) (row + ownCell) own)
+  bindings-more h row place symbol w own er ep es small ew eo small′ =
       let few = so .few in
       record {
         upTo = omega arith;
@@ -224,11 +230,17 @@ module _ {file index : List ℕ} {bindings : ℕ} {before : List ℕ} {b : ℕ} 
         own = λ l i k. own-at l i k (ℕ-discrete i b);
       }
     where
+      a : List ℕ
+      a = set t (row + symbolCell) symbol
+
+      c : List ℕ
+      c = set a (row + ownCell) own
+
       pa : Put t (row + symbolCell) symbol a
-      pa = record { is = ea }
+      pa = record { is = stores t (row + symbolCell) symbol small }
 
       pc : Put a (row + ownCell) own c
-      pc = record { is = ec }
+      pc = record { is = stores a (row + ownCell) own small′ }
 
       both : (i k : ℕ) → (rowAt i + k ≡ row + symbolCell → ⊥) → (rowAt i + k ≡ row + ownCell → ⊥) → cellOf c i k ≡ cellOf t i k
       both i k x y = store-other pc (rowAt i + k) y ∙ store-other pa (rowAt i + k) x
@@ -262,66 +274,77 @@ module _ {file index : List ℕ} {bindings : ℕ} {before : List ℕ} {b : ℕ} 
   bindings-all h = record { within = so .within; others = so .others; symbol = λ few l i k. so .symbol l i (omega arith); own = λ few l i k. so .own l i (omega arith) }
 
 -- The row of an arrow.
-module _ {file : List ℕ} {start len m : ℕ} {t : List ℕ} (types : m < maxTypes) where
-  pub arrow-filled : (row w result end many states arrows : ℕ) → row ≡ rowAt (rowOf m) → w ≡ word file start → result ≡ goalOf t w → result < 65536 → end ≡ endOf t result → end < 65536 → CountsMembers len many
-      → (a b c d e f : List ℕ) → a ≡ stored t (row + 0) result → b ≡ stored a (row + 1) end → c ≡ stored b (row + 4) many → FillsMembers file start many m c d states arrows
-      → e ≡ stored d (row + 2) states → f ≡ stored e (row + 3) arrows → FillsArrow file start len m t f
-  arrow-filled row w result end many states arrows er ew eg small ee small′ counts a b c d e f ea eb ec ms ed ef =
+module _ {file : List ℕ} {start len m : ℕ} {t : List ℕ} (types : m < maxTypes) (room : Room (rowOf m) t) where
+  pub arrow-filled : (row w result end many : ℕ) → row ≡ rowAt (rowOf m) → w ≡ word file start → result ≡ goalOf t w → result < 65536 → end ≡ endOf t result → end < 65536 → CountsMembers len many → {d : List ℕ} {states arrows : ℕ} → FillsMembers file start many m t d states arrows
+      → FillsArrow file start len m t (set (set (set (set (set d (row + 0) result) (row + 1) end) (row + 2) states) (row + 3) arrows) (row + 4) many)
+  arrow-filled row w result end many er ew eg small ee small′ counts {d} {states} {arrows} ms =
       record {
         within = step;
-        goal-same =
-            store-other pf (rowAt g + goalCell) (λ z. omega arith) ∙ store-other pe (rowAt g + goalCell) (λ z. omega arith) ∙ ms .within .outside (rowAt g + goalCell) (λ x y. omega arith)
-            ∙ store-other pc (rowAt g + goalCell) (λ z. omega arith) ∙ store-other pb (rowAt g + goalCell) (λ z. omega arith) ∙ store-other pa (rowAt g + goalCell) (λ z. omega arith);
-        says = λ h room low.
-            let lengths = room-of room in
+        goal-same = past (rowAt g + goalCell) (λ k l z. omega arith) ∙ ms .within .outside (rowAt g + goalCell) (λ x y. omega arith);
+        says = λ low.
+            let lengths = room-of in
             record {
-              result = λ l. front 0 (inl (omega arith)) ∙ store-other pc (rowAt g + 0) (λ z. omega arith) ∙ store-other pb (rowAt g + 0) (λ z. omega arith) ∙ store-here pa small (omega arith) ∙ eg ∙ ap (goalOf t) ew ∙ sym (old (rowOf (word file start)) goalCell (omega arith) (omega arith));
+              result = λ l. other 0 (omega arith) ∙ other-two 0 (omega arith) ∙ store-other pb (rowAt g + 0) (λ z. omega arith) ∙ store-here pa small (omega arith) ∙ eg ∙ ap (goalOf t) ew ∙ sym (old (rowOf (word file start)) goalCell (omega arith) (omega arith));
               end = λ l.
                   let lw : w < m = omega arith in
                   let lg = low w lw in
                   let er′ : result ≡ goalOf f (word file start) = eg ∙ ap (goalOf t) ew ∙ sym (old (rowOf (word file start)) goalCell (omega arith) (omega arith)) in
-                  front 1 (inl (omega arith)) ∙ store-other pc (rowAt g + 1) (λ z. omega arith) ∙ store-here pb small′ (omega arith) ∙ ee ∙ sym (old result 1 (omega arith) (omega arith)) ∙ ap (endOf f) er′;
-              many = λ x y. front 4 (inr refl) ∙ store-here pc (let q = counts .few in omega arith) (omega arith) ∙ counts .many x y;
-              member = λ x y j k l.
-                  let q = counts .many x y in
-                  kept j ∙ ms .member (omega arith) j (omega arith) l ∙ front-row (rowOf (memberIn file start j)) goalCell (omega arith) (omega arith) ∙ sym (old (rowOf (memberIn file start j)) goalCell (omega arith) (omega arith));
-              states = λ x y. let ss = ms .states-so (omega arith) in states-same (λ j k. kept j) (counts .many x y) (sym (store-other pf (rowAt g + 2) (λ z. omega arith) ∙ store-here pe (ss .small) (omega arith))) ss;
-              arrows = λ x y. let as′ = ms .arrows-so (omega arith) in arrows-same (λ j k. kept j) (counts .many x y) (sym (store-here pf (let q = counts .few in let p = as′ .few in omega arith) (omega arith))) as′;
+                  other 1 (omega arith) ∙ other-two 1 (omega arith) ∙ store-here pb small′ (omega arith) ∙ ee ∙ sym (old result 1 (omega arith) (omega arith)) ∙ ap (endOf f) er′;
+              many = λ x y. store-here pf (omega (arith, counts .few)) (omega arith) ∙ counts .many x y;
+              member = λ x y j k l. let q = counts .many x y in kept j ∙ ms .member j (omega arith) l ∙ sym (old (rowOf (memberIn file start j)) goalCell (omega arith) (omega arith));
+              states = λ x y. states-same (λ j k. kept j) (counts .many x y) (sym (other 2 (omega arith) ∙ store-other pe (rowAt g + 2) (λ z. omega arith) ∙ store-here pc (ms .states-so .small) (omega arith))) (ms .states-so);
+              arrows = λ x y. arrows-same (λ j k. kept j) (counts .many x y) (sym (other 3 (omega arith) ∙ store-here pe few-arrows (omega arith))) (ms .arrows-so);
             };
       }
     where
       g : ℕ
       g = rowOf m
 
-      pa : Put t (rowAt g + 0) result a
-      pa = record { is = ea ∙ ap (λ x. stored t (x + 0) result) er }
+      few-arrows : arrows < 65536
+      few-arrows = omega (arith, counts .few, ms .arrows-so .few)
+
+      a : List ℕ
+      a = set d (row + 0) result
+
+      b : List ℕ
+      b = set a (row + 1) end
+
+      c : List ℕ
+      c = set b (row + 2) states
+
+      e : List ℕ
+      e = set c (row + 3) arrows
+
+      f : List ℕ
+      f = set e (row + 4) many
+
+      pa : Put d (rowAt g + 0) result a
+      pa = record { is = stores d (row + 0) result small ∙ ap (λ x. stored d (x + 0) result) er }
 
       pb : Put a (rowAt g + 1) end b
-      pb = record { is = eb ∙ ap (λ x. stored a (x + 1) end) er }
+      pb = record { is = stores a (row + 1) end small′ ∙ ap (λ x. stored a (x + 1) end) er }
 
-      pc : Put b (rowAt g + 4) many c
-      pc = record { is = ec ∙ ap (λ x. stored b (x + 4) many) er }
+      pc : Put b (rowAt g + 2) states c
+      pc = record { is = stores b (row + 2) states (ms .states-so .small) ∙ ap (λ x. stored b (x + 2) states) er }
 
-      pe : Put d (rowAt g + 2) states e
-      pe = record { is = ed ∙ ap (λ x. stored d (x + 2) states) er }
+      pe : Put c (rowAt g + 3) arrows e
+      pe = record { is = stores c (row + 3) arrows few-arrows ∙ ap (λ x. stored c (x + 3) arrows) er }
 
-      pf : Put e (rowAt g + 3) arrows f
-      pf = record { is = ef ∙ ap (λ x. stored e (x + 3) arrows) er }
-
-      half : Within (rowAt g) (rowAt g + rowCells) t c
-      half = within-then (within-store pa (omega arith) (omega arith)) (within-then (within-store pb (omega arith) (omega arith)) (within-store pc (omega arith) (omega arith)))
+      pf : Put e (rowAt g + 4) many f
+      pf = record { is = stores e (row + 4) many (omega (arith, counts .few)) ∙ ap (λ x. stored e (x + 4) many) er }
 
       step : Within (rowAt g) (rowAt g + rowCells) t f
       step =
-          within-then half
-          (within-then (within-wider (rowAt g) (rowAt g + rowCells) (omega arith) (omega arith) (ms .within)) (within-then (within-store pe (omega arith) (omega arith)) (within-store pf (omega arith) (omega arith))))
+          within-then (within-wider (rowAt g) (rowAt g + rowCells) (omega arith) (omega arith) (ms .within))
+          (within-then (within-store pa (omega arith) (omega arith))
+          (within-then (within-store pb (omega arith) (omega arith)) (within-then (within-store pc (omega arith) (omega arith)) (within-then (within-store pe (omega arith) (omega arith)) (within-store pf (omega arith) (omega arith))))))
 
-      room-of : Room g t → (rowAt g + rowCells ≤ length a) × (rowAt g + rowCells ≤ length b) × (rowAt g + rowCells ≤ length c) × (rowAt g + rowCells ≤ length d) × (rowAt g + rowCells ≤ length e)
-      room-of room =
+      room-of : (rowAt g + rowCells ≤ length d) × (rowAt g + rowCells ≤ length a) × (rowAt g + rowCells ≤ length b) × (rowAt g + rowCells ≤ length c) × (rowAt g + rowCells ≤ length e)
+      room-of =
+          let ld = ms .within .long in
           let la = store-long pa in
           let lb = store-long pb in
           let lc = store-long pc in
-          let ld = ms .within .long in
           let le = store-long pe in
           (omega arith, omega arith, omega arith, omega arith, omega arith)
 
@@ -329,47 +352,55 @@ module _ {file : List ℕ} {start len m : ℕ} {t : List ℕ} (types : m < maxTy
       old : (i k : ℕ) → i < g → k < rowCells → cellOf f i k ≡ cellOf t i k
       old i k h l = other-row step i k (omega (arith, types)) (omega (arith, types)) l (λ z. omega arith)
 
-      front-row : (i k : ℕ) → i < g → k < rowCells → cellOf c i k ≡ cellOf t i k
-      front-row i k h l = other-row half i k (omega (arith, types)) (omega (arith, types)) l (λ z. omega arith)
+      -- the cells before the last one, those before the last three, the members
+      other : (k : ℕ) → k < 4 → cellOf f g k ≡ cellOf e g k
+      other k l = store-other pf (rowAt g + k) (λ z. omega arith)
 
-      -- the cells before the members, and the members
-      front : (k : ℕ) → (k < 2) ⊎ (k ≡ 4) → cellOf f g k ≡ cellOf c g k
-      front k (inl x) = store-other pf (rowAt g + k) (λ z. omega arith) ∙ store-other pe (rowAt g + k) (λ z. omega arith) ∙ ms .within .outside (rowAt g + k) (λ y u. omega arith)
-      front k (inr x) = store-other pf (rowAt g + k) (λ z. omega arith) ∙ store-other pe (rowAt g + k) (λ z. omega arith) ∙ ms .within .outside (rowAt g + k) (λ y u. omega arith)
+      other-two : (k : ℕ) → k < 2 → cellOf e g k ≡ cellOf b g k
+      other-two k l = store-other pe (rowAt g + k) (λ z. omega arith) ∙ store-other pc (rowAt g + k) (λ z. omega arith)
+
+      past : (i : ℕ) → ((k : ℕ) → k < 5 → i ≡ rowAt g + k → ⊥) → getD f i 0 ≡ getD d i 0
+      past i ne = store-other pf i (ne 4 (omega arith)) ∙ store-other pe i (ne 3 (omega arith)) ∙ store-other pc i (ne 2 (omega arith)) ∙ store-other pb i (ne 1 (omega arith)) ∙ store-other pa i (ne 0 (omega arith))
 
       kept : (j : ℕ) → memberOf f g j ≡ memberOf d g j
-      kept j = store-other pf (rowAt g + (membersCell + j % maxMembers)) (λ z. omega arith) ∙ store-other pe (rowAt g + (membersCell + j % maxMembers)) (λ z. omega arith)
+      kept j = past (rowAt g + (membersCell + j % maxMembers)) (λ k l z. omega arith)
 
 -- The row of a type.
+pub type-far : {file index : List ℕ} {m : ℕ} {t : List ℕ} (row : ℕ) → row ≡ rowAt (rowOf m) → length t < row + rowCells → FillsType file index m t t
+type-far row er far = record { within = within-none; says = λ h room low. absurd (omega arith) }
+
 module _ (file index : List ℕ) (m : ℕ) (types : m < maxTypes) (row start len : ℕ) (er : row ≡ rowAt (rowOf m)) (es : start ≡ getD index (typesAt + m) 0) (is : HasLength file start len) where
   -- the length, where the payload has a header
   len-there : 4 ≤ getD index (typesAt + m) 0 → len ≡ word file (getD index (typesAt + m) 0 - 4)
   len-there h = is .headed (omega arith) ∙ ap (λ x. word file (x - 4)) es
 
-  pub type-state : {t : List ℕ} → len ≡ 1 → (q v : ℕ) → q ≡ byte file start → v ≡ q % maxStates → (a : List ℕ) → a ≡ stored t (row + goalCell) v → FillsType file index m t a
-  type-state {t} one q v eq ev a ea =
+  pub type-state : {t : List ℕ} → len ≡ 1 → (q : ℕ) → q ≡ byte file start → FillsType file index m t (set t (row + goalCell) (q % maxStates))
+  type-state {t} one q eq =
       record {
         within = within-store put (omega arith) (omega arith);
         says = λ h room low.
-            let here : goalOf a m ≡ v = store-here put (omega arith) (omega arith) in
+            let here : goalOf a m ≡ q % maxStates = store-here put (omega arith) (omega arith) in
             record {
               low = omega arith;
-              state = λ k e. here ∙ ev ∙ ap (λ x. x % maxStates) (eq ∙ ap (byte file) es);
+              state = λ k e. here ∙ ap (λ x. x % maxStates) (eq ∙ ap (byte file) es);
               arrow = λ k ne. absurd (ne (sym (len-there k) ∙ one));
             };
       }
     where
-      put : Put t (rowAt (rowOf m) + goalCell) v a
-      put = record { is = ea ∙ ap (λ x. stored t (x + goalCell) v) er }
+      a : List ℕ
+      a = set t (row + goalCell) (q % maxStates)
 
-  pub type-arrow : {t : List ℕ} → (len ≡ 1 → ⊥) → (a f : List ℕ) → a ≡ stored t (row + goalCell) (maxStates + m) → FillsArrow file start len m a f → FillsType file index m t f
-  type-arrow {t} many a f ea fills =
+      put : Put t (rowAt (rowOf m) + goalCell) (q % maxStates) a
+      put = record { is = stores t (row + goalCell) (q % maxStates) (omega arith) ∙ ap (λ x. stored t (x + goalCell) (q % maxStates)) er }
+
+  pub type-arrow : {t : List ℕ} → (len ≡ 1 → ⊥) → {f : List ℕ} → FillsArrow file start len m (set t (row + goalCell) (maxStates + m)) f → FillsType file index m t f
+  type-arrow {t} many {f} fills =
       record {
         within = within-then first (fills .within);
         says = λ h room low.
             let la = store-long put in
             let here : goalOf f m ≡ rowOf m = fills .goal-same ∙ store-here put (omega arith) (omega arith) in
-            let says = fills .says h (omega arith) (λ i k. subst (λ x. x < rowOf m) (sym (other-row first (rowOf i) goalCell (omega arith) (omega arith) (omega arith) (λ z. omega arith))) (low i k)) in
+            let says = fills .says (λ i k. subst (λ x. x < rowOf m) (sym (other-row first (rowOf i) goalCell (omega arith) (omega arith) (omega arith) (λ z. omega arith))) (low i k)) in
             record {
               low = omega arith;
               state = λ k e. absurd (many (len-there k ∙ e));
@@ -377,8 +408,11 @@ module _ (file index : List ℕ) (m : ℕ) (types : m < maxTypes) (row start len
             };
       }
     where
+      a : List ℕ
+      a = set t (row + goalCell) (maxStates + m)
+
       put : Put t (rowAt (rowOf m) + goalCell) (maxStates + m) a
-      put = record { is = ea ∙ ap (λ x. stored t (x + goalCell) (maxStates + m)) er }
+      put = record { is = stores t (row + goalCell) (maxStates + m) (omega (arith, types)) ∙ ap (λ x. stored t (x + goalCell) (maxStates + m)) er }
 
       first : Within (rowAt (rowOf m)) (rowAt (rowOf m) + rowCells) t a
       first = within-store put (omega arith) (omega arith)

@@ -24,9 +24,9 @@ tagAt file start i = byte file (start + i * 4)
 -- one node in three cells
 pub record EntersNode (file : List ℕ) (place next cell : ℕ) (before after : List ℕ) : Type 0 where
   pub within : Within cell (cell + nodeCells) before after
-  pub head : cell + nodeCells ≤ length before → getD after cell 0 ≡ headCell (byte file place) (byte file (place + 3))
-  pub number : cell + nodeCells ≤ length before → getD after (cell + numberCell) 0 ≡ word file (place + 1)
-  pub behind : cell + nodeCells ≤ length before → getD after (cell + nextCell) 0 ≡ next
+  pub head : getD after cell 0 ≡ headCell (byte file place) (byte file (place + 3))
+  pub number : getD after (cell + numberCell) 0 ≡ word file (place + 1)
+  pub behind : getD after (cell + nextCell) 0 ≡ next
 
 pub record NodeSays (file : List ℕ) (start next i cell : ℕ) (t : List ℕ) : Type 0 where
   pub head : getD t cell 0 ≡ headCell (tagAt file start i) (byte file (start + i * 4 + 3))
@@ -39,7 +39,7 @@ BodySays file start n ends first at t = (i : ℕ) → i < n → NodeSays file st
 
 pub record FillsBody (file : List ℕ) (start n : ℕ) (ends : List ℕ) (first at : ℕ) (before after : List ℕ) : Type 0 where
   pub within : Within at (at + n * nodeCells) before after
-  pub says : at + n * nodeCells ≤ length before → BodySays file start n ends first at after
+  pub says : n * 4 ≤ length file - start → at + n * nodeCells ≤ length before → BodySays file start n ends first at after
 
 -- the payload of rule f begins there, and its nodes there
 abbrev pub startOf : List ℕ → ℕ → ℕ
@@ -48,11 +48,12 @@ startOf index f = getD index (rulesAt + f) 0
 abbrev pub firstOf : List ℕ → ℕ → ℕ
 firstOf firsts f = getD firsts f 0
 
--- the rules have so many nodes, one after another, and the table has room for them from a place on
+-- the rules have so many nodes, which lie in the file, one after another, and the table has room for them from a place on
 pub record Bodied (file index firsts : List ℕ) (rules at : ℕ) (nodes : ℕ → ℕ) (size : ℕ) : Type 0 where
   pub headed : (f : ℕ) → f < rules → 4 ≤ startOf index f
   pub counted : (f : ℕ) → f < rules → nodes f ≡ word file (startOf index f - 4) / 4
   pub few : (f : ℕ) → f < rules → nodes f ≤ maxNodes
+  pub there : (f : ℕ) → f < rules → nodes f * 4 ≤ length file - startOf index f
   pub apart : (f g : ℕ) → f < g → g < rules → firstOf firsts f + nodes f ≤ firstOf firsts g
   pub room : (f : ℕ) → f < rules → at + (firstOf firsts f + nodes f) * nodeCells ≤ size
 

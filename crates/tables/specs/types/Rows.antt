@@ -56,9 +56,9 @@ pub record AddsMember (states arrows x states′ arrows′ : ℕ) : Type 0 where
 -- the members of type m, the states among them and how many are arrows
 pub record FillsMembers (file : List ℕ) (start many m : ℕ) (before after : List ℕ) (states arrows : ℕ) : Type 0 where
   pub within : Within (rowAt (rowOf m) + membersCell) (rowAt (rowOf m) + rowCells) before after
-  pub member : Room (rowOf m) before → (j : ℕ) → j < many → memberIn file start j < m → memberOf after (rowOf m) j ≡ goalOf before (memberIn file start j)
-  pub states-so : Room (rowOf m) before → StatesAmong after (rowOf m) many states
-  pub arrows-so : Room (rowOf m) before → ArrowsAmong after (rowOf m) many arrows
+  pub member : (j : ℕ) → j < many → memberIn file start j < m → memberOf after (rowOf m) j ≡ goalOf before (memberIn file start j)
+  pub states-so : StatesAmong after (rowOf m) many states
+  pub arrows-so : ArrowsAmong after (rowOf m) many arrows
 
 -- the row of an arrow, type m, whose payload begins at a place and has a length: its parts are those of earlier rows, where they are earlier
 pub record ArrowSays (file : List ℕ) (start len m : ℕ) (t : List ℕ) : Type 0 where
@@ -76,7 +76,7 @@ Low m t = (i : ℕ) → i < m → goalOf t i < rowOf m
 pub record FillsArrow (file : List ℕ) (start len m : ℕ) (before after : List ℕ) : Type 0 where
   pub within : Within (rowAt (rowOf m)) (rowAt (rowOf m) + rowCells) before after
   pub goal-same : goalOf after m ≡ goalOf before m
-  pub says : m < maxTypes → Room (rowOf m) before → Low m before → ArrowSays file start len m after
+  pub says : Low m before → ArrowSays file start len m after
 
 -- the row of type m: a state, or an arrow
 pub record TypeSays (file index : List ℕ) (m : ℕ) (t : List ℕ) : Type 0 where

@@ -1,17 +1,25 @@
 -- `leave_sets` meets its contract. The invariant: the first k sets of the chain lack the binding.
 use Prim.Native.Nat.{_-_}
-use Rattle.tables.proofs.candidates.Leaving.{LeaveTo, leave-none, leave-more, leave-ended, leave-all}
-use Rattle.tables.proofs.candidates.Walking.{place-fits}
-use borrow.Author.Needs.{needs}
 use native.Mathlib.Omega.{arith}
+use mathlib.Core.Logic.{⊎-elim}
+use lib.Bits.{and-le-l}
+use Rattle.tables.proofs.candidates.Leaving.{LeaveTo, out-there, out-past, leave-none, leave-more, leave-ended, leave-all}
+use Rattle.tables.proofs.candidates.Walking.{place-fits, word-fits}
+use borrow.Author.Needs.{needs}
 use Rattle.tables.proofs.candidates.leave_sets.Statement.{statement}
 use Rattle.tables.proofs.candidates.leave_sets.Tie as tie
 
 abbrev Inv-loop : tie.InvT-loop
-Inv-loop t b words sets₀ wide goal₀ k₀ sets goal k = LeaveTo t b words sets₀ goal k sets
+Inv-loop t b words sets₀ wide bit goal₀ k₀ sets goal k = LeaveTo t b words sets₀ goal k sets
 
 abbrev μ-loop : tie.MeasureT-loop
-μ-loop t b words sets₀ wide goal₀ k₀ sets goal k = 256 - k
+μ-loop t b words sets₀ wide bit goal₀ k₀ sets goal k = 256 - k
+
+cast-bit : tie.Need-cast-bit Inv-loop μ-loop
+cast-bit c = search needs
+
+shl-bit : tie.Need-shl-bit Inv-loop μ-loop
+shl-bit c = search needs
 
 own-of-requires : tie.Need-own-of-requires Inv-loop μ-loop
 own-of-requires c κs = search needs
@@ -25,11 +33,32 @@ same-length c = c .before .before .loop .inv .long
 returns : tie.Need-returns Inv-loop μ-loop
 returns c = leave-ended (c .before .before .loop .inv) (λ i. omega (arith, c .before .before .before .before .before .shared-slice-known .given i)) (c .if1 .taken)
 
-mul-take-out : tie.Need-mul-take-out Inv-loop μ-loop
-mul-take-out c = record { fits = place-fits _ _ (c .before .before .before .loop .inv .walked .small) }
+mul-i : tie.Need-mul-i Inv-loop μ-loop
+mul-i c = record { fits = place-fits _ _ (c .before .before .loop .inv .walked .small) }
 
-take-out-requires : tie.Need-take-out-requires Inv-loop μ-loop
-take-out-requires c κs = search needs
+add-i : tie.Need-add-i Inv-loop μ-loop
+add-i c = record { fits = word-fits _ _ _ (c .before .before .loop .inv .walked .small) (omega arith) }
+
+mul-sets : tie.Need-mul-sets Inv-loop μ-loop
+mul-sets c = search needs
+
+slice-read-sets : tie.Need-slice-read-sets Inv-loop μ-loop
+slice-read-sets c = search needs
+
+mul-sets-2 : tie.Need-mul-sets-2 Inv-loop μ-loop
+mul-sets-2 c = search needs
+
+slice-read-sets-2 : tie.Need-slice-read-sets-2 Inv-loop μ-loop
+slice-read-sets-2 c = search needs
+
+sub-sets : tie.Need-sub-sets Inv-loop μ-loop
+sub-sets c = and-le-l _ _
+
+mul-sets-3 : tie.Need-mul-sets-3 Inv-loop μ-loop
+mul-sets-3 c = search needs
+
+slice-write-sets : tie.Need-slice-write-sets Inv-loop μ-loop
+slice-write-sets c = search needs
 
 result-of-requires : tie.Need-result-of-requires Inv-loop μ-loop
 result-of-requires c κs = search needs
@@ -41,7 +70,7 @@ loop-less : tie.Need-loop-less Inv-loop μ-loop
 loop-less c = search needs
 
 loop-again : tie.Need-loop-again Inv-loop μ-loop
-loop-again c = leave-more (c .before .before .before .before .before .before .before .loop .inv) (c .before .before .before .before .before .before .loop-test .taken) (c .before .before .before .before .before .if1 .left) _ (c .before .before .before .take-out .ensures) _ (c .result-of .ensures .0) (c .result-of .ensures .1)
+loop-again c = leave-more (c .before .before .before .before .loop .inv) (c .before .before .before .loop-test .taken) (c .before .before .if1 .left) _ (⊎-elim (λ w. out-there (w .0 .taken) (w .3)) (λ w. out-past (w .0 .left) (w .1)) (c .before .if2 .came)) _ (c .result-of .ensures .0) (c .result-of .ensures .1)
 
 same-length-2 : tie.Need-same-length-2 Inv-loop μ-loop
 same-length-2 c = c .before .loop .inv .long
@@ -55,12 +84,21 @@ leave-sets-spec =
     (tie.spec
     Inv-loop
     μ-loop
+    cast-bit
+    shl-bit
     own-of-requires
     loop-holds
     same-length
     returns
-    mul-take-out
-    take-out-requires
+    mul-i
+    add-i
+    mul-sets
+    slice-read-sets
+    mul-sets-2
+    slice-read-sets-2
+    sub-sets
+    mul-sets-3
+    slice-write-sets
     result-of-requires
     add-k
     loop-less

@@ -1,7 +1,8 @@
 -- `fill_arrow` meets its contract.
+use native.Mathlib.Omega.{arith}
+use lib.ListN.{length-set}
 use Rattle.tables.proofs.types.Filling.{arrow-filled}
 use borrow.Author.Needs.{needs}
-use native.Mathlib.Omega.{arith}
 use Rattle.tables.proofs.types.fill_arrow.Statement.{statement}
 use Rattle.tables.proofs.types.fill_arrow.Tie as tie
 
@@ -23,47 +24,74 @@ end-of-requires c κs = search needs
 members-in-requires : tie.Need-members-in-requires
 members-in-requires c κs = search needs
 
-add-store : tie.Need-add-store
-add-store c = search needs
-
-store-requires : tie.Need-store-requires
-store-requires c κs = search needs
-
-add-store-2 : tie.Need-add-store-2
-add-store-2 c = search needs
-
-store-requires-2 : tie.Need-store-requires-2
-store-requires-2 c κs = search needs
-
-add-store-3 : tie.Need-add-store-3
-add-store-3 c = search needs
-
-store-requires-3 : tie.Need-store-requires-3
-store-requires-3 c κs = search needs
-
 fill-members-requires : tie.Need-fill-members-requires
 fill-members-requires c κs = search needs
 
-add-store-4 : tie.Need-add-store-4
-add-store-4 c = search needs
+cast-t : tie.Need-cast-t
+cast-t c = search needs
 
-cast-store : tie.Need-cast-store
-cast-store c = search needs
+add-t : tie.Need-add-t
+add-t c = search needs
 
-store-requires-4 : tie.Need-store-requires-4
-store-requires-4 c κs = search needs
+mul-t : tie.Need-mul-t
+mul-t c = search needs
 
-add-store-5 : tie.Need-add-store-5
-add-store-5 c = omega (arith, c .before .before .before .before .before .before .before .before .before .before .before .before .before .before .before .before .before .before .before .before .before .before .before .before .before .before .before .before .row-at .ensures .1)
+slice-write-t : tie.Need-slice-write-t
+slice-write-t c = search needs
 
-store-requires-5 : tie.Need-store-requires-5
-store-requires-5 c κs = search needs
+cast-t-2 : tie.Need-cast-t-2
+cast-t-2 c = search needs
+
+add-t-2 : tie.Need-add-t-2
+add-t-2 c = search needs
+
+mul-t-2 : tie.Need-mul-t-2
+mul-t-2 c = search needs
+
+slice-write-t-2 : tie.Need-slice-write-t-2
+slice-write-t-2 c = simp length-set (omega (arith, c .before .before .before .before .before .before .before .before .before .before .before .before .before .pre .2, c .before .before .before .before .before .before .before .before .before .before .row-at .ensures .0, c .before .before .fill-members .ensures .within .long))
+
+cast-t-3 : tie.Need-cast-t-3
+cast-t-3 c = search needs
+
+add-t-3 : tie.Need-add-t-3
+add-t-3 c = search needs
+
+mul-t-3 : tie.Need-mul-t-3
+mul-t-3 c = search needs
+
+slice-write-t-3 : tie.Need-slice-write-t-3
+slice-write-t-3 c = simp length-set (omega (arith, c .before .before .before .before .before .before .before .before .before .before .before .before .before .before .pre .2, c .before .before .before .before .before .before .before .before .before .before .before .row-at .ensures .0, c .before .before .before .fill-members .ensures .within .long))
+
+cast-t-4 : tie.Need-cast-t-4
+cast-t-4 c = search needs
+
+add-t-4 : tie.Need-add-t-4
+add-t-4 c = search needs
+
+mul-t-4 : tie.Need-mul-t-4
+mul-t-4 c = search needs
+
+slice-write-t-4 : tie.Need-slice-write-t-4
+slice-write-t-4 c = simp length-set (omega (arith, c .before .before .before .before .before .before .before .before .before .before .before .before .before .before .before .pre .2, c .before .before .before .before .before .before .before .before .before .before .before .before .row-at .ensures .0, c .before .before .before .before .fill-members .ensures .within .long))
+
+cast-t-5 : tie.Need-cast-t-5
+cast-t-5 c = search needs
+
+add-t-5 : tie.Need-add-t-5
+add-t-5 c = search needs
+
+mul-t-5 : tie.Need-mul-t-5
+mul-t-5 c = search needs
+
+slice-write-t-5 : tie.Need-slice-write-t-5
+slice-write-t-5 c = simp length-set (omega (arith, c .before .before .before .before .before .before .before .before .before .before .before .before .before .before .before .pre .2, c .before .before .before .before .before .before .before .before .before .before .before .before .row-at .ensures .0, c .before .before .before .before .fill-members .ensures .within .long))
 
 same-length : tie.Need-same-length
 same-length c = search needs
 
 returns : tie.Need-returns
-returns c = arrow-filled (c .before .before .before .before .before .before .before .before .before .before .before .before .before .before .before .before .before .before .before .before .before .before .before .before .before .before .before .before .before .before .before .before .before .before .pre .1) _ _ _ _ _ _ _ (c .before .before .before .before .before .before .before .before .before .before .before .before .before .before .before .before .before .before .before .before .before .before .before .before .before .before .before .before .before .before .before .row-at .ensures .0) (c .before .before .before .before .before .before .before .before .before .before .before .before .before .before .before .before .before .before .before .before .before .before .before .before .before .before .before .before .before .word-at .ensures .value) (c .before .before .before .before .before .before .before .before .before .before .before .before .before .before .before .before .before .before .before .before .before .before .before .before .before .before .before .before .goal-of .ensures .0) (c .before .before .before .before .before .before .before .before .before .before .before .before .before .before .before .before .before .before .before .before .before .before .before .before .before .before .before .before .goal-of .ensures .1) (c .before .before .before .before .before .before .before .before .before .before .before .before .before .before .before .before .before .before .before .before .before .before .before .before .before .before .end-of .ensures .0) (c .before .before .before .before .before .before .before .before .before .before .before .before .before .before .before .before .before .before .before .before .before .before .before .before .before .before .end-of .ensures .1) (c .before .before .before .before .before .before .before .before .before .before .before .before .before .before .before .before .before .before .before .before .before .before .before .before .before .members-in .ensures) _ _ _ _ _ _ (c .before .before .before .before .before .before .before .before .before .before .before .before .before .before .before .before .before .before .before .before .before .before .before .store .ensures) (c .before .before .before .before .before .before .before .before .before .before .before .before .before .before .before .before .before .before .before .store2 .ensures) (c .before .before .before .before .before .before .before .before .before .before .before .before .before .before .before .store3 .ensures) (c .before .before .before .before .before .before .before .before .before .before .before .fill-members .ensures) (c .before .before .before .before .before .before .store4 .ensures) (c .before .before .store5 .ensures)
+returns c = arrow-filled (c .before .before .before .before .before .before .before .before .before .before .before .before .before .before .before .pre .1) (c .before .before .before .before .before .before .before .before .before .before .before .before .before .before .before .pre .2) _ _ _ _ _ (c .before .before .before .before .before .before .before .before .before .before .before .before .row-at .ensures .0) (c .before .before .before .before .before .before .before .before .before .before .word-at .ensures .value) (c .before .before .before .before .before .before .before .before .before .goal-of .ensures .0) (c .before .before .before .before .before .before .before .before .before .goal-of .ensures .1) (c .before .before .before .before .before .before .before .end-of .ensures .0) (c .before .before .before .before .before .before .before .end-of .ensures .1) (c .before .before .before .before .before .before .members-in .ensures) (c .before .before .before .before .fill-members .ensures)
 
 pub fill-arrow-spec : {M : Type 1} → statement M
 fill-arrow-spec =
@@ -75,17 +103,26 @@ fill-arrow-spec =
     goal-of-requires
     end-of-requires
     members-in-requires
-    add-store
-    store-requires
-    add-store-2
-    store-requires-2
-    add-store-3
-    store-requires-3
     fill-members-requires
-    add-store-4
-    cast-store
-    store-requires-4
-    add-store-5
-    store-requires-5
+    cast-t
+    add-t
+    mul-t
+    slice-write-t
+    cast-t-2
+    add-t-2
+    mul-t-2
+    slice-write-t-2
+    cast-t-3
+    add-t-3
+    mul-t-3
+    slice-write-t-3
+    cast-t-4
+    add-t-4
+    mul-t-4
+    slice-write-t-4
+    cast-t-5
+    add-t-5
+    mul-t-5
+    slice-write-t-5
     same-length
     returns)

@@ -1,6 +1,7 @@
 -- `fill_bindings` meets its contract. The invariant: the rows of the bindings below b are entered.
 use Prim.Native.Nat.{_-_}
-use Rattle.tables.proofs.types.Filling.{BindingsTo, bindings-many, bindings-none, bindings-more, bindings-all}
+use lib.ListN.{length-set}
+use Rattle.tables.proofs.types.Filling.{BindingsTo, bindings-many, bindings-far, bindings-none, bindings-more, bindings-all}
 use borrow.Author.Needs.{needs}
 use native.Mathlib.Omega.{arith}
 use Rattle.tables.proofs.types.fill_bindings.Statement.{statement}
@@ -15,14 +16,23 @@ abbrev μ-loop : tie.MeasureT-loop
 returns : tie.Need-returns Inv-loop μ-loop
 returns c = bindings-many (c .if1 .taken)
 
+mul-if2 : tie.Need-mul-if2 Inv-loop μ-loop
+mul-if2 c = search needs
+
+add-if2 : tie.Need-add-if2 Inv-loop μ-loop
+add-if2 c = search needs
+
+returns-2 : tie.Need-returns-2 Inv-loop μ-loop
+returns-2 c = bindings-far (c .if2 .taken)
+
 loop-holds : tie.Need-loop-holds Inv-loop μ-loop
-loop-holds c = bindings-none (c .if1 .left)
+loop-holds c = bindings-none (c .before .if1 .left)
 
 row-at-requires : tie.Need-row-at-requires Inv-loop μ-loop
 row-at-requires c κs = search needs
 
 add-place-at : tie.Need-add-place-at Inv-loop μ-loop
-add-place-at c = omega (arith, c .before .loop-test .taken, c .before .before .before .if1 .left)
+add-place-at c = omega (arith, c .before .loop-test .taken, c .before .before .before .before .if1 .left)
 
 place-at-requires : tie.Need-place-at-requires Inv-loop μ-loop
 place-at-requires c κs = search needs
@@ -39,32 +49,44 @@ word-at-requires-2 c κs = search needs
 goal-of-requires : tie.Need-goal-of-requires Inv-loop μ-loop
 goal-of-requires c κs = c .word-at2 .ensures .bound
 
-add-store : tie.Need-add-store Inv-loop μ-loop
-add-store c = omega (arith, c .before .before .before .before .before .before .row-at .ensures .1)
+cast-t : tie.Need-cast-t Inv-loop μ-loop
+cast-t c = omega (arith, c .before .before .before .word-at .ensures .bound)
 
-store-requires : tie.Need-store-requires Inv-loop μ-loop
-store-requires c κs = search needs
+add-t : tie.Need-add-t Inv-loop μ-loop
+add-t c = omega (arith, c .before .before .before .before .before .row-at .ensures .1)
 
-add-store-2 : tie.Need-add-store-2 Inv-loop μ-loop
-add-store-2 c = omega (arith, c .before .before .before .before .before .before .before .before .before .before .row-at .ensures .1)
+mul-t : tie.Need-mul-t Inv-loop μ-loop
+mul-t c = omega (arith, c .before .before .before .before .before .row-at .ensures .1)
 
-store-requires-2 : tie.Need-store-requires-2 Inv-loop μ-loop
-store-requires-2 c κs = search needs
+slice-write-t : tie.Need-slice-write-t Inv-loop μ-loop
+slice-write-t c = omega (arith, c .before .before .before .before .before .before .before .loop .inv .within .long, c .before .before .before .before .before .before .before .before .if2 .left, c .before .before .before .before .before .before .before .before .before .if1 .left, c .before .before .before .before .before .before .loop-test .taken, c .before .before .before .before .before .row-at .ensures .0)
+
+cast-t-2 : tie.Need-cast-t-2 Inv-loop μ-loop
+cast-t-2 c = omega (arith, c .goal-of .ensures .1)
+
+add-t-2 : tie.Need-add-t-2 Inv-loop μ-loop
+add-t-2 c = omega (arith, c .before .before .before .before .before .row-at .ensures .1)
+
+mul-t-2 : tie.Need-mul-t-2 Inv-loop μ-loop
+mul-t-2 c = omega (arith, c .before .before .before .before .before .row-at .ensures .1)
+
+slice-write-t-2 : tie.Need-slice-write-t-2 Inv-loop μ-loop
+slice-write-t-2 c = simp length-set (omega (arith, c .before .before .before .before .before .before .before .loop .inv .within .long, c .before .before .before .before .before .before .before .before .if2 .left, c .before .before .before .before .before .before .before .before .before .if1 .left, c .before .before .before .before .before .before .loop-test .taken, c .before .before .before .before .before .row-at .ensures .0))
 
 add-b : tie.Need-add-b Inv-loop μ-loop
-add-b c = omega (arith, c .before .before .before .before .before .before .before .before .before .before .before .before .before .before .loop-test .taken)
+add-b c = omega (arith, c .before .before .before .before .before .before .loop-test .taken)
 
 loop-less : tie.Need-loop-less Inv-loop μ-loop
-loop-less c = omega (arith, c .before .before .before .before .before .before .before .before .before .before .before .before .before .before .loop-test .taken)
+loop-less c = omega (arith, c .before .before .before .before .before .before .loop-test .taken)
 
 loop-again : tie.Need-loop-again Inv-loop μ-loop
-loop-again c = bindings-more (c .before .before .before .before .before .before .before .before .before .before .before .before .before .before .before .loop .inv) (c .before .before .before .before .before .before .before .before .before .before .before .before .before .before .loop-test .taken) _ _ _ _ _ (c .before .before .before .before .before .before .before .before .before .before .before .before .before .row-at .ensures .0) (c .before .before .before .before .before .before .before .before .before .before .before .before .place-at .ensures .value) (c .before .before .before .before .before .before .before .before .before .before .before .word-at .ensures .value) (c .before .before .before .before .before .before .before .before .before .before .before .word-at .ensures .bound) (c .before .before .before .before .before .before .before .before .before .word-at2 .ensures .value) (c .before .before .before .before .before .before .before .before .goal-of .ensures .0) (c .before .before .before .before .before .before .before .before .goal-of .ensures .1) _ _ (c .before .before .before .before .before .before .store .ensures) (c .before .before .store2 .ensures)
+loop-again c = bindings-more (c .before .before .before .before .before .before .before .loop .inv) (c .before .before .before .before .before .before .loop-test .taken) _ _ _ _ _ (c .before .before .before .before .before .row-at .ensures .0) (c .before .before .before .before .place-at .ensures .value) (c .before .before .before .word-at .ensures .value) (c .before .before .before .word-at .ensures .bound) (c .before .word-at2 .ensures .value) (c .goal-of .ensures .0) (c .goal-of .ensures .1)
 
 same-length : tie.Need-same-length Inv-loop μ-loop
 same-length c = c .before .loop .inv .within .long
 
-returns-2 : tie.Need-returns-2 Inv-loop μ-loop
-returns-2 c = bindings-all (c .before .loop .inv) (c .loop-test .left)
+returns-3 : tie.Need-returns-3 Inv-loop μ-loop
+returns-3 c = bindings-all (c .before .loop .inv) (c .loop-test .left)
 
 pub fill-bindings-spec : {M : Type 1} → statement M
 fill-bindings-spec =
@@ -73,6 +95,9 @@ fill-bindings-spec =
     Inv-loop
     μ-loop
     returns
+    mul-if2
+    add-if2
+    returns-2
     loop-holds
     row-at-requires
     add-place-at
@@ -81,12 +106,16 @@ fill-bindings-spec =
     add-word-at
     word-at-requires-2
     goal-of-requires
-    add-store
-    store-requires
-    add-store-2
-    store-requires-2
+    cast-t
+    add-t
+    mul-t
+    slice-write-t
+    cast-t-2
+    add-t-2
+    mul-t-2
+    slice-write-t-2
     add-b
     loop-less
     loop-again
     same-length
-    returns-2)
+    returns-3)

@@ -19,7 +19,7 @@ row-at-requires : tie.Need-row-at-requires Inv-loop μ-loop
 row-at-requires c κs = search needs
 
 loop-holds : tie.Need-loop-holds Inv-loop μ-loop
-loop-holds c = members-none (c .before .before .before .pre .1) (c .before .before .before .pre .2)
+loop-holds c = members-none (c .before .before .before .pre .1) (c .before .before .before .pre .2) (c .before .before .before .pre .3)
 
 add-word-at : tie.Need-add-word-at Inv-loop μ-loop
 add-word-at c = omega (arith, c .before .before .before .before .before .before .pre .0)
@@ -36,26 +36,32 @@ word-at-requires c κs = search needs
 goal-of-requires : tie.Need-goal-of-requires Inv-loop μ-loop
 goal-of-requires c κs = c .word-at .ensures .bound
 
-add-store : tie.Need-add-store Inv-loop μ-loop
-add-store c = omega (arith, c .before .before .before .before .before .before .before .before .before .pre .1, c .before .before .before .before .loop-test .taken)
+cast-t : tie.Need-cast-t Inv-loop μ-loop
+cast-t c = omega (arith, c .goal-of .ensures .1)
 
-add-store-2 : tie.Need-add-store-2 Inv-loop μ-loop
-add-store-2 c = omega (arith, c .before .before .before .before .before .before .before .before .before .pre .1, c .before .before .before .before .loop-test .taken, c .before .before .before .before .before .before .row-at .ensures .1)
+add-t : tie.Need-add-t Inv-loop μ-loop
+add-t c = omega (arith, c .before .before .before .before .before .before .before .before .pre .1, c .before .before .before .loop-test .taken)
 
-store-requires : tie.Need-store-requires Inv-loop μ-loop
-store-requires c κs = search needs
+add-t-2 : tie.Need-add-t-2 Inv-loop μ-loop
+add-t-2 c = omega (arith, c .before .before .before .before .before .before .before .before .pre .1, c .before .before .before .loop-test .taken, c .before .before .before .before .before .row-at .ensures .1)
+
+mul-t : tie.Need-mul-t Inv-loop μ-loop
+mul-t c = omega (arith, c .before .before .before .before .before .before .before .before .pre .1, c .before .before .before .loop-test .taken, c .before .before .before .before .before .row-at .ensures .1)
+
+slice-write-t : tie.Need-slice-write-t Inv-loop μ-loop
+slice-write-t c = omega (arith, c .before .before .before .before .before .before .before .before .pre .1, c .before .before .before .before .before .before .before .before .pre .3, c .before .before .before .loop-test .taken, c .before .before .before .before .before .row-at .ensures .0, c .before .before .before .before .loop .inv .within .long)
 
 with-member-requires : tie.Need-with-member-requires Inv-loop μ-loop
-with-member-requires c κs = omega (arith, c .before .before .before .before .before .before .before .before .loop .inv .count, c .before .before .before .before .before .before .before .loop-test .taken, c .before .before .before .before .before .before .before .before .before .before .before .before .pre .1)
+with-member-requires c κs = omega (arith, c .before .before .before .before .loop .inv .count, c .before .before .before .loop-test .taken, c .before .before .before .before .before .before .before .before .pre .1)
 
 add-j : tie.Need-add-j Inv-loop μ-loop
-add-j c = omega (arith, c .before .before .before .before .before .before .before .before .loop-test .taken)
+add-j c = omega (arith, c .before .before .before .before .loop-test .taken)
 
 loop-less : tie.Need-loop-less Inv-loop μ-loop
-loop-less c = omega (arith, c .before .before .before .before .before .before .before .before .loop-test .taken)
+loop-less c = omega (arith, c .before .before .before .before .loop-test .taken)
 
 loop-again : tie.Need-loop-again Inv-loop μ-loop
-loop-again c = members-more (c .before .before .before .before .before .before .before .before .before .loop .inv) (c .before .before .before .before .before .before .before .before .loop-test .taken) _ _ _ (c .before .before .before .before .before .before .before .before .before .before .row-at .ensures .0) (c .before .before .before .before .before .before .word-at .ensures .value) (c .before .before .before .before .before .goal-of .ensures .0) (c .before .before .before .before .before .goal-of .ensures .1) _ (c .before .before .before .store .ensures) (c .with-member .ensures)
+loop-again c = members-more (c .before .before .before .before .before .loop .inv) (c .before .before .before .before .loop-test .taken) _ _ _ (c .before .before .before .before .before .before .row-at .ensures .0) (c .before .before .word-at .ensures .value) (c .before .goal-of .ensures .0) (c .with-member .ensures)
 
 same-length : tie.Need-same-length Inv-loop μ-loop
 same-length c = c .before .loop .inv .within .long
@@ -77,9 +83,11 @@ fill-members-spec =
     add-word-at-2
     word-at-requires
     goal-of-requires
-    add-store
-    add-store-2
-    store-requires
+    cast-t
+    add-t
+    add-t-2
+    mul-t
+    slice-write-t
     with-member-requires
     add-j
     loop-less
