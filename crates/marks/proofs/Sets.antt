@@ -189,7 +189,7 @@ module _ {words : List ℕ} {at from n : ℕ} (p : Passed words at from n) (word
         let t = zeros-few (32 - n % 32) 32 (word / 2 ^ (n % 32)) low full in
         omega arith
 
-    passed-zeros : Passed words at from (n + trailingZeros 32 (word / 2 ^ (n % 32)))
+    pub passed-zeros : Passed words at from (n + trailingZeros 32 (word / 2 ^ (n % 32)))
     passed-zeros = let f = few in record { on = omega (arith, p .on); none = passed-on (trailingZeros 32 (word / 2 ^ (n % 32))) (omega arith) (zeros-below 32 (word / 2 ^ (n % 32))) }
 
     next-in : In words at (n + trailingZeros 32 (word / 2 ^ (n % 32)))

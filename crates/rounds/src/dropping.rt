@@ -6,6 +6,7 @@ use index::layout::MAX_BINDINGS;
 use index::layout::ROW_LIMIT;
 use index::layout::TEST_CELLS;
 use index::layout::WORD;
+use marks::next_beyond;
 use marks::next_in;
 use marks::word_in;
 use tables::candidates::leave_sets;
@@ -117,6 +118,6 @@ pub fn drop_failed(
     let mut b = next_in(failed, 0, n.least, n.past);
     while b < n.past {
         drop_binding(t, w, sizes, r, flags, todo, b);
-        b = next_in(failed, 0, b + 1, n.past);
+        b = next_beyond(failed, 0, b + 1, n.past);
     }
 }

@@ -29,23 +29,23 @@ loop-holds c = (λ l. c .next-in .ensures .found l .1, placed-none _, λ firsts.
 drop-binding-requires : tie.Need-drop-binding-requires Inv-loop μ-loop
 drop-binding-requires c κs = search needs
 
-add-next-in : tie.Need-add-next-in Inv-loop μ-loop
-add-next-in c = omega (arith, c .before .before .before .before .before .before .before .before .before .before .if1 .taken)
+add-next-beyond : tie.Need-add-next-beyond Inv-loop μ-loop
+add-next-beyond c = omega (arith, c .before .before .before .before .before .before .before .before .before .before .if1 .taken)
 
-next-in-requires-2 : tie.Need-next-in-requires-2 Inv-loop μ-loop
-next-in-requires-2 c κs = search needs
+next-beyond-requires : tie.Need-next-beyond-requires Inv-loop μ-loop
+next-beyond-requires c κs = search needs
 
 loop-less : tie.Need-loop-less Inv-loop μ-loop
-loop-less c = finds-less (c .next-in2 .ensures) (c .before .before .before .before .before .before .before .before .before .before .before .if1 .taken)
+loop-less c = finds-less (c .next-beyond .ensures) (c .before .before .before .before .before .before .before .before .before .before .before .if1 .taken)
 
 loop-again : tie.Need-loop-again Inv-loop μ-loop
 loop-again c =
     let h = c .before .before .before .before .before .before .before .before .before .before .before .if1 .taken in
     let i = c .before .before .before .before .before .before .before .before .before .before .before .before .before .loop .inv in
     let d = c .before .before .before .before .before .before .before .drop-binding .ensures in (
-      λ l. c .next-in2 .ensures .found l .1,
+      λ l. c .next-beyond .ensures .found l .1,
       placed-more (i .1) (d .0),
-      λ firsts. dropped-more _ _ _ _ _ _ _ _ _ _ _ _ _ _ (i .2 firsts) h (i .0 h) _ _ _ (drops-from _ _ _ _ _ _ _ _ _ _ _ _ _ (i .1) (d .1 firsts)) _ (c .next-in2 .ensures),
+      λ firsts. dropped-more _ _ _ _ _ _ _ _ _ _ _ _ _ _ (i .2 firsts) h (i .0 h) _ _ _ (drops-from _ _ _ _ _ _ _ _ _ _ _ _ _ (i .1) (d .1 firsts)) _ (c .next-beyond .ensures),
     )
 
 same-length : tie.Need-same-length Inv-loop μ-loop
@@ -69,8 +69,8 @@ drop-failed-spec =
     next-in-requires
     loop-holds
     drop-binding-requires
-    add-next-in
-    next-in-requires-2
+    add-next-beyond
+    next-beyond-requires
     loop-less
     loop-again
     same-length
