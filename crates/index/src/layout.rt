@@ -303,7 +303,9 @@ pub const PLAIN_FRAME: usize = SMALL_FRAME + 1;
 
 pub const MIDDLE_FRAME: usize = PLAIN_FRAME + 1;
 
-// The smaller frames have no hints.
+pub const WIDE_FRAME: usize = MIDDLE_FRAME + 1;
+
+// The frames for few types have no hints.
 pub const NO_HINTS: usize = 0;
 
 // The tiny frame of a binding case: how many nodes, types and bindings it has room for, and from these its tables as those at the
@@ -392,6 +394,27 @@ pub const MIDDLE_USERS: usize = MIDDLE_BINDINGS * (MIDDLE_WORDS + 1);
 
 pub const MIDDLE_ANSWERS: usize = MAX_NODES * ((MIDDLE_GOALS + WORD - 1) / WORD) * CELL;
 
+// The wide frame, likewise: for the most bindings that a file may have, of few types, without hints.
+pub const WIDE_NODES: usize = 4096;
+
+pub const WIDE_TYPES: usize = 64;
+
+pub const WIDE_BINDINGS: usize = 1024;
+
+pub const WIDE_GOALS: usize = WIDE_TYPES + MAX_STATES;
+
+pub const WIDE_ROWS: usize = WIDE_BINDINGS;
+
+pub const WIDE_WORDS: usize = (WIDE_BINDINGS + WORD - 1) / WORD;
+
+pub const WIDE_TABLE: usize = ROWS_AT + WIDE_ROWS * ROW_CELLS + WIDE_NODES * NODE_CELLS;
+
+pub const WIDE_SETS: usize = WIDE_GOALS * WIDE_WORDS;
+
+pub const WIDE_USERS: usize = WIDE_BINDINGS * WIDE_WORDS;
+
+pub const WIDE_ANSWERS: usize = MAX_NODES * ((WIDE_GOALS + WORD - 1) / WORD) * CELL;
+
 // The ends of subterms and the fit of types of a tiny file: by its length, how many nodes and types it may have.
 pub const TINY_FILE: usize = 384;
 
@@ -413,9 +436,9 @@ pub const MIDDLE_ENDS: usize = MIDDLE_FILE / NODE;
 
 pub const MIDDLE_FITS: usize = MIDDLE_FILE / TYPE_BYTES * FIT_MASKS;
 
-// Those of a longer file, likewise.
-pub const LONG_FILE: usize = 4096;
+// Those of a longer file: the ends likewise, and the fit of all types, since its length has room for more.
+pub const LONG_FILE: usize = 8192;
 
 pub const LONG_ENDS: usize = LONG_FILE / NODE;
 
-pub const LONG_FITS: usize = LONG_FILE / TYPE_BYTES * FIT_MASKS;
+pub const LONG_FITS: usize = FITS;

@@ -2,7 +2,7 @@
 use Prim.Native.Nat.{ℕ, zero, suc, _+_, _*_, _/_, _<_, _≤_, max}
 use native.Mathlib.Omega.{arith}
 use native.Mathlib.Nat.{mul-le-mul, max-le}
-use mathlib.Core.Path.{_≡_, refl}
+use mathlib.Core.Path.{_≡_, refl, sym, subst}
 use mathlib.Core.Bool.{Bool, false}
 use mathlib.Core.List.{List, [], _∷_}
 use lib.ListN.{length, getD, replicate}
@@ -17,11 +17,13 @@ use Rattle.casefile.specs.Kinds.{Kind, number, payloads, count}
 use Rattle.casefile.specs.Tables.{bindingsOf}
 use Rattle.casefile.specs.BindingCases.{shrunk}
 use Rattle.casefile.proofs.Plans.{bindings-many}
-use Rattle.index.specs.layout.Layout.{maxTypes, maxBindings, maxStates, nodeBytes, endsSize, indexSize, rowsSize, rowsAt, rowCells, nodeCells, wordBits, cellWords, placeLimit, testCells}
+use Rattle.index.specs.layout.Layout.{maxNonterminals, maxTypes, maxBindings, maxStates, nodeBytes, endsSize, indexSize, rowsSize, rowsAt, rowCells, nodeCells, wordBits, cellWords, placeLimit, testCells}
+use Rattle.index.specs.entries.Index.{Indexed}
 use Rattle.rules.specs.reading.RuleBodies.{nodesIn}
+use Rattle.rules.specs.first_nodes.FirstNodes.{CountsAll}
 use Rattle.rules.proofs.rules.Room.{file-room, count-few}
 use Rattle.binding_cases.specs.Judging.{IsShrunk, Lent, JudgesBindings}
-use Rattle.plan_check.specs.Promises.{ofBindings, JudgesWithin, JudgesBindingCase}
+use Rattle.plan_check.specs.Promises.{ofBindings, HasNodes, JudgesWithin, JudgesBindingCase}
 use Rattle.plan_check.specs.declared.Verdict.{Verdict}
 use Rattle.plan_check.specs.declared.Verdict.the-variants.{Unproved}
 
@@ -85,6 +87,21 @@ unfolding shrunk accepts kept after any rounds countTo keptFlags flagsAfterRound
 none-shrunk automaton plan [] lent e = record { accepted-is = refl; kept-is = refl; total-is = refl; rounds-are = refl; flags-are = refl }
 none-shrunk automaton plan (b ∷ bs) lent e = absurd (omega arith)
 
+module _ {file index counts : List ℕ} where
+  -- how many nodes the file has at most: by its length, or counted
+  pub nodes-by-length : HasNodes file index counts (length file / nodeBytes)
+  nodes-by-length = record { few = λ lens known ok. let room = file-room file ok in omega arith }
+
+  pub nodes-by-rules : {rules n : ℕ} → rules ≡ getD counts 4 0 → CountsAll file index rules n → HasNodes file index counts n
+  unfolding number
+  nodes-by-rules e counts-all =
+      record {
+        few = λ lens known ok.
+            let rs = listed (recordsOf file) in
+            let is = counts-all .all rs ok (subst (λ k. Indexed file index Kind.rule k rs) (sym e) (known .entries Kind.rule)) (subst (λ k. k ≤ maxNonterminals) (sym e) (known .fits Kind.rule)) in
+            omega arith;
+      }
+
 module _ {file index counts ends lent : List ℕ} where
   pub no-bindings-judged : {total : ℕ} → total ≡ getD counts 8 0 → total ≡ 0 → JudgesBindingCase file index counts ends lent lent (Unproved 0 0 0)
   unfolding number ofBindings
@@ -102,19 +119,19 @@ module _ {file index counts ends lent : List ℕ} where
         is-verdict = refl;
       }
 
-  -- a frame that has room for the nodes, types and bindings of the file, by its length and the counts
-  pub case-judged : {nodes types bindings many total : ℕ} → length file / nodeBytes ≤ nodes → many ≤ types → total ≤ bindings → many ≡ getD counts 7 0 → total ≡ getD counts 8 0
+  -- a frame that has room for the nodes, types and bindings of the file, by the counts
+  pub case-judged : {nodes types bindings most many total : ℕ} → HasNodes file index counts most → (most ≤ nodes) × (many ≤ types) × (total ≤ bindings) → many ≡ getD counts 7 0 → total ≡ getD counts 8 0
       → {marks : List ℕ} {accepted : Bool} {kept offered rounds : ℕ} {v : Verdict} → JudgesWithin nodes types bindings file index counts ends lent marks accepted kept offered rounds
       → v ≡ ofBindings accepted kept offered rounds → JudgesBindingCase file index counts ends lent marks v
   unfolding number
-  case-judged n t b et eb judges e =
+  case-judged has (n, t, b) et eb judges e =
       record {
         accepted = _;
         kept = _;
         total = _;
         rounds = _;
         judged = λ short lens known ok.
-            let room = file-room file ok in
+            let few = has .few lens known ok in
             let counted-types = known .entries Kind.type .counted in
             let counted-bindings = known .entries Kind.binding .counted in
             judges .judged (omega arith) (omega arith) (omega arith) lens known ok;

@@ -12,7 +12,7 @@ use Rattle.casefile.specs.Tables.{planOf, automatonOf, bindingsOf}
 use Rattle.casefile.specs.Refusals.{refuseWhole}
 use Rattle.casefile.specs.Promises.{Passed}
 use Rattle.casefile.specs.BindingCases.{shrunk}
-use Rattle.index.specs.layout.Layout.{maxFile, tinyFrame, tinyNodes, tinyTypes, tinyBindings, smallFrame, smallNodes, smallTypes, smallBindings, plainFrame, plainNodes, plainTypes, plainBindings, middleFrame, middleNodes, middleTypes, middleBindings}
+use Rattle.index.specs.layout.Layout.{maxFile, tinyFrame, tinyNodes, tinyTypes, tinyBindings, smallFrame, smallNodes, smallTypes, smallBindings, plainFrame, plainNodes, plainTypes, plainBindings, middleFrame, middleNodes, middleTypes, middleBindings, wideFrame, wideNodes, wideTypes, wideBindings}
 use Rattle.index.specs.entries.Known.{Known}
 use Rattle.rules.specs.reading.RuleBodies.{nodesIn}
 use Rattle.intake.specs.plan.PlanTests.{EndsAre}
@@ -43,13 +43,18 @@ pub record JudgesWithin (nodes types bindings : ℕ) (file index counts ends len
   pub judged : nodesIn (payloads Kind.rule (listed (recordsOf file))) ≤ nodes → count Kind.type (listed (recordsOf file)) ≤ types → count Kind.binding (listed (recordsOf file)) ≤ bindings
       → Judges file index counts ends lent marks accepted kept total rounds
 
+-- a file whose records passed has no more than a given number of nodes, by its tables
+pub record HasNodes (file index counts : List ℕ) (nodes : ℕ) : Type 0 where
+  pub few : (lens : List ℕ) → Known file index lens counts (listed (recordsOf file)) → Passed (listed (recordsOf file)) → nodesIn (payloads Kind.rule (listed (recordsOf file))) ≤ nodes
+
 -- r says whether a frame has room for so many nodes, types and bindings; the last one has room for every file
 pub record HasRoom (frame nodes types bindings : ℕ) (r : Bool) : Type 0 where
   pub tiny : r ≡ true → frame ≡ tinyFrame → (nodes ≤ tinyNodes) × (types ≤ tinyTypes) × (bindings ≤ tinyBindings)
   pub small : r ≡ true → frame ≡ smallFrame → (nodes ≤ smallNodes) × (types ≤ smallTypes) × (bindings ≤ smallBindings)
   pub plain : r ≡ true → frame ≡ plainFrame → (nodes ≤ plainNodes) × (types ≤ plainTypes) × (bindings ≤ plainBindings)
   pub middle : r ≡ true → frame ≡ middleFrame → (nodes ≤ middleNodes) × (types ≤ middleTypes) × (bindings ≤ middleBindings)
-  pub last : r ≡ false → frame ≤ middleFrame
+  pub wide : r ≡ true → frame ≡ wideFrame → (nodes ≤ wideNodes) × (types ≤ wideTypes) × (bindings ≤ wideBindings)
+  pub last : r ≡ false → frame ≤ wideFrame
 
 -- v is the verdict on the bindings of a file, by its tables, and the lent flags became `marks`
 pub record JudgesBindingCase (file index counts ends lent marks : List ℕ) (v : Verdict) : Type 0 where

@@ -28,7 +28,11 @@ use index::layout::TINY_SETS;
 use index::layout::TINY_TABLE;
 use index::layout::TINY_USERS;
 use index::layout::USERS;
-ghost use Rattle.index.specs.layout.Layout.{tinyNodes, tinyTypes, tinyBindings, smallNodes, smallTypes, smallBindings, plainNodes, plainTypes, plainBindings, middleNodes, middleTypes, middleBindings, endsSize, maxTypes, maxBindings};
+use index::layout::WIDE_ANSWERS;
+use index::layout::WIDE_SETS;
+use index::layout::WIDE_TABLE;
+use index::layout::WIDE_USERS;
+ghost use Rattle.index.specs.layout.Layout.{tinyNodes, tinyTypes, tinyBindings, smallNodes, smallTypes, smallBindings, plainNodes, plainTypes, plainBindings, middleNodes, middleTypes, middleBindings, wideNodes, wideTypes, wideBindings, endsSize, maxTypes, maxBindings};
 ghost use Rattle.plan_check.specs.Promises.{JudgesWithin};
 
 // What tests read in a frame: the numbers of a test, then the sets of candidates; and what they write: hints, then users, then answers.
@@ -47,6 +51,10 @@ const PLAIN_WRITE: usize = NO_HINTS + PLAIN_USERS + PLAIN_ANSWERS;
 const MIDDLE_READ: usize = TEST_CELLS + MIDDLE_SETS;
 
 const MIDDLE_WRITE: usize = HINTS + MIDDLE_USERS + MIDDLE_ANSWERS;
+
+const WIDE_READ: usize = TEST_CELLS + WIDE_SETS;
+
+const WIDE_WRITE: usize = NO_HINTS + WIDE_USERS + WIDE_ANSWERS;
 
 const ALL_READ: usize = TEST_CELLS + SETS;
 
@@ -161,6 +169,34 @@ pub(crate) fn middle_bindings(
         &mut r,
         &mut w,
         HINTS,
+        flags,
+    )
+}
+
+// What is kept of the bindings of a file, in the wide frame.
+pub(crate) fn wide_bindings(
+    file: &[u8],
+    index: &mut Index,
+    counts: &Counts,
+    ends: &[u16],
+    firsts: &mut Rows,
+    flags: &mut [u8],
+) -> Shrunken
+    ensures { λ r. ⌜ JudgesWithin wideNodes wideTypes wideBindings (now (file .entry)) (now (index .entry)) (now (counts .entry)) (now (ends .entry)) (now (flags .entry)) (now (flags .exit)) (r .accepted) (r .kept) (r .total) (r .rounds) ⌝ }
+{
+    let mut t = [0u16; WIDE_TABLE];
+    let mut r = [0u32; WIDE_READ];
+    let mut w = [0u32; WIDE_WRITE];
+    judge_bindings(
+        file,
+        index,
+        counts,
+        ends,
+        firsts,
+        &mut t,
+        &mut r,
+        &mut w,
+        NO_HINTS,
         flags,
     )
 }

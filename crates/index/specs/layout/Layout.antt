@@ -304,6 +304,15 @@ middleTypes = 320
 abbrev pub middleBindings : ℕ
 middleBindings = 320
 
+abbrev pub wideNodes : ℕ
+wideNodes = 4096
+
+abbrev pub wideTypes : ℕ
+wideTypes = 64
+
+abbrev pub wideBindings : ℕ
+wideBindings = 1024
+
 -- the lengths of files that have tables of their own
 abbrev pub tinyFile : ℕ
 tinyFile = 384
@@ -315,7 +324,7 @@ abbrev pub middleFile : ℕ
 middleFile = 2048
 
 abbrev pub longFile : ℕ
-longFile = 4096
+longFile = 8192
 
 -- the frames of a binding case
 abbrev pub tinyFrame : ℕ
@@ -329,3 +338,6 @@ plainFrame = 2
 
 abbrev pub middleFrame : ℕ
 middleFrame = 3
+
+abbrev pub wideFrame : ℕ
+wideFrame = 4

@@ -26,19 +26,19 @@ loop-holds : tie.Need-loop-holds Inv-loop μ-loop
 loop-holds c = numbers-none _ _ _ _ (c .before .if1 .left) (omega (arith, c .if2 .left))
 
 cast-firsts : tie.Need-cast-firsts Inv-loop μ-loop
-cast-firsts c = omega (arith, c .before .loop .inv .small, c .before .loop .inv .few)
+cast-firsts c = omega (arith, c .before .loop .inv .counting .small, c .before .loop .inv .counting .few)
 
 mul-firsts : tie.Need-mul-firsts Inv-loop μ-loop
 mul-firsts c = search needs
 
 slice-write-firsts : tie.Need-slice-write-firsts Inv-loop μ-loop
-slice-write-firsts c = omega (arith, c .before .loop .inv .room, c .before .loop .inv .few)
+slice-write-firsts c = omega (arith, c .before .loop .inv .room, c .before .loop .inv .counting .few)
 
 nodes-of-requires : tie.Need-nodes-of-requires Inv-loop μ-loop
 nodes-of-requires c κs = search needs
 
 add-at : tie.Need-add-at Inv-loop μ-loop
-add-at c = omega (arith, c .before .before .loop .inv .small, c .before .before .loop .inv .few, c .nodes-of .ensures .few)
+add-at c = omega (arith, c .before .before .loop .inv .counting .small, c .before .before .loop .inv .counting .few, c .nodes-of .ensures .few)
 
 larger-requires : tie.Need-larger-requires Inv-loop μ-loop
 larger-requires c κs = search needs
