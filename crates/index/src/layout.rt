@@ -411,7 +411,7 @@ pub const WIDE_TABLE: usize = ROWS_AT + WIDE_ROWS * ROW_CELLS + WIDE_NODES * NOD
 
 pub const WIDE_SETS: usize = WIDE_GOALS * WIDE_WORDS;
 
-pub const WIDE_USERS: usize = WIDE_BINDINGS * WIDE_WORDS;
+pub const WIDE_USERS: usize = WIDE_BINDINGS * (WIDE_WORDS + 1);
 
 pub const WIDE_ANSWERS: usize = MAX_NODES * ((WIDE_GOALS + WORD - 1) / WORD) * CELL;
 

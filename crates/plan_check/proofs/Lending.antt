@@ -39,7 +39,7 @@ abbrev pub readOf : ℕ → ℕ → ℕ
 readOf types bindings = testCells + (types + maxStates) * ((bindings + 31) / wordBits)
 
 abbrev pub writeOf : ℕ → ℕ → ℕ → ℕ → ℕ
-writeOf hints bindings nodes types = hints + bindings * ((bindings + 31) / wordBits) + nodes * ((types + maxStates + 31) / wordBits) * cellWords
+writeOf hints bindings nodes types = hints + bindings * ((bindings + 31) / wordBits + 1) + nodes * ((types + maxStates + 31) / wordBits) * cellWords
 
 -- tables that have room for so many nodes, types and bindings; each goal has a row, and each binding
 pub record Roomy (nodes types bindings rows : ℕ) (index firsts table r w : List ℕ) (hints : ℕ) : Type 0 where
@@ -51,7 +51,7 @@ pub record Roomy (nodes types bindings rows : ℕ) (index firsts table r w : Lis
   pub firsts-long : rowsSize ≤ length firsts
   pub table-long : rowsAt + rows * rowCells + nodes * nodeCells ≤ length table
   pub read-long : readOf types bindings ≤ length r
-  pub write-long : hints + bindings * ((bindings + 31) / wordBits) ≤ length w
+  pub write-long : hints + bindings * ((bindings + 31) / wordBits + 1) ≤ length w
 
 module _ {nodes types bindings rows : ℕ} {index firsts table r w : List ℕ} {hints : ℕ} (roomy : Roomy nodes types bindings rows index firsts table r w hints)
     (no-numbers : (i : ℕ) → getD r i 0 ≡ 0) (no-answers : (i : ℕ) → getD w i 0 ≡ 0) where
