@@ -7,9 +7,8 @@ use crate::tested::retest;
 use index::layout::BINDING_WORDS;
 use index::layout::ROW_LIMIT;
 use marks::briefs::next_marked;
-use records::fields::byte_at;
 ghost use mathlib.Core.Path.{_≡_};
-ghost use Prim.Native.Nat.{_≤_};
+ghost use Prim.Native.Nat.{_<_, _≤_};
 ghost use lib.ListN.{length, getD, drop};
 ghost use Rattle.scheme.specs.Flags.{bit, isKept};
 ghost use Rattle.index.specs.layout.Layout.{testCells};
@@ -65,20 +64,24 @@ fn all_kept(flags: &mut [u8], n: usize)
     }
 }
 
-// 1 where flag i says kept, else 0.
+// 1 where flag i, which is there, says kept, else 0.
 fn kept_at(flags: &[u8], i: usize) -> usize
+    requires { ⌜ i < length (now flags) ⌝ }
     ensures { λ r. ⌜ r ≡ bit (isKept (getD (now (flags .entry)) i 0)) ⌝ }
 {
-    if byte_at(flags, i) == 0 {
+    if flags[i] == 0 {
         return 0;
     }
     1
 }
 
-// How many of the first n flags say kept.
+// How many of the first n flags say kept, where there are so many.
 fn count_kept(flags: &[u8], n: usize) -> usize
     ensures { λ r. ⌜ Counts (now (flags .entry)) n r × (r ≤ n) ⌝ }
 {
+    if flags.len() < n {
+        return 0;
+    }
     let mut kept: usize = 0;
     let mut i: usize = 0;
     while i < n {

@@ -88,6 +88,9 @@ module _ (flags : List ℕ) (n : ℕ) where
   pub counted-none : Counted flags n 0 0
   counted-none = record { few = omega arith; counted = λ bs e room. omega arith }
 
+  pub counted-not : length flags < n → Counts flags n 0 × (0 ≤ n)
+  counted-not h = (record { counted = λ bs e room. absurd (omega arith) }, omega arith)
+
   module _ (kept i : ℕ) (w : Counted flags n kept i) where
     pub counted-more : (r : ℕ) → r ≡ bit (isKept (getD flags i 0)) → i < n → Counted flags n (kept + r) (i + 1)
     unfolding chosen

@@ -2,7 +2,7 @@
 use Prim.Native.Nat.{_-_, _≤_}
 use native.Mathlib.Omega.{arith}
 use borrow.Author.Needs.{needs}
-use Rattle.rounds.proofs.shrinking.Counting.{flag-small, Counted, counted-none, counted-more, counted-all}
+use Rattle.rounds.proofs.shrinking.Counting.{flag-small, Counted, counted-none, counted-more, counted-all, counted-not}
 use Rattle.rounds.proofs.shrinking.count_kept.Statement.{statement}
 use Rattle.rounds.proofs.shrinking.count_kept.Tie as tie
 
@@ -12,11 +12,14 @@ Inv-loop flags n kept₀ i₀ kept i = (i ≤ n) × Counted flags n kept i
 abbrev μ-loop : tie.MeasureT-loop
 μ-loop flags n kept₀ i₀ kept i = n - i
 
+returns : tie.Need-returns Inv-loop μ-loop
+returns c = counted-not _ _ (c .if1 .taken)
+
 loop-holds : tie.Need-loop-holds Inv-loop μ-loop
 loop-holds c = (omega arith, counted-none _ _)
 
 kept-at-requires : tie.Need-kept-at-requires Inv-loop μ-loop
-kept-at-requires c κs = search needs
+kept-at-requires c κs = let h = c .loop-test .taken in let l = c .before .before .if1 .left in omega arith
 
 add-kept : tie.Need-add-kept Inv-loop μ-loop
 add-kept c = omega (arith, flag-small _ _ (c .kept-at .ensures), c .before .before .loop .inv .1 .few, c .before .loop-test .taken)
@@ -30,8 +33,8 @@ loop-less c = omega (arith, c .before .loop-test .taken)
 loop-again : tie.Need-loop-again Inv-loop μ-loop
 loop-again c = let h = c .before .loop-test .taken in (omega arith, counted-more _ _ _ _ (c .before .before .loop .inv .1) _ (c .kept-at .ensures) h)
 
-returns : tie.Need-returns Inv-loop μ-loop
-returns c = counted-all _ _ _ _ (c .before .loop .inv .1) (c .before .loop .inv .0) (c .loop-test .left)
+returns-2 : tie.Need-returns-2 Inv-loop μ-loop
+returns-2 c = counted-all _ _ _ _ (c .before .loop .inv .1) (c .before .loop .inv .0) (c .loop-test .left)
 
 pub count-kept-spec : {M : Type 1} → statement M
 count-kept-spec =
@@ -39,10 +42,11 @@ count-kept-spec =
     (tie.spec
     Inv-loop
     μ-loop
+    returns
     loop-holds
     kept-at-requires
     add-kept
     add-i
     loop-less
     loop-again
-    returns)
+    returns-2)
