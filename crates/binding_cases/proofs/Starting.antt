@@ -1,6 +1,7 @@
 -- The start binding among those kept: the table says which is of nonterminal 0, and which type is the state 0.
 use Prim.Native.Nat.{ℕ, zero, suc, _+_, _<_, _≤_}
 use native.Mathlib.Omega.{arith}
+use native.Mathlib.Decide.{decLt}
 use native.Mathlib.Nat.{le-of-suc-le-suc}
 use mathlib.Core.Path.{_≡_, refl, sym, ap, ap₂, _∙_}
 use mathlib.Core.Bool.{Bool, true, false, _&&_, _||_}
@@ -21,7 +22,7 @@ use Rattle.casefile.specs.Kinds.{Kind, count}
 use Rattle.casefile.specs.Tables.{bindingsOf}
 use Rattle.casefile.proofs.Plans.{bindings-many}
 use Rattle.tables.specs.Facts.{Goal, of-state, of-arrow, noBinding, bindingAt, TypesAre, BindingsAre}
-use Rattle.tables.specs.reading.Cells.{symbolOf, ownOf}
+use Rattle.tables.specs.reading.Cells.{groupOf, symbolOf, ownOf}
 use Rattle.rounds.proofs.shrinking.Counting.{byte-is}
 use Rattle.binding_cases.specs.Judging.{startsAt, StartsAt, FindsStart}
 
@@ -107,6 +108,24 @@ module _ (t flags : List ℕ) (n : ℕ) where
                 let many = bindings-many rs in
                 sym (any-some isStart flags (bindingsOf rs) b noBinding (omega arith) (sym (at .answer rs types bindings (omega arith)) ∙ e));
           }
+
+    -- those behind are of other nonterminals
+    pub start-behind : groupOf t 1 ≤ b → FindsStart t flags n false
+    unfolding isStart
+    start-behind h =
+        record {
+          answer = λ rs types bindings m.
+              let many = bindings-many rs in
+              sym (any-none isStart flags (bindingsOf rs) noBinding (λ i k. by rs types bindings m i (omega arith) (decLt i b)));
+        }
+      where
+        other : (rs : List Record) → BindingsAre rs t → (i : ℕ) → i < count Kind.binding rs → b ≤ i → bindingAt rs i .nonterminal ≡ 0 → ⊥
+        other rs bindings i l k z = let below = bindings .grouped i l .1 in let first = ap (λ f. groupOf t (suc f)) z in omega arith
+
+        by : (rs : List Record) → TypesAre rs t → BindingsAre rs t → n ≡ count Kind.binding rs → (i : ℕ) → i < count Kind.binding rs → Dec (i < b) → startsAt rs flags i ≡ false
+        by rs types bindings m i l (yes k) = none .none-starts rs types bindings m i k
+        by rs types bindings m i l (no k) =
+            ap (λ x. isKept (getD flags i 0) && (x && same (bindingAt rs i .type) (state 0))) (ne-eqb (bindingAt rs i .nonterminal) 0 (other rs bindings i l (omega arith))) ∙ and-no (isKept (getD flags i 0))
 
     pub start-none : n ≤ b → FindsStart t flags n false
     start-none h =

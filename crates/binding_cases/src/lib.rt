@@ -15,6 +15,7 @@ use rounds::shrinking::shrink;
 use rounds::tested::Sizes;
 use rules::first_nodes::fill_firsts;
 use tables::candidates::fill_sets;
+use tables::reading::group_of;
 use tables::reading::own_of;
 use tables::reading::symbol_of;
 use tables::table::fill_table;
@@ -44,12 +45,16 @@ fn starts_at(t: &[u16], flags: &[u8], b: usize) -> bool
     own_of(t, b) == 0
 }
 
-// Whether the start binding is one of the first n and kept.
+// Whether the start binding is one of the n bindings and kept: it is one of those of nonterminal 0, which come first.
 fn start_kept(t: &[u16], flags: &[u8], n: usize) -> bool
     ensures { λ r. ⌜ FindsStart (now (t .entry)) (now (flags .entry)) n r ⌝ }
 {
+    let others = group_of(t, 1);
     let mut b: usize = 0;
     while b < n {
+        if others <= b {
+            return false;
+        }
         if starts_at(t, flags, b) {
             return true;
         }
