@@ -18,6 +18,7 @@ use crate::parts::learn_in;
 use crate::parts::note_in;
 use crate::parts::outlook_on;
 use answers::Outlook;
+use index::layout::HINTS;
 use index::layout::MAX_NODES;
 use index::layout::NO_TARGETS;
 use index::layout::NONE;
@@ -25,6 +26,7 @@ use index::layout::ROW_LIMIT;
 use index::layout::TEST_BASE;
 use index::layout::TEST_CELLS;
 use index::layout::TEST_OWN;
+use index::layout::TEST_USERS;
 use index::layout::TEST_WORDS;
 use index::layout::WORD;
 use index::layout::WORDS_LIMIT;
@@ -307,7 +309,8 @@ fn check_left(t: &[u16], r: &[u32], w: &mut [u32], at: usize, asked: u32, found:
     true
 }
 
-// Some states that the term at a node has, of a set: the ones found before something fails.
+// Some states that the term at a node has, of a set: the ones found before something fails. Of a nonterminal's term none is found where
+// there are no hints.
 fn find_states(t: &[u16], r: &[u32], w: &mut [u32], at: usize, asked: u32) -> u32
     ensures { λ m. ⌜ (length (now (w .exit)) ≡ length (now (w .entry))) × Finds (caseOf (now (t .entry)) (now (r .entry))) (answersOf (now (r .entry)) (now (w .entry))) (usersOf (now (r .entry)) (now (w .entry))) at (answersOf (now (r .entry)) (now (w .exit))) (usersOf (now (r .entry)) (now (w .exit))) m ⌝ }
 {
@@ -316,6 +319,9 @@ fn find_states(t: &[u16], r: &[u32], w: &mut [u32], at: usize, asked: u32) -> u3
     }
     let node = node_of(t, number_in(r, TEST_BASE), at);
     if node.tag == 1 {
+        if number_in(r, TEST_USERS) < HINTS {
+            return 0;
+        }
         return find_bound(&*t, &*r, w, at, asked, node);
     }
     if node.tag == 2 {

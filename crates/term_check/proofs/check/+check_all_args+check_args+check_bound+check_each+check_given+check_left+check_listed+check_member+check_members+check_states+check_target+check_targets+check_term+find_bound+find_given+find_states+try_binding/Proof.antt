@@ -1136,14 +1136,20 @@ find-states-number-in-requires t c κs = search needs
 find-states-node-of-requires : (t : ℕ) → find-states-lts.Need-node-of-requires (find-states-claims t) (find-states-at t) find-states.Post
 find-states-node-of-requires t c κs = search needs
 
+find-states-number-in-requires-2 : (t : ℕ) → find-states-lts.Need-number-in-requires-2 (find-states-claims t) (find-states-at t) find-states.Post
+find-states-number-in-requires-2 t c κs = search needs
+
+find-states-returns-2 : (t : ℕ) → find-states-lts.Need-returns-2 (find-states-claims t) (find-states-at t) find-states.Post
+find-states-returns-2 t c = (refl, finds-none _ _ _ _)
+
 find-states-find-bound-requires : (t : ℕ) → find-states-lts.Need-find-bound-requires (find-states-claims t) (find-states-at t) find-states.Post
-find-states-find-bound-requires t c κs = let p = c .before .before .before .before .before .before .before .before .before .pre .0 in let h = c .before .before .before .before .before .if1 .left in (omega arith, omega arith)
+find-states-find-bound-requires t c κs = let p = c .before .before .before .before .before .before .before .before .before .before .before .pre .0 in let h = c .before .before .before .before .before .before .before .if1 .left in (omega arith, omega arith)
 
 find-states-same-length : (t : ℕ) → find-states-lts.Need-same-length (find-states-claims t) (find-states-at t) find-states.Post
 find-states-same-length t c = c .before .before .find-bound .ensures .0
 
-find-states-returns-2 : (t : ℕ) → find-states-lts.Need-returns-2 (find-states-claims t) (find-states-at t) find-states.Post
-find-states-returns-2 t c = (c .before .before .find-bound .ensures .0, c .before .before .find-bound .ensures .1 (node-by _ (now (c .before .before .before .before .before .before .before .before .before .before .before .before .args .r)) _ _ _ (c .before .before .before .before .before .before .before .number-in .ensures .0) (c .before .before .before .before .before .before .node-of .ensures)) (c .before .before .before .before .if2 .taken))
+find-states-returns-3 : (t : ℕ) → find-states-lts.Need-returns-3 (find-states-claims t) (find-states-at t) find-states.Post
+find-states-returns-3 t c = (c .before .before .find-bound .ensures .0, c .before .before .find-bound .ensures .1 (node-by _ (now (c .before .before .before .before .before .before .before .before .before .before .before .before .before .before .args .r)) _ _ _ (c .before .before .before .before .before .before .before .before .before .number-in .ensures .0) (c .before .before .before .before .before .before .before .before .node-of .ensures)) (c .before .before .before .before .before .before .if2 .taken))
 
 find-states-find-given-requires : (t : ℕ) → find-states-lts.Need-find-given-requires (find-states-claims t) (find-states-at t) find-states.Post
 find-states-find-given-requires t c κs = let p = c .before .before .before .before .before .before .before .before .before .before .before .pre .0 in let h = c .before .before .before .before .before .before .before .if1 .left in (omega arith, omega arith)
@@ -1151,11 +1157,11 @@ find-states-find-given-requires t c κs = let p = c .before .before .before .bef
 find-states-same-length-2 : (t : ℕ) → find-states-lts.Need-same-length-2 (find-states-claims t) (find-states-at t) find-states.Post
 find-states-same-length-2 t c = c .before .before .find-given .ensures .0
 
-find-states-returns-3 : (t : ℕ) → find-states-lts.Need-returns-3 (find-states-claims t) (find-states-at t) find-states.Post
-find-states-returns-3 t c = (c .before .before .find-given .ensures .0, c .before .before .find-given .ensures .1 (node-by _ (now (c .before .before .before .before .before .before .before .before .before .before .before .before .before .before .args .r)) _ _ _ (c .before .before .before .before .before .before .before .before .before .number-in .ensures .0) (c .before .before .before .before .before .before .before .before .node-of .ensures)) (λ e. let h = c .before .before .before .before .if3 .taken in omega arith) (c .before .before .before .before .before .before .if2 .left))
-
 find-states-returns-4 : (t : ℕ) → find-states-lts.Need-returns-4 (find-states-claims t) (find-states-at t) find-states.Post
-find-states-returns-4 t c = (refl, finds-none _ _ _ _)
+find-states-returns-4 t c = (c .before .before .find-given .ensures .0, c .before .before .find-given .ensures .1 (node-by _ (now (c .before .before .before .before .before .before .before .before .before .before .before .before .before .before .args .r)) _ _ _ (c .before .before .before .before .before .before .before .before .before .number-in .ensures .0) (c .before .before .before .before .before .before .before .before .node-of .ensures)) (λ e. let h = c .before .before .before .before .if4 .taken in omega arith) (c .before .before .before .before .before .before .if2 .left))
+
+find-states-returns-5 : (t : ℕ) → find-states-lts.Need-returns-5 (find-states-claims t) (find-states-at t) find-states.Post
+find-states-returns-5 t c = (refl, finds-none _ _ _ _)
 
 try-binding-candidate-requires : (t : ℕ) → try-binding-lts.Need-candidate-requires (try-binding-claims t) (try-binding-at t) try-binding.Post
 try-binding-candidate-requires t c κs = search needs
@@ -1501,13 +1507,15 @@ pub +check-all-args+check-args+check-bound+check-each+check-given+check-left+che
     (find-states-returns t)
     (find-states-number-in-requires t)
     (find-states-node-of-requires t)
+    (find-states-number-in-requires-2 t)
+    (find-states-returns-2 t)
     (find-states-find-bound-requires t)
     (find-states-same-length t)
-    (find-states-returns-2 t)
+    (find-states-returns-3 t)
     (find-states-find-given-requires t)
     (find-states-same-length-2 t)
-    (find-states-returns-3 t)
-    (find-states-returns-4 t))
+    (find-states-returns-4 t)
+    (find-states-returns-5 t))
     λ t. try-binding-lts.spec (try-binding-claims t)
     (try-binding-at t)
     try-binding.Post
