@@ -233,7 +233,8 @@ pub const GROUPS_AT: usize = ARITIES_AT + MAX_CONSTRUCTORS;
 
 // Then rows, by number. A goal is a state by its number, or an arrow by the number of its type behind the states. Row g has of goal g
 // the result, the final state, the states among its members as bits, how many members are arrows, how many there are; the goal that
-// is the type with that row; row b has the nonterminal of binding b and its type as a goal; at the end the members of goal g.
+// is the type with that row; row b has the nonterminal of binding b and its type as a goal; the word in which all members of goal g
+// stand, and their bits there in two halves; at the end the members of goal g.
 pub const ROWS_AT: usize = GROUPS_AT + ROWS;
 
 pub const RESULT: usize = 0;
@@ -252,7 +253,13 @@ pub const SYMBOL: usize = 6;
 
 pub const OWN: usize = 7;
 
-pub const MEMBERS: usize = 8;
+pub const NEAR: usize = 8;
+
+pub const LOW: usize = 9;
+
+pub const HIGH: usize = 10;
+
+pub const MEMBERS: usize = 11;
 
 pub const ROW_CELLS: usize = MEMBERS + MAX_MEMBERS;
 

@@ -83,7 +83,12 @@ adds w k =
           let p : 2 ^ k < 2 ^ 16 = pow-lt l in
           let e : shifted (k % 32) ≡ 2 ^ k = ap shifted low ∙ shifted-is k (omega arith) in
           subst (λ x. bitOr w x < 65536) (sym e) (or-lt 16 w (2 ^ k) h p);
+      fits = λ h.
+          let l : k % 32 < 32 = omega arith in
+          let p : 2 ^ (k % 32) < 2 ^ 32 = pow-lt l in
+          subst (λ x. bitOr w x < 4294967296) (sym (shifted-is (k % 32) (omega arith))) (or-lt 32 w (2 ^ (k % 32)) h p);
       put = λ l. subst (λ j. bitOf j (bitOr w (shifted (k % 32))) ≡ 1) (low l) (put-same w (k % 32) (omega arith));
+      turned = put-same w (k % 32) (omega arith);
       grows = λ q h. put-grows w (k % 32) (omega arith) q h;
       only = λ l q h. subst (λ j. (bitOf q w ≡ 1) ⊎ (q ≡ j)) (low l) (put-only w (k % 32) (omega arith) q h);
     }

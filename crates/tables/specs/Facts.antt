@@ -14,9 +14,9 @@ use Rattle.scheme.specs.Flags.{isKept}
 use Rattle.casefile.specs.Records.{Record}
 use Rattle.casefile.specs.Kinds.{Kind, count}
 use Rattle.casefile.specs.Tables.{typesOf, bindingsOf, stateCount, transitionsOf, targetsAt}
-use Rattle.index.specs.layout.Layout.{maxStates, maxNodes, maxMembers, maxConstructors, maxGoals, noNumber}
+use Rattle.index.specs.layout.Layout.{maxStates, maxNodes, maxMembers, maxConstructors, maxGoals, wordBits, noNumber}
 use Rattle.marks.specs.Marks.{bitOf, In}
-use Rattle.tables.specs.reading.Cells.{resultOf, endOf, statesOf, arrowsOf, manyOf, memberOf, symbolOf, ownOf, groupOf, presentOf, arityOf, targetsOf, nodeAt}
+use Rattle.tables.specs.reading.Cells.{resultOf, endOf, statesOf, arrowsOf, manyOf, memberOf, nearOf, maskOf, symbolOf, ownOf, groupOf, presentOf, arityOf, targetsOf, nodeAt}
 
 -- the number g stands for a type as a goal: a state by its number, an arrow by the number of its type behind the states
 pub data Goal (rs : List Record) (g : ℕ) (τ : Ty) : Type 0 where
@@ -40,6 +40,7 @@ pub record ArrowRow (rs : List Record) (t : List ℕ) (g : ℕ) (a : Tys) (r : T
   pub states-in : (q : ℕ) → q < maxStates → bitOf q (statesOf t g) ≡ 1 → List·Memᴰ (state q) (members a)
   pub states-out : (q : ℕ) → List·Memᴰ (state q) (members a) → bitOf q (statesOf t g) ≡ 1
   pub pure : arrowsOf t g ≡ 0 → (b : Tys) (s : Ty) → List·Memᴰ (arrow b s) (members a) → ⊥
+  pub near : (nearOf t g ≡ noNumber → ⊥) → (j : ℕ) → j < length (members a) → (memberOf t g j / wordBits ≡ nearOf t g) × (bitOf (memberOf t g j % wordBits) (maskOf t g) ≡ 1)
 
 -- the rows of states and arrows; two goals with the same number are the same type, and no two have the number of another
 pub record TypesAre (rs : List Record) (t : List ℕ) : Type 0 where

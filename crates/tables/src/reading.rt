@@ -4,6 +4,8 @@ use index::layout::ARITIES_AT;
 use index::layout::ARROWS;
 use index::layout::END;
 use index::layout::GROUPS_AT;
+use index::layout::HIGH;
+use index::layout::LOW;
 use index::layout::MANY;
 use index::layout::MAX_CONSTRUCTORS;
 use index::layout::MAX_MEMBERS;
@@ -11,6 +13,7 @@ use index::layout::MAX_NODES;
 use index::layout::MAX_STATES;
 use index::layout::MEMBER_STATES;
 use index::layout::MEMBERS;
+use index::layout::NEAR;
 use index::layout::NEXT;
 use index::layout::NODE_CELLS;
 use index::layout::NONE;
@@ -26,7 +29,7 @@ use index::layout::SYMBOL;
 use index::layout::TARGETS_AT;
 ghost use mathlib.Core.Path.{_≡_};
 ghost use Prim.Native.Nat.{_<_};
-ghost use Rattle.tables.specs.reading.Cells.{rowAt, resultOf, endOf, statesOf, arrowsOf, manyOf, memberOf, symbolOf, ownOf, groupOf, offOf, presentOf, arityOf, targetsOf, nodeAt};
+ghost use Rattle.tables.specs.reading.Cells.{rowAt, resultOf, endOf, statesOf, arrowsOf, manyOf, memberOf, nearOf, maskOf, symbolOf, ownOf, groupOf, offOf, presentOf, arityOf, targetsOf, nodeAt};
 
 // A node: its tag, how many arguments it has, its number, and the node behind its term.
 pub struct Node {
@@ -86,6 +89,22 @@ pub fn member_of(t: &[u16], goal: usize, j: usize) -> usize
         t,
         ROWS_AT + goal % ROW_LIMIT * ROW_CELLS + (MEMBERS + j % MAX_MEMBERS),
     )
+}
+
+// The word in which all members of a goal stand as goals; NONE where they stand in more than one.
+pub fn near_of(t: &[u16], goal: usize) -> usize
+    ensures { λ r. ⌜ (r ≡ nearOf (now (t .entry)) goal) × (r < 65536) ⌝ }
+{
+    place_at(t, ROWS_AT + goal % ROW_LIMIT * ROW_CELLS + NEAR)
+}
+
+// The bits of the members of a goal in that word.
+pub fn mask_of(t: &[u16], goal: usize) -> u32
+    ensures { λ r. ⌜ r ≡ maskOf (now (t .entry)) goal ⌝ }
+{
+    let low = place_at(t, ROWS_AT + goal % ROW_LIMIT * ROW_CELLS + LOW);
+    let high = place_at(t, ROWS_AT + goal % ROW_LIMIT * ROW_CELLS + HIGH);
+    low as u32 + 65536 * high as u32
 }
 
 // The nonterminal of a binding.

@@ -8,6 +8,8 @@ use index::layout::ARROWS;
 use index::layout::BINDINGS_AT;
 use index::layout::END;
 use index::layout::GOAL;
+use index::layout::HIGH;
+use index::layout::LOW;
 use index::layout::MANY;
 use index::layout::MAX_BINDINGS;
 use index::layout::MAX_STATES;
@@ -15,6 +17,7 @@ use index::layout::MAX_TYPE;
 use index::layout::MAX_TYPES;
 use index::layout::MEMBER_STATES;
 use index::layout::MEMBERS;
+use index::layout::NEAR;
 use index::layout::NONE;
 use index::layout::OWN;
 use index::layout::RESULT;
@@ -23,13 +26,14 @@ use index::layout::ROW_LIMIT;
 use index::layout::ROWS_AT;
 use index::layout::SYMBOL;
 use index::layout::TYPES_AT;
+use index::layout::WORD;
 use records::fields::byte_at;
 use records::fields::length_at;
 use records::fields::word_at;
 ghost use mathlib.Core.Path.{_≡_};
 ghost use Prim.Native.Nat.{_<_, _≤_};
 ghost use Rattle.index.specs.layout.Layout.{maxTypes, maxMembers};
-ghost use Rattle.tables.specs.types.Rows.{rowOf, goalOf, Room, FillsStates, CountsMembers, AddsMember, FillsMembers, FillsArrow, FillsType, FillsTypes, FillsBindings};
+ghost use Rattle.tables.specs.types.Rows.{rowOf, goalOf, Room, FillsStates, CountsMembers, NearWith, AddsMember, FillsMembers, FillsArrow, FillsType, FillsTypes, FillsBindings};
 
 // The goal that type m is.
 fn goal_of(t: &[u16], m: usize) -> usize
@@ -66,38 +70,62 @@ fn members_in(len: usize) -> usize
     (len - 2) / 2
 }
 
-// What there is among members: the states as bits, and how many arrows.
+// What there is among members: the states as bits, and how many arrows; the word in which all of them stand as goals, and their bits
+// there.
 struct Among {
     states: u32,
     arrows: usize,
+    near: usize,
+    mask: u32,
+}
+
+// The word in which members stand, and one more; NONE for more than one word.
+fn near_with(near: usize, mask: u32, member: usize) -> usize
+    ensures { λ r. ⌜ NearWith near mask member r ⌝ }
+{
+    if mask == 0 {
+        return member / WORD;
+    }
+    if member / WORD == near {
+        return near;
+    }
+    NONE
 }
 
 // What there is among members, and one more.
 fn with_member(among: Among, member: usize) -> Among
     requires { ⌜ among .arrows < maxMembers ⌝ }
-    ensures { λ r. ⌜ AddsMember (among .states) (among .arrows) member (r .states) (r .arrows) ⌝ }
+    ensures { λ r. ⌜ AddsMember among member r ⌝ }
 {
+    let near = near_with(among.near, among.mask, member);
+    let mask = with_bit(among.mask, member);
     if member < MAX_STATES {
         return Among {
             states: with_bit(among.states, member),
             arrows: among.arrows,
+            near,
+            mask,
         };
     }
     Among {
         states: among.states,
         arrows: among.arrows + 1,
+        near,
+        mask,
     }
 }
 
 // Enters the members of type m, an arrow whose payload begins at a place and whose row is there, and returns what there is among them.
 fn fill_members(file: &[u8], start: usize, many: usize, m: usize, t: &mut [u16]) -> Among
     requires { ⌜ (start < 65536) × (many ≤ maxMembers) × (m < maxTypes) × Room (rowOf m) (now t) ⌝ }
-    ensures { λ r. ⌜ FillsMembers (now (file .entry)) start many m (now (t .entry)) (now (t .exit)) (r .states) (r .arrows) ⌝ }
+    ensures { λ r. ⌜ FillsMembers (now (file .entry)) start many m (now (t .entry)) (now (t .exit)) r ⌝ }
 {
     let row = row_at(MAX_STATES + m);
     let mut among = Among {
         states: 0,
         arrows: 0,
+        near: 0,
+        mask: 0,
     };
     let mut j: usize = 0;
     while j < many {
@@ -124,6 +152,9 @@ fn fill_arrow(file: &[u8], start: usize, len: usize, m: usize, t: &mut [u16])
     t[row + MEMBER_STATES] = among.states as u16;
     t[row + ARROWS] = among.arrows as u16;
     t[row + MANY] = many as u16;
+    t[row + NEAR] = among.near as u16;
+    t[row + LOW] = (among.mask % 65536) as u16;
+    t[row + HIGH] = (among.mask / 65536) as u16;
 }
 
 // Enters the row of type m, where the table has it.

@@ -195,11 +195,20 @@ symbolCell = 6
 abbrev pub ownCell : ℕ
 ownCell = 7
 
+abbrev pub nearCell : ℕ
+nearCell = 8
+
+abbrev pub lowCell : ℕ
+lowCell = 9
+
+abbrev pub highCell : ℕ
+highCell = 10
+
 abbrev pub membersCell : ℕ
-membersCell = 8
+membersCell = 11
 
 abbrev pub rowCells : ℕ
-rowCells = 24
+rowCells = 27
 
 abbrev pub rowLimit : ℕ
 rowLimit = 2048

@@ -1,6 +1,6 @@
 -- The rows of states, types and bindings as they are filled, one after another. A row is entered by stores of its cells; each store leaves all
 -- other cells as they were, so what is so of an earlier row stays so.
-use Prim.Native.Nat.{ℕ, _+_, _-_, _*_, _%_, _<_, _≤_}
+use Prim.Native.Nat.{ℕ, _+_, _-_, _*_, _/_, _%_, _<_, _≤_}
 use native.Mathlib.Omega.{arith}
 use native.Mathlib.Decide.{decLt, ℕ-discrete}
 use mathlib.Core.Path.{_≡_, refl, sym, ap, subst, _∙_}
@@ -10,14 +10,15 @@ use lib.ListN.{length, getD, set}
 use lib.Seq.{getD-set-same, getD-set-other}
 use Rattle.casefile.specs.Fields.{byte, word}
 use Rattle.records.specs.fields.Promises.{HasLength}
-use Rattle.index.specs.layout.Layout.{maxStates, maxTypes, maxBindings, maxMembers, typesAt, bindingsAt, rowsAt, rowCells, goalCell, symbolCell, ownCell, membersCell}
+use Rattle.index.specs.layout.Layout.{maxStates, maxTypes, maxBindings, maxMembers, typesAt, bindingsAt, rowsAt, rowCells, goalCell, symbolCell, ownCell, nearCell, lowCell, highCell, membersCell, wordBits, noNumber}
 use Rattle.index.specs.enter.Entering.{stored}
 use Rattle.marks.specs.Marks.{bitOf}
 use Rattle.marks.proofs.Bits.{zero-bit}
 use Rattle.tables.specs.Facts.{StateRow}
 use Rattle.tables.specs.Frames.{Within, Adds}
-use Rattle.tables.specs.reading.Cells.{rowAt, cellOf, endOf, memberOf, symbolOf, ownOf}
-use Rattle.tables.specs.types.Rows.{rowOf, goalOf, memberIn, Room, FillsStates, CountsMembers, FillsMembers, StatesAmong, ArrowsAmong, AddsMember, ArrowSays, Low, FillsArrow, TypeSays, FillsType, FillsTypes, FillsBindings}
+use Rattle.tables.specs.declared.types.Among.{Among}
+use Rattle.tables.specs.reading.Cells.{rowAt, cellOf, endOf, memberOf, maskOf, symbolOf, ownOf}
+use Rattle.tables.specs.types.Rows.{rowOf, goalOf, memberIn, Room, FillsStates, CountsMembers, FillsMembers, StatesAmong, ArrowsAmong, NearAmong, NearWith, AddsMember, ArrowSays, Low, FillsArrow, TypeSays, FillsType, FillsTypes, FillsBindings}
 use Rattle.tables.proofs.Frames.{Put, within-none, within-then, within-wider, store-long, store-here, store-other, within-store, within-set, stores, row-apart, column-apart, other-row}
 
 -- The states.
@@ -70,12 +71,15 @@ module _ {before : List ℕ} {q : ℕ} {t : List ℕ} (so : StatesTo before q t)
   pub states-all : maxStates ≤ q → FillsStates before t
   states-all h = record { within = so .within; rows = λ l p k. so .rows l p (omega arith) }
 
--- The states among members, and how many are arrows: none yet, and one member more.
+-- The states among members, how many are arrows, and where all stand: none yet, and one member more.
 among-none : {t : List ℕ} {g : ℕ} → StatesAmong t g 0 0
 among-none = record { small = omega arith; in-set = λ j h. absurd (omega arith); only = λ q e. absurd (let z = zero-bit q in omega arith) }
 
 arrows-none : {t : List ℕ} {g : ℕ} → ArrowsAmong t g 0 0
 arrows-none = record { few = omega arith; none = λ e j h. absurd (omega arith) }
+
+near-none : {t : List ℕ} {g : ℕ} → NearAmong t g 0 0 0
+near-none = record { small = omega arith; fits = omega arith; none = λ e. refl; word = λ n j h. absurd (omega arith); bit = λ j h. absurd (omega arith) }
 
 module _ {t : List ℕ} {g j r : ℕ} (so : StatesAmong t g j r) (x : ℕ) (ex : memberOf t g j ≡ x) where
   among-put : x < maxStates → (r′ : ℕ) → Adds r x r′ → StatesAmong t g (j + 1) r′
@@ -107,23 +111,46 @@ module _ {t : List ℕ} {g j r : ℕ} (so : ArrowsAmong t g j r) where
       small e i k (yes z) = subst (λ y. y < maxStates) (ap (memberOf t g) (sym z)) l
       small e i k (no z) = let y : (i ≡ j → ⊥) = z in so .none e i (omega arith)
 
+-- one member more, by the word in which it stands and its bit there; the mask is 0 where there is none before it
+module _ {t : List ℕ} {g j near mask x near′ mask′ : ℕ} (small : x < 65536) (is : NearWith near mask x near′) (bits : Adds mask x mask′) (ex : memberOf t g j ≡ x) where
+  add-near : NearAmong t g j near mask → NearAmong t g (j + 1) near′ mask′
+  add-near so =
+      record {
+        small = is .small small;
+        fits = bits .fits (so .fits);
+        none = λ e. absurd (let z : bitOf (x % wordBits) 0 ≡ 1 = subst (λ w. bitOf (x % wordBits) w ≡ 1) e (bits .turned) in let y = zero-bit (x % wordBits) in omega arith);
+        word = λ n i k. stand n i k (ℕ-discrete i j);
+        bit = λ i k. there i k (ℕ-discrete i j);
+      }
+    where
+      stand : (near′ ≡ noNumber → ⊥) → (i : ℕ) → i < j + 1 → Dec (i ≡ j) → memberOf t g i / wordBits ≡ near′
+      stand n i k (yes z) = ap (λ y. y / wordBits) (ap (memberOf t g) z ∙ ex) ∙ is .here n
+      stand n i k (no z) =
+          let y : (i ≡ j → ⊥) = z in
+          let e : near ≡ near′ = is .same n (λ w. let none = so .none w in omega arith) in
+          so .word (λ w. n (sym e ∙ w)) i (omega arith) ∙ e
+
+      there : (i : ℕ) → i < j + 1 → Dec (i ≡ j) → bitOf (memberOf t g i % wordBits) mask′ ≡ 1
+      there i k (yes z) = subst (λ y. bitOf (y % wordBits) mask′ ≡ 1) (sym ex ∙ ap (memberOf t g) (sym z)) (bits .turned)
+      there i k (no z) = let y : (i ≡ j → ⊥) = z in bits .grows (memberOf t g i % wordBits) (so .bit i (omega arith))
+
 -- one member more, by what it is
-module _ {t : List ℕ} {g j states arrows x states′ arrows′ : ℕ} (is : AddsMember states arrows x states′ arrows′) (ex : memberOf t g j ≡ x) where
-  add-states : StatesAmong t g j states → StatesAmong t g (j + 1) states′
+module _ {t : List ℕ} {g j x : ℕ} {among after : Among} (is : AddsMember among x after) (ex : memberOf t g j ≡ x) where
+  add-states : StatesAmong t g j (among .states) → StatesAmong t g (j + 1) (after .states)
   add-states so = by (decLt x maxStates)
     where
-      by : Dec (x < maxStates) → StatesAmong t g (j + 1) states′
-      by (yes l) = among-put so x ex l states′ (is .state l .0)
+      by : Dec (x < maxStates) → StatesAmong t g (j + 1) (after .states)
+      by (yes l) = among-put so x ex l (after .states) (is .state l .0)
       by (no n) = let l : maxStates ≤ x = omega arith in subst (StatesAmong t g (j + 1)) (sym (is .arrow l .0)) (among-pass so x ex l)
 
-  add-arrows : ArrowsAmong t g j arrows → ArrowsAmong t g (j + 1) arrows′
+  add-arrows : ArrowsAmong t g j (among .arrows) → ArrowsAmong t g (j + 1) (after .arrows)
   add-arrows so = by (decLt x maxStates)
     where
-      by : Dec (x < maxStates) → ArrowsAmong t g (j + 1) arrows′
+      by : Dec (x < maxStates) → ArrowsAmong t g (j + 1) (after .arrows)
       by (yes l) = subst (ArrowsAmong t g (j + 1)) (sym (is .state l .1)) (arrows-pass so (omega arith))
       by (no n) = let l : maxStates ≤ x = omega arith in subst (ArrowsAmong t g (j + 1)) (sym (is .arrow l .1)) (arrows-one so)
 
--- the same members have the same states and arrows
+-- the same members have the same states and arrows, and stand in the same word
 module _ {t after : List ℕ} {g many many′ r r′ : ℕ} (same : (j : ℕ) → j < many → memberOf after g j ≡ memberOf t g j) (em : many ≡ many′) (er : r ≡ r′) where
   states-same : StatesAmong t g many r → StatesAmong after g many′ r′
   states-same s =
@@ -137,24 +164,37 @@ module _ {t after : List ℕ} {g many many′ r r′ : ℕ} (same : (j : ℕ) �
   arrows-same : ArrowsAmong t g many r → ArrowsAmong after g many′ r′
   arrows-same s = let l = s .few in record { few = omega arith; none = λ z j h. subst (λ x. x < maxStates) (sym (same j (omega arith))) (s .none (omega arith) j (omega arith)) }
 
+near-kept : {t after : List ℕ} {g many many′ near near′ mask mask′ : ℕ} → ((j : ℕ) → j < many → memberOf after g j ≡ memberOf t g j) → many ≡ many′ → near ≡ near′ → mask ≡ mask′ → NearAmong t g many near mask → NearAmong after g many′ near′ mask′
+near-kept {t} {after} {g} {many} {many′} {near} {near′} {mask} {mask′} same em en ek s =
+    let l = s .small in
+    let f = s .fits in
+    record {
+      small = omega arith;
+      fits = omega arith;
+      none = λ e. sym em ∙ s .none (ek ∙ e);
+      word = λ n j h. ap (λ x. x / wordBits) (same j (omega arith)) ∙ s .word (λ e. n (sym en ∙ e)) j (omega arith) ∙ en;
+      bit = λ j h. subst (λ x. bitOf (x % wordBits) mask′ ≡ 1) (sym (same j (omega arith))) (subst (λ x. bitOf (memberOf t g j % wordBits) x ≡ 1) ek (s .bit j (omega arith)));
+    }
+
 -- The members of an arrow.
-pub record MembersTo (file : List ℕ) (start many m : ℕ) (before : List ℕ) (j : ℕ) (t : List ℕ) (states arrows : ℕ) : Type 0 where
+pub record MembersTo (file : List ℕ) (start many m : ℕ) (before : List ℕ) (j : ℕ) (t : List ℕ) (among : Among) : Type 0 where
   pub upTo : j ≤ many
   pub few : many ≤ maxMembers
   pub types : m < maxTypes
   pub room : Room (rowOf m) before
   pub within : Within (rowAt (rowOf m) + membersCell) (rowAt (rowOf m) + rowCells) before t
   pub member : (i : ℕ) → i < j → memberIn file start i < m → memberOf t (rowOf m) i ≡ goalOf before (memberIn file start i)
-  pub count : arrows ≤ j
-  pub states-so : StatesAmong t (rowOf m) j states
-  pub arrows-so : ArrowsAmong t (rowOf m) j arrows
+  pub count : among .arrows ≤ j
+  pub states-so : StatesAmong t (rowOf m) j (among .states)
+  pub arrows-so : ArrowsAmong t (rowOf m) j (among .arrows)
+  pub near-so : NearAmong t (rowOf m) j (among .near) (among .mask)
 
-pub members-none : {file : List ℕ} {start many m : ℕ} {before : List ℕ} → many ≤ maxMembers → m < maxTypes → Room (rowOf m) before → MembersTo file start many m before 0 before 0 0
-members-none few types room = record { upTo = omega arith; few = few; types = types; room = room; within = within-none; member = λ i h. absurd (omega arith); count = omega arith; states-so = among-none; arrows-so = arrows-none }
+pub members-none : {file : List ℕ} {start many m : ℕ} {before : List ℕ} → many ≤ maxMembers → m < maxTypes → Room (rowOf m) before → MembersTo file start many m before 0 before (record { states = 0; arrows = 0; near = 0; mask = 0 })
+members-none few types room = record { upTo = omega arith; few = few; types = types; room = room; within = within-none; member = λ i h. absurd (omega arith); count = omega arith; states-so = among-none; arrows-so = arrows-none; near-so = near-none }
 
-module _ {file : List ℕ} {start many m : ℕ} {before : List ℕ} {j : ℕ} {t : List ℕ} {states arrows : ℕ} (so : MembersTo file start many m before j t states arrows) where
-  pub members-more : j < many → (row w goal : ℕ) → row ≡ rowAt (rowOf m) → w ≡ memberIn file start j → goal ≡ goalOf t w → {states′ arrows′ : ℕ} → AddsMember states arrows goal states′ arrows′ → MembersTo file start many m before (j + 1) (set t (row + (membersCell + j)) goal) states′ arrows′
-  members-more h row w goal er ew eg is =
+module _ {file : List ℕ} {start many m : ℕ} {before : List ℕ} {j : ℕ} {t : List ℕ} {among : Among} (so : MembersTo file start many m before j t among) where
+  pub members-more : j < many → (row w goal : ℕ) → row ≡ rowAt (rowOf m) → w ≡ memberIn file start j → goal ≡ goalOf t w → goal < 65536 → {among′ : Among} → AddsMember among goal among′ → MembersTo file start many m before (j + 1) (set t (row + (membersCell + j)) goal) among′
+  members-more h row w goal er ew eg small is =
       record {
         upTo = omega arith;
         few = so .few;
@@ -165,6 +205,7 @@ module _ {file : List ℕ} {start many m : ℕ} {before : List ℕ} {j : ℕ} {t
         count = omega (arith, is .few, so .count);
         states-so = add-states is (new j refl) (states-same old refl refl (so .states-so));
         arrows-so = add-arrows is (new j refl) (arrows-same old refl refl (so .arrows-so));
+        near-so = add-near small (is .near) (is .mask) (new j refl) (near-kept old refl refl refl (so .near-so));
       }
     where
       after : List ℕ
@@ -187,7 +228,7 @@ module _ {file : List ℕ} {start many m : ℕ} {before : List ℕ} {j : ℕ} {t
           apart : w < m → rowAt (rowOf m) + membersCell ≤ rowAt (rowOf w) + goalCell → rowAt (rowOf w) + goalCell < rowAt (rowOf m) + rowCells → ⊥
           apart b x y = omega (arith, so .types)
 
-  pub members-all : many ≤ j → FillsMembers file start many m before t states arrows
+  pub members-all : many ≤ j → FillsMembers file start many m before t among
   members-all h =
       let u = so .upTo in
       let e : j ≡ many = omega arith in
@@ -196,6 +237,7 @@ module _ {file : List ℕ} {start many m : ℕ} {before : List ℕ} {j : ℕ} {t
         member = λ i k. so .member i (omega arith);
         states-so = states-same (λ i k. refl) e refl (so .states-so);
         arrows-so = arrows-same (λ i k. refl) e refl (so .arrows-so);
+        near-so = near-kept (λ i k. refl) e refl refl (so .near-so);
       }
 
 -- The bindings.
@@ -275,33 +317,40 @@ module _ {file index : List ℕ} {bindings : ℕ} {before : List ℕ} {b : ℕ} 
 
 -- The row of an arrow.
 module _ {file : List ℕ} {start len m : ℕ} {t : List ℕ} (types : m < maxTypes) (room : Room (rowOf m) t) where
-  pub arrow-filled : (row w result end many : ℕ) → row ≡ rowAt (rowOf m) → w ≡ word file start → result ≡ goalOf t w → result < 65536 → end ≡ endOf t result → end < 65536 → CountsMembers len many → {d : List ℕ} {states arrows : ℕ} → FillsMembers file start many m t d states arrows
-      → FillsArrow file start len m t (set (set (set (set (set d (row + 0) result) (row + 1) end) (row + 2) states) (row + 3) arrows) (row + 4) many)
-  arrow-filled row w result end many er ew eg small ee small′ counts {d} {states} {arrows} ms =
+  pub arrow-filled : (row w result end many : ℕ) → row ≡ rowAt (rowOf m) → w ≡ word file start → result ≡ goalOf t w → result < 65536 → end ≡ endOf t result → end < 65536 → CountsMembers len many → {d : List ℕ} {among : Among} → FillsMembers file start many m t d among
+      → FillsArrow file start len m t (set (set (set (set (set (set (set (set d (row + 0) result) (row + 1) end) (row + 2) (among .states)) (row + 3) (among .arrows)) (row + 4) many) (row + nearCell) (among .near)) (row + lowCell) (among .mask % 65536)) (row + highCell) (among .mask / 65536))
+  arrow-filled row w result end many er ew eg small ee small′ counts {d} {among} ms =
       record {
         within = step;
-        goal-same = past (rowAt g + goalCell) (λ k l z. omega arith) ∙ ms .within .outside (rowAt g + goalCell) (λ x y. omega arith);
+        goal-same = past (rowAt g + goalCell) (λ k l z. omega arith) (λ k l z. omega arith) ∙ ms .within .outside (rowAt g + goalCell) (λ x y. omega arith);
         says = λ low.
             let lengths = room-of in
             record {
-              result = λ l. other 0 (omega arith) ∙ other-two 0 (omega arith) ∙ store-other pb (rowAt g + 0) (λ z. omega arith) ∙ store-here pa small (omega arith) ∙ eg ∙ ap (goalOf t) ew ∙ sym (old (rowOf (word file start)) goalCell (omega arith) (omega arith));
+              result = λ l. behind 0 (omega arith) ∙ other 0 (omega arith) ∙ other-two 0 (omega arith) ∙ store-other pb (rowAt g + 0) (λ z. omega arith) ∙ store-here pa small (omega arith) ∙ eg ∙ ap (goalOf t) ew ∙ sym (old (rowOf (word file start)) goalCell (omega arith) (omega arith));
               end = λ l.
                   let lw : w < m = omega arith in
                   let lg = low w lw in
-                  let er′ : result ≡ goalOf f (word file start) = eg ∙ ap (goalOf t) ew ∙ sym (old (rowOf (word file start)) goalCell (omega arith) (omega arith)) in
-                  other 1 (omega arith) ∙ other-two 1 (omega arith) ∙ store-here pb small′ (omega arith) ∙ ee ∙ sym (old result 1 (omega arith) (omega arith)) ∙ ap (endOf f) er′;
-              many = λ x y. store-here pf (omega (arith, counts .few)) (omega arith) ∙ counts .many x y;
+                  let er′ : result ≡ goalOf last (word file start) = eg ∙ ap (goalOf t) ew ∙ sym (old (rowOf (word file start)) goalCell (omega arith) (omega arith)) in
+                  behind 1 (omega arith) ∙ other 1 (omega arith) ∙ other-two 1 (omega arith) ∙ store-here pb small′ (omega arith) ∙ ee ∙ sym (old result 1 (omega arith) (omega arith)) ∙ ap (endOf last) er′;
+              many = λ x y. behind 4 (omega arith) ∙ store-here pf (omega (arith, counts .few)) (omega arith) ∙ counts .many x y;
               member = λ x y j k l. let q = counts .many x y in kept j ∙ ms .member j (omega arith) l ∙ sym (old (rowOf (memberIn file start j)) goalCell (omega arith) (omega arith));
-              states = λ x y. states-same (λ j k. kept j) (counts .many x y) (sym (other 2 (omega arith) ∙ store-other pe (rowAt g + 2) (λ z. omega arith) ∙ store-here pc (ms .states-so .small) (omega arith))) (ms .states-so);
-              arrows = λ x y. arrows-same (λ j k. kept j) (counts .many x y) (sym (other 3 (omega arith) ∙ store-here pe few-arrows (omega arith))) (ms .arrows-so);
+              states = λ x y. states-same (λ j k. kept j) (counts .many x y) (sym (behind 2 (omega arith) ∙ other 2 (omega arith) ∙ store-other pe (rowAt g + 2) (λ z. omega arith) ∙ store-here pc (ms .states-so .small) (omega arith))) (ms .states-so);
+              arrows = λ x y. arrows-same (λ j k. kept j) (counts .many x y) (sym (behind 3 (omega arith) ∙ other 3 (omega arith) ∙ store-here pe few-arrows (omega arith))) (ms .arrows-so);
+              near = λ x y. near-kept (λ j k. kept j) (counts .many x y) (sym near-there) (sym mask-there) (ms .near-so);
             };
       }
     where
       g : ℕ
       g = rowOf m
 
-      few-arrows : arrows < 65536
+      few-arrows : among .arrows < 65536
       few-arrows = omega (arith, counts .few, ms .arrows-so .few)
+
+      low-half : among .mask % 65536 < 65536
+      low-half = omega arith
+
+      high-half : among .mask / 65536 < 65536
+      high-half = omega (arith, ms .near-so .fits)
 
       a : List ℕ
       a = set d (row + 0) result
@@ -310,13 +359,22 @@ module _ {file : List ℕ} {start len m : ℕ} {t : List ℕ} (types : m < maxTy
       b = set a (row + 1) end
 
       c : List ℕ
-      c = set b (row + 2) states
+      c = set b (row + 2) (among .states)
 
       e : List ℕ
-      e = set c (row + 3) arrows
+      e = set c (row + 3) (among .arrows)
 
       f : List ℕ
       f = set e (row + 4) many
+
+      n : List ℕ
+      n = set f (row + nearCell) (among .near)
+
+      o : List ℕ
+      o = set n (row + lowCell) (among .mask % 65536)
+
+      last : List ℕ
+      last = set o (row + highCell) (among .mask / 65536)
 
       pa : Put d (rowAt g + 0) result a
       pa = record { is = stores d (row + 0) result small ∙ ap (λ x. stored d (x + 0) result) er }
@@ -324,20 +382,33 @@ module _ {file : List ℕ} {start len m : ℕ} {t : List ℕ} (types : m < maxTy
       pb : Put a (rowAt g + 1) end b
       pb = record { is = stores a (row + 1) end small′ ∙ ap (λ x. stored a (x + 1) end) er }
 
-      pc : Put b (rowAt g + 2) states c
-      pc = record { is = stores b (row + 2) states (ms .states-so .small) ∙ ap (λ x. stored b (x + 2) states) er }
+      pc : Put b (rowAt g + 2) (among .states) c
+      pc = record { is = stores b (row + 2) (among .states) (ms .states-so .small) ∙ ap (λ x. stored b (x + 2) (among .states)) er }
 
-      pe : Put c (rowAt g + 3) arrows e
-      pe = record { is = stores c (row + 3) arrows few-arrows ∙ ap (λ x. stored c (x + 3) arrows) er }
+      pe : Put c (rowAt g + 3) (among .arrows) e
+      pe = record { is = stores c (row + 3) (among .arrows) few-arrows ∙ ap (λ x. stored c (x + 3) (among .arrows)) er }
 
       pf : Put e (rowAt g + 4) many f
       pf = record { is = stores e (row + 4) many (omega (arith, counts .few)) ∙ ap (λ x. stored e (x + 4) many) er }
 
-      step : Within (rowAt g) (rowAt g + rowCells) t f
+      pn : Put f (rowAt g + nearCell) (among .near) n
+      pn = record { is = stores f (row + nearCell) (among .near) (ms .near-so .small) ∙ ap (λ x. stored f (x + nearCell) (among .near)) er }
+
+      po : Put n (rowAt g + lowCell) (among .mask % 65536) o
+      po = record { is = stores n (row + lowCell) (among .mask % 65536) low-half ∙ ap (λ x. stored n (x + lowCell) (among .mask % 65536)) er }
+
+      pl : Put o (rowAt g + highCell) (among .mask / 65536) last
+      pl = record { is = stores o (row + highCell) (among .mask / 65536) high-half ∙ ap (λ x. stored o (x + highCell) (among .mask / 65536)) er }
+
+      step : Within (rowAt g) (rowAt g + rowCells) t last
       step =
           within-then (within-wider (rowAt g) (rowAt g + rowCells) (omega arith) (omega arith) (ms .within))
           (within-then (within-store pa (omega arith) (omega arith))
-          (within-then (within-store pb (omega arith) (omega arith)) (within-then (within-store pc (omega arith) (omega arith)) (within-then (within-store pe (omega arith) (omega arith)) (within-store pf (omega arith) (omega arith))))))
+          (within-then (within-store pb (omega arith) (omega arith))
+          (within-then (within-store pc (omega arith) (omega arith))
+          (within-then (within-store pe (omega arith) (omega arith))
+          (within-then (within-store pf (omega arith) (omega arith))
+          (within-then (within-store pn (omega arith) (omega arith)) (within-then (within-store po (omega arith) (omega arith)) (within-store pl (omega arith) (omega arith)))))))))
 
       room-of : (rowAt g + rowCells ≤ length d) × (rowAt g + rowCells ≤ length a) × (rowAt g + rowCells ≤ length b) × (rowAt g + rowCells ≤ length c) × (rowAt g + rowCells ≤ length e)
       room-of =
@@ -348,22 +419,45 @@ module _ {file : List ℕ} {start len m : ℕ} {t : List ℕ} (types : m < maxTy
           let le = store-long pe in
           (omega arith, omega arith, omega arith, omega arith, omega arith)
 
+      room-behind : (rowAt g + rowCells ≤ length f) × (rowAt g + rowCells ≤ length n) × (rowAt g + rowCells ≤ length o)
+      room-behind =
+          let le = room-of .4 in
+          let lf = store-long pf in
+          let ln = store-long pn in
+          let lo = store-long po in
+          (omega arith, omega arith, omega arith)
+
+      near-there : cellOf last g nearCell ≡ among .near
+      near-there = let l = room-behind .0 in store-other pl (rowAt g + nearCell) (λ z. omega arith) ∙ store-other po (rowAt g + nearCell) (λ z. omega arith) ∙ store-here pn (ms .near-so .small) (omega arith)
+
+      mask-there : maskOf last g ≡ among .mask
+      mask-there =
+          let (l, l′, l″) = room-behind in
+          let x : cellOf last g lowCell ≡ among .mask % 65536 = store-other pl (rowAt g + lowCell) (λ z. omega arith) ∙ store-here po low-half (omega arith) in
+          let y : cellOf last g highCell ≡ among .mask / 65536 = store-here pl high-half (omega arith) in
+          omega arith
+
       -- earlier rows
-      old : (i k : ℕ) → i < g → k < rowCells → cellOf f i k ≡ cellOf t i k
+      old : (i k : ℕ) → i < g → k < rowCells → cellOf last i k ≡ cellOf t i k
       old i k h l = other-row step i k (omega (arith, types)) (omega (arith, types)) l (λ z. omega arith)
 
-      -- the cells before the last one, those before the last three, the members
+      -- the first five cells, those before the last one of these, those before the last three, the members
+      behind : (k : ℕ) → k < 5 → cellOf last g k ≡ cellOf f g k
+      behind k l = store-other pl (rowAt g + k) (λ z. omega arith) ∙ store-other po (rowAt g + k) (λ z. omega arith) ∙ store-other pn (rowAt g + k) (λ z. omega arith)
+
       other : (k : ℕ) → k < 4 → cellOf f g k ≡ cellOf e g k
       other k l = store-other pf (rowAt g + k) (λ z. omega arith)
 
       other-two : (k : ℕ) → k < 2 → cellOf e g k ≡ cellOf b g k
       other-two k l = store-other pe (rowAt g + k) (λ z. omega arith) ∙ store-other pc (rowAt g + k) (λ z. omega arith)
 
-      past : (i : ℕ) → ((k : ℕ) → k < 5 → i ≡ rowAt g + k → ⊥) → getD f i 0 ≡ getD d i 0
-      past i ne = store-other pf i (ne 4 (omega arith)) ∙ store-other pe i (ne 3 (omega arith)) ∙ store-other pc i (ne 2 (omega arith)) ∙ store-other pb i (ne 1 (omega arith)) ∙ store-other pa i (ne 0 (omega arith))
+      past : (i : ℕ) → ((k : ℕ) → k < 5 → i ≡ rowAt g + k → ⊥) → ((k : ℕ) → k < 3 → i ≡ rowAt g + (nearCell + k) → ⊥) → getD last i 0 ≡ getD d i 0
+      past i ne ne′ =
+          store-other pl i (ne′ 2 (omega arith)) ∙ store-other po i (ne′ 1 (omega arith)) ∙ store-other pn i (ne′ 0 (omega arith)) ∙ store-other pf i (ne 4 (omega arith)) ∙ store-other pe i (ne 3 (omega arith))
+          ∙ store-other pc i (ne 2 (omega arith)) ∙ store-other pb i (ne 1 (omega arith)) ∙ store-other pa i (ne 0 (omega arith))
 
-      kept : (j : ℕ) → memberOf f g j ≡ memberOf d g j
-      kept j = past (rowAt g + (membersCell + j % maxMembers)) (λ k l z. omega arith)
+      kept : (j : ℕ) → memberOf last g j ≡ memberOf d g j
+      kept j = past (rowAt g + (membersCell + j % maxMembers)) (λ k l z. omega arith) (λ k l z. omega arith)
 
 -- The row of a type.
 pub type-far : {file index : List ℕ} {m : ℕ} {t : List ℕ} (row : ℕ) → row ≡ rowAt (rowOf m) → length t < row + rowCells → FillsType file index m t t
@@ -428,10 +522,14 @@ module _ {i m : ℕ} (t after : List ℕ) (h : i < m) (same : (g k : ℕ) → g 
         member = λ x y j k l. here (membersCell + j % maxMembers) (omega arith) ∙ s .member x y j k l ∙ sym (goal (memberIn file start j) (omega arith));
         states = λ x y. states-same (λ j k. here (membersCell + j % maxMembers) (omega arith)) refl (sym (here 2 (omega arith))) (s .states x y);
         arrows = λ x y. arrows-same (λ j k. here (membersCell + j % maxMembers) (omega arith)) refl (sym (here 3 (omega arith))) (s .arrows x y);
+        near = λ x y. near-kept (λ j k. here (membersCell + j % maxMembers) (omega arith)) refl (sym (here nearCell (omega arith))) (sym mask) (s .near x y);
       }
     where
       here : (k : ℕ) → k < rowCells → cellOf after (rowOf i) k ≡ cellOf t (rowOf i) k
       here k l = same (rowOf i) k (omega arith) l
+
+      mask : maskOf after (rowOf i) ≡ maskOf t (rowOf i)
+      mask = let x = here lowCell (omega arith) in let y = here highCell (omega arith) in omega arith
 
       goal : (w : ℕ) → w < m → goalOf after w ≡ goalOf t w
       goal w l = same (rowOf w) goalCell (omega arith) (omega arith)

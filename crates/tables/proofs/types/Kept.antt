@@ -1,5 +1,5 @@
 -- What the table says of types and bindings stays so while the cells that it rests on stay.
-use Prim.Native.Nat.{ℕ, suc, _+_, _%_, _<_}
+use Prim.Native.Nat.{ℕ, suc, _+_, _/_, _%_, _<_}
 use native.Mathlib.Omega.{arith}
 use mathlib.Core.Path.{_≡_, sym, ap, subst, _∙_}
 use mathlib.Core.List.{List}
@@ -7,16 +7,19 @@ use lib.ListN.{getD}
 use Rattle.scheme.specs.Types.{Ty, state, Tys, members}
 use Rattle.casefile.specs.Records.{Record}
 use Rattle.casefile.specs.Kinds.{Kind, count}
-use Rattle.index.specs.layout.Layout.{maxStates, maxMembers, rowsSize, rowCells, symbolCell, ownCell, membersCell}
+use Rattle.index.specs.layout.Layout.{maxStates, maxMembers, rowsSize, rowCells, symbolCell, ownCell, nearCell, lowCell, highCell, membersCell, wordBits}
 use Rattle.marks.specs.Marks.{bitOf}
 use Rattle.tables.specs.Facts.{Goal, ArrowRow, TypesAre, bindingAt, BindingsAre}
-use Rattle.tables.specs.reading.Cells.{cellOf, groupOf}
+use Rattle.tables.specs.reading.Cells.{cellOf, nearOf, maskOf, memberOf, groupOf}
 use Rattle.tables.proofs.types.Meaning.{goal-below}
 
 module _ (rs : List Record) (t after : List ℕ) (same : (g k : ℕ) → g < count Kind.type rs + maxStates → k < rowCells → (k ≡ symbolCell → ⊥) → (k ≡ ownCell → ⊥) → cellOf after g k ≡ cellOf t g k) where
-  -- a cell before those of bindings, and a member
+  -- a cell before those of bindings, one behind them, and a member
   front : (g k : ℕ) → g < count Kind.type rs + maxStates → k < symbolCell → cellOf after g k ≡ cellOf t g k
   front g k h l = same g k h (omega arith) (λ z. omega arith) (λ z. omega arith)
+
+  back : (g k : ℕ) → g < count Kind.type rs + maxStates → ownCell < k → k < rowCells → cellOf after g k ≡ cellOf t g k
+  back g k h l m = same g k h m (λ z. omega arith) (λ z. omega arith)
 
   one : (g j : ℕ) → g < count Kind.type rs + maxStates → cellOf after g (membersCell + j % maxMembers) ≡ cellOf t g (membersCell + j % maxMembers)
   one g j h = same g (membersCell + j % maxMembers) h (omega arith) (λ z. omega arith) (λ z. omega arith)
@@ -33,7 +36,16 @@ module _ (rs : List Record) (t after : List ℕ) (same : (g k : ℕ) → g < cou
         states-in = λ q l e. x .states-in q l (subst (λ y. bitOf q y ≡ 1) (front g 2 h (omega arith)) e);
         states-out = λ q m. subst (λ y. bitOf q y ≡ 1) (sym (front g 2 h (omega arith))) (x .states-out q m);
         pure = λ e. x .pure (sym (front g 3 h (omega arith)) ∙ e);
+        near = λ n j l.
+            let (w, b) = x .near (λ e. n (near ∙ e)) j l in
+            (ap (λ y. y / wordBits) (one g j h) ∙ w ∙ sym near, subst (λ y. bitOf (y % wordBits) (maskOf after g) ≡ 1) (sym (one g j h)) (subst (λ y. bitOf (memberOf t g j % wordBits) y ≡ 1) (sym mask) b));
       }
+    where
+      near : nearOf after g ≡ nearOf t g
+      near = back g nearCell h (omega arith) (omega arith)
+
+      mask : maskOf after g ≡ maskOf t g
+      mask = let y = back g lowCell h (omega arith) (omega arith) in let z = back g highCell h (omega arith) (omega arith) in omega arith
 
   pub types-kept : TypesAre rs t → TypesAre rs after
   types-kept x =

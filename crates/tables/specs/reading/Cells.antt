@@ -5,7 +5,7 @@ use mathlib.Core.List.{List}
 use lib.Dec.{eqb}
 use lib.ListN.{getD}
 use Rattle.scheme.specs.Lists.{if_then_else_}
-use Rattle.index.specs.layout.Layout.{maxStates, maxNodes, maxMembers, maxConstructors, groupsAt, rowsAt, rowLimit, rowCells, resultCell, endCell, statesCell, arrowsCell, manyCell, symbolCell, ownCell, membersCell, presentAt, aritiesAt, targetsBase, placeLimit, nodeCells, numberCell, nextCell, noNumber}
+use Rattle.index.specs.layout.Layout.{maxStates, maxNodes, maxMembers, maxConstructors, groupsAt, rowsAt, rowLimit, rowCells, resultCell, endCell, statesCell, arrowsCell, manyCell, symbolCell, ownCell, nearCell, lowCell, highCell, membersCell, presentAt, aritiesAt, targetsBase, placeLimit, nodeCells, numberCell, nextCell, noNumber}
 use Rattle.tables.specs.declared.reading.Node.{Node}
 
 -- where a row begins, and a cell of it
@@ -33,6 +33,13 @@ manyOf t g = cellOf t g manyCell
 
 abbrev pub memberOf : List ℕ → ℕ → ℕ → ℕ
 memberOf t g j = cellOf t g (membersCell + j % maxMembers)
+
+-- the word in which all members of a goal stand as goals, and their bits there
+abbrev pub nearOf : List ℕ → ℕ → ℕ
+nearOf t g = cellOf t g nearCell
+
+abbrev pub maskOf : List ℕ → ℕ → ℕ
+maskOf t g = cellOf t g lowCell + 65536 * cellOf t g highCell
 
 -- the nonterminal of a binding, and its type as a goal
 abbrev pub symbolOf : List ℕ → ℕ → ℕ

@@ -5,11 +5,12 @@ use mathlib.Core.Path.{_≡_}
 use mathlib.Core.List.{List}
 use lib.ListN.{length, getD}
 use Rattle.casefile.specs.Fields.{byte, word}
-use Rattle.index.specs.layout.Layout.{maxStates, maxTypes, maxBindings, maxMembers, typesAt, bindingsAt, rowsAt, rowCells, goalCell, symbolCell, ownCell, membersCell}
+use Rattle.index.specs.layout.Layout.{maxStates, maxTypes, maxBindings, maxMembers, typesAt, bindingsAt, rowsAt, rowCells, goalCell, symbolCell, ownCell, membersCell, wordBits, noNumber}
 use Rattle.marks.specs.Marks.{bitOf}
 use Rattle.tables.specs.Facts.{StateRow}
 use Rattle.tables.specs.Frames.{Within, Adds}
-use Rattle.tables.specs.reading.Cells.{rowAt, cellOf, resultOf, endOf, statesOf, arrowsOf, manyOf, memberOf, symbolOf, ownOf}
+use Rattle.tables.specs.declared.types.Among.{Among}
+use Rattle.tables.specs.reading.Cells.{rowAt, cellOf, resultOf, endOf, statesOf, arrowsOf, manyOf, memberOf, nearOf, maskOf, symbolOf, ownOf}
 
 -- the goal that type m is, and the row of a type
 abbrev pub rowOf : ℕ → ℕ
@@ -47,18 +48,35 @@ pub record ArrowsAmong (t : List ℕ) (g many r : ℕ) : Type 0 where
   pub few : r ≤ many
   pub none : r ≡ 0 → (j : ℕ) → j < many → memberOf t g j < maxStates
 
--- the states among members and how many are arrows, with one member more
-pub record AddsMember (states arrows x states′ arrows′ : ℕ) : Type 0 where
-  pub few : arrows′ ≤ arrows + 1
-  pub state : x < maxStates → Adds states x states′ × (arrows′ ≡ arrows)
-  pub arrow : maxStates ≤ x → (states′ ≡ states) × (arrows′ ≡ arrows + 1)
+-- the word in which all of the first members of a goal stand, where it is a number, and the bits of them all
+pub record NearAmong (t : List ℕ) (g many near mask : ℕ) : Type 0 where
+  pub small : near < 65536
+  pub fits : mask < 4294967296
+  pub none : mask ≡ 0 → many ≡ 0
+  pub word : (near ≡ noNumber → ⊥) → (j : ℕ) → j < many → memberOf t g j / wordBits ≡ near
+  pub bit : (j : ℕ) → j < many → bitOf (memberOf t g j % wordBits) mask ≡ 1
 
--- the members of type m, the states among them and how many are arrows
-pub record FillsMembers (file : List ℕ) (start many m : ℕ) (before after : List ℕ) (states arrows : ℕ) : Type 0 where
+-- the word in which members stand, with one member more; the mask says whether there are any before it
+pub record NearWith (near mask x r : ℕ) : Type 0 where
+  pub small : x < 65536 → r < 65536
+  pub here : (r ≡ noNumber → ⊥) → x / wordBits ≡ r
+  pub same : (r ≡ noNumber → ⊥) → (mask ≡ 0 → ⊥) → near ≡ r
+
+-- what there is among members, with one member more
+pub record AddsMember (among : Among) (x : ℕ) (after : Among) : Type 0 where
+  pub few : after .arrows ≤ among .arrows + 1
+  pub state : x < maxStates → Adds (among .states) x (after .states) × (after .arrows ≡ among .arrows)
+  pub arrow : maxStates ≤ x → (after .states ≡ among .states) × (after .arrows ≡ among .arrows + 1)
+  pub near : NearWith (among .near) (among .mask) x (after .near)
+  pub mask : Adds (among .mask) x (after .mask)
+
+-- the members of type m, and what there is among them
+pub record FillsMembers (file : List ℕ) (start many m : ℕ) (before after : List ℕ) (among : Among) : Type 0 where
   pub within : Within (rowAt (rowOf m) + membersCell) (rowAt (rowOf m) + rowCells) before after
   pub member : (j : ℕ) → j < many → memberIn file start j < m → memberOf after (rowOf m) j ≡ goalOf before (memberIn file start j)
-  pub states-so : StatesAmong after (rowOf m) many states
-  pub arrows-so : ArrowsAmong after (rowOf m) many arrows
+  pub states-so : StatesAmong after (rowOf m) many (among .states)
+  pub arrows-so : ArrowsAmong after (rowOf m) many (among .arrows)
+  pub near-so : NearAmong after (rowOf m) many (among .near) (among .mask)
 
 -- the row of an arrow, type m, whose payload begins at a place and has a length: its parts are those of earlier rows, where they are earlier
 pub record ArrowSays (file : List ℕ) (start len m : ℕ) (t : List ℕ) : Type 0 where
@@ -68,6 +86,7 @@ pub record ArrowSays (file : List ℕ) (start len m : ℕ) (t : List ℕ) : Type
   pub member : 2 ≤ len → len ≤ 34 → (j : ℕ) → j < (len - 2) / 2 → memberIn file start j < m → memberOf t (rowOf m) j ≡ goalOf t (memberIn file start j)
   pub states : 2 ≤ len → len ≤ 34 → StatesAmong t (rowOf m) ((len - 2) / 2) (statesOf t (rowOf m))
   pub arrows : 2 ≤ len → len ≤ 34 → ArrowsAmong t (rowOf m) ((len - 2) / 2) (arrowsOf t (rowOf m))
+  pub near : 2 ≤ len → len ≤ 34 → NearAmong t (rowOf m) ((len - 2) / 2) (nearOf t (rowOf m)) (maskOf t (rowOf m))
 
 -- the goals of the types before m are states or rows of types before m
 abbrev pub Low : ℕ → List ℕ → Type 0

@@ -7,7 +7,7 @@ use Rattle.tables.proofs.types.fill_members.Statement.{statement}
 use Rattle.tables.proofs.types.fill_members.Tie as tie
 
 abbrev Inv-loop : tie.InvT-loop
-Inv-loop file start many m t₀ row among₀ j₀ t among j = MembersTo file start many m t₀ j t (among .states) (among .arrows)
+Inv-loop file start many m t₀ row among₀ j₀ t among j = MembersTo file start many m t₀ j t among
 
 abbrev μ-loop : tie.MeasureT-loop
 μ-loop file start many m t₀ row among₀ j₀ t among j = many - j
@@ -61,7 +61,7 @@ loop-less : tie.Need-loop-less Inv-loop μ-loop
 loop-less c = omega (arith, c .before .before .before .before .loop-test .taken)
 
 loop-again : tie.Need-loop-again Inv-loop μ-loop
-loop-again c = members-more (c .before .before .before .before .before .loop .inv) (c .before .before .before .before .loop-test .taken) _ _ _ (c .before .before .before .before .before .before .row-at .ensures .0) (c .before .before .word-at .ensures .value) (c .before .goal-of .ensures .0) (c .with-member .ensures)
+loop-again c = members-more (c .before .before .before .before .before .loop .inv) (c .before .before .before .before .loop-test .taken) _ _ _ (c .before .before .before .before .before .before .row-at .ensures .0) (c .before .before .word-at .ensures .value) (c .before .goal-of .ensures .0) (c .before .goal-of .ensures .1) (c .with-member .ensures)
 
 same-length : tie.Need-same-length Inv-loop μ-loop
 same-length c = c .before .loop .inv .within .long
