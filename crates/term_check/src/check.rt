@@ -1,4 +1,5 @@
 // The check of a term and the check of its arguments, which call each other.
+use crate::heads::all_had;
 use crate::heads::alone;
 use crate::heads::candidate;
 use crate::heads::goes_down;
@@ -384,6 +385,9 @@ fn find_given(t: &[u16], r: &[u32], w: &mut [u32], at: usize, asked: u32, node: 
 fn check_each(t: &[u16], r: &[u32], w: &mut [u32], at: usize, ty: usize) -> bool
     ensures { λ b. ⌜ (length (now (w .exit)) ≡ length (now (w .entry))) × ChecksMembers (caseOf (now (t .entry)) (now (r .entry))) (answersOf (now (r .entry)) (now (w .entry))) (usersOf (now (r .entry)) (now (w .entry))) at ty (answersOf (now (r .entry)) (now (w .exit))) (usersOf (now (r .entry)) (now (w .exit))) b ⌝ }
 {
+    if all_had(t, r, w, at, ty) {
+        return true;
+    }
     let many = many_of(t, ty);
     let mut known = Outlook { had: 0, lacked: 0 };
     let mut word = NONE;

@@ -1,5 +1,6 @@
 // The types of a head against a goal, and what is known of an argument without a check.
 use crate::masks::has_bit;
+use crate::masks::left_of;
 use crate::notes::number_in;
 use crate::parts::outlook_in;
 use answers::Outlook;
@@ -13,13 +14,16 @@ use index::layout::TEST_BINDINGS;
 use index::layout::TEST_CELLS;
 use index::layout::TEST_OWN;
 use index::layout::TEST_WORDS;
+use index::layout::WORD;
 use index::layout::WORDS_LIMIT;
 use marks::is_in;
 use tables::reading::Node;
 use tables::reading::arity_of;
 use tables::reading::end_of;
 use tables::reading::many_of;
+use tables::reading::mask_of;
 use tables::reading::member_of;
+use tables::reading::near_of;
 use tables::reading::node_of;
 use tables::reading::off;
 use tables::reading::own_of;
@@ -34,7 +38,7 @@ ghost use mathlib.Core.Bool.{true};
 ghost use Rattle.index.specs.layout.Layout.{maxStates, noNumber};
 ghost use Rattle.tables.specs.reading.Cells.{offOf};
 ghost use Rattle.term_check.specs.Worlds.{caseOf, answersOf};
-ghost use Rattle.term_check.specs.heads.Heads.{IsCandidate, IsListed, Matches, IsTargets, Alone, Seen};
+ghost use Rattle.term_check.specs.heads.Heads.{IsCandidate, IsListed, Matches, IsTargets, Alone, Seen, AllHad};
 
 // The type of binding c, which is in the set of a goal, where it is one of a nonterminal whose type with arrows off is the goal; else
 // NONE.
@@ -186,6 +190,18 @@ pub fn look(t: &[u16], r: &[u32], w: &[u32], at: usize) -> Outlook
         }
     }
     outlook_in(r, w, at, 0)
+}
+
+// Whether the term at a node is known to have all members of an arrow; that is not seen where they do not stand in one cell.
+pub fn all_had(t: &[u16], r: &[u32], w: &[u32], at: usize, ty: usize) -> bool
+    ensures { λ s. ⌜ AllHad (caseOf (now (t .entry)) (now (r .entry))) (answersOf (now (r .entry)) (now (w .entry))) at ty s ⌝ }
+{
+    let near = near_of(t, ty);
+    if near == NONE {
+        return false;
+    }
+    let known = outlook_in(r, w, at, near * WORD);
+    left_of(mask_of(t, ty), known.had) == 0
 }
 
 // The state that a type becomes with so many arrows off, where it is one of a set; else NONE.

@@ -21,7 +21,7 @@ use Rattle.tables.specs.Facts.{Goal, of-state, At}
 use Rattle.term_check.specs.notes.Notes.{stampIn, wideIn}
 use Rattle.tables.specs.Frames.{Adds}
 use Rattle.term_check.specs.masks.Masks.{HasBit, Leaves}
-use Rattle.term_check.specs.heads.Heads.{Seen}
+use Rattle.term_check.specs.heads.Heads.{Seen, AllHad}
 use Rattle.term_check.specs.Worlds.{Case, World, Has, Ready, Includes, Yes, No, Keeps, ChecksTerm, ChecksMembers, MembersNo, ChecksAll, LooksOn}
 use Rattle.term_check.proofs.Goals.{state-below}
 use Rattle.term_check.proofs.check.Keeping.{Grows, yes-more, ready-on, keeps-all, keeps-on, keeps-learn}
@@ -109,6 +109,17 @@ module _ (x : Case) (memo users : List ℕ) (at g : ℕ) where
             go : (w : World) → Ready x w memo users → (q : ℕ) → q < maxStates → (bitOf q left ≡ 1) ⊎ (bitOf q (k .had) ≡ 1) → Yes x w users′ at q
             go w r q l (inl o) = told .yes e w r q o
             go w r q l (inr o) = yes-more x w users users′ (told .keeps .grows) at q (seen .yes w users r q l o)
+
+  -- all are had at once
+  pub had-at-once : {b : Bool} → AllHad x memo at g b → b ≡ true → ChecksMembers x memo users at g memo users true
+  had-at-once is e =
+      record {
+        keeps = keeps-all x memo users;
+        yes = λ y w r a ρ ga m mem flags inc u here.
+            let (j, l, em) = mem-index (state 0) (members a) m mem in
+            subst (Has w flags u) em (is .had e w users r a ρ ga j l flags inc u here (getD (members a) j (state 0)) (r .setting .types .arrow-row g a ρ ga .member j l));
+        no = λ y. absurd (true≢false y);
+      }
 
   -- while members are asked for: those before number j are had
   pub record Asked (memo′ users′ : List ℕ) (j : ℕ) : Type 0 where

@@ -1,11 +1,15 @@
 -- What is known of a node: what is remembered, or all of a parameter that stands alone.
-use Prim.Native.Nat.{ℕ, _-_, _%_, _<_, _≤_}
+use Prim.Native.Nat.{ℕ, _*_, _-_, _/_, _%_, _<_, _≤_}
 use native.Mathlib.Omega.{arith}
 use mathlib.Core.Path.{_≡_, refl, sym, ap, subst, _∙_}
-use mathlib.Core.Bool.{Bool, true, false}
+use mathlib.Core.Logic.{_⊎_, inl, inr}
+use mathlib.Core.Bool.{Bool, true, false, true≢false}
 use mathlib.Core.List.{List, [], List·Memᴰ}
 use mathlib.Core.Option.{some}
+use borrow.Author.Tests.{eqb-true}
 use lib.Bits.{bitAnd, and-comm, and-mask}
+use lib.Dec.{eqb}
+use lib.ListN.{length}
 use Rattle.scheme.specs.Terms.{par, Term, node, []ᵗ, countᵗ}
 use Rattle.scheme.specs.Types.{Ty, state, arrow, Tys, members}
 use Rattle.index.specs.layout.Layout.{maxStates, noNumber}
@@ -14,11 +18,12 @@ use Rattle.marks.proofs.Bits.{bit-small, zero-bit, minus-bit}
 use Rattle.answers.specs.declared.Outlook.{Outlook}
 use Rattle.answers.specs.Answers.{Says, Looks}
 use Rattle.tables.specs.declared.reading.Node.{Node}
-use Rattle.tables.specs.reading.Cells.{statesOf, offOf, nodeAt}
+use Rattle.tables.specs.reading.Cells.{statesOf, memberOf, nearOf, maskOf, offOf, nodeAt}
 use Rattle.tables.specs.Facts.{Goal, of-state, At, off, headBy}
 use Rattle.term_check.specs.notes.Notes.{ownIn, baseIn, stampIn, wideIn}
-use Rattle.term_check.specs.Worlds.{Args, Case, World, Setting, Has}
-use Rattle.term_check.specs.heads.Heads.{Alone, Seen}
+use Rattle.term_check.specs.Worlds.{Args, Case, World, Setting, Has, Ready, Yes}
+use Rattle.term_check.specs.heads.Heads.{Alone, Seen, AllHad}
+use Rattle.term_check.specs.masks.Masks.{Leaves}
 use Rattle.term_check.proofs.Goals.{goal-type, state-below, off-some}
 use Rattle.term_check.proofs.Places.{no-terms}
 use Rattle.term_check.proofs.Rules.{given-has, given-had}
@@ -134,3 +139,22 @@ module _ (x : Case) (nd : Node) (goal : ℕ) where
           yes = λ e w users i s f flags inc u at-i σ g. has-it x [] i nothing (baseIn (x .test)) own given had nd refl f tag none eo eg there big eh w s goal low (let k = bit-small goal had in omega arith) flags u at-i σ g;
           no = λ e. absurd (omega arith);
         }
+
+-- all members of an arrow, where they stand in one cell and are known to be had
+module _ (x : Case) (memo : List ℕ) (i g : ℕ) where
+  pub had-unseen : {b : Bool} → b ≡ false → AllHad x memo i g b
+  had-unseen e = record { had = λ y. absurd (true≢false (sym y ∙ e)) }
+
+  pub had-seen : (near mask : ℕ) (known : Outlook) (left : ℕ) → near ≡ nearOf (x .t) g → (near ≡ noNumber → ⊥) → mask ≡ maskOf (x .t) g → Looks memo (wideIn (x .test)) (stampIn (x .test)) i (near * 32) known → Leaves mask (known .had) left → AllHad x memo i g (eqb left 0)
+  had-seen near mask known left en there em looks leaves = record { had = λ y w users ready a ρ ga j h. having (eqb-true left 0 y) w users ready a ρ ga j h }
+    where
+      having : left ≡ 0 → (w : World) (users : List ℕ) → Ready x w memo users → (a : Tys) (ρ : Ty) → Goal (w .rs) g (arrow a ρ) → (j : ℕ) → j < length (members a) → Yes x w users i (memberOf (x .t) g j)
+      having z w users ready a ρ ga j h =
+          let (word, bit) = ready .setting .types .arrow-row g a ρ ga .near (λ e. there (en ∙ e)) j h in
+          let m = memberOf (x .t) g j in
+          let cell : m / 32 ≡ near * 32 / 32 = omega arith in
+          ready .right .yes i m (looks .yes m cell (had-bit (m % 32) (leaves .all (m % 32) (ap (bitOf (m % 32)) em ∙ bit))))
+        where
+          had-bit : (k : ℕ) → (bitOf k left ≡ 1) ⊎ (bitOf k (known .had) ≡ 1) → bitOf k (known .had) ≡ 1
+          had-bit k (inl b) = let e = ap (bitOf k) z in let n = zero-bit k in absurd (omega arith)
+          had-bit k (inr b) = b

@@ -7,12 +7,12 @@ use mathlib.Core.List.{List}
 use mathlib.Core.Option.{some}
 use lib.ListN.{length, getD}
 use Rattle.scheme.specs.Terms.{Terms, countᵗ}
-use Rattle.scheme.specs.Types.{Ty, state, takes, final}
+use Rattle.scheme.specs.Types.{Ty, state, arrow, Tys, members, takes, final}
 use Rattle.scheme.specs.Flags.{isKept}
 use Rattle.casefile.specs.Tables.{transitionsOf, targetsAt}
 use Rattle.index.specs.layout.Layout.{maxStates, rowLimit, noNumber, noTargets}
 use Rattle.marks.specs.Marks.{bitOf, In}
-use Rattle.tables.specs.reading.Cells.{nodeAt}
+use Rattle.tables.specs.reading.Cells.{memberOf, nodeAt}
 use Rattle.tables.specs.declared.reading.Node.{Node}
 use Rattle.tables.specs.Facts.{Goal, AllAt, TypesAre, bindingAt, off}
 use Rattle.answers.specs.declared.Outlook.{Outlook}
@@ -65,3 +65,7 @@ pub record Alone (x : Case) (a : Node) (goal r : ℕ) : Type 0 where
 pub record Seen (x : Case) (memo : List ℕ) (i : ℕ) (r : Outlook) : Type 0 where
   pub yes : (w : World) (users : List ℕ) → Ready x w memo users → (q : ℕ) → q < maxStates → bitOf q (r .had) ≡ 1 → Yes x w users i q
   pub no : (w : World) (users : List ℕ) → Ready x w memo users → (q : ℕ) → q < maxStates → bitOf q (r .lacked) ≡ 1 → No x w i q
+
+-- where r is true, the term at a node has all members of an arrow
+pub record AllHad (x : Case) (memo : List ℕ) (i g : ℕ) (r : Bool) : Type 0 where
+  pub had : r ≡ true → (w : World) (users : List ℕ) → Ready x w memo users → (a : Tys) (ρ : Ty) → Goal (w .rs) g (arrow a ρ) → (j : ℕ) → j < length (members a) → Yes x w users i (memberOf (x .t) g j)

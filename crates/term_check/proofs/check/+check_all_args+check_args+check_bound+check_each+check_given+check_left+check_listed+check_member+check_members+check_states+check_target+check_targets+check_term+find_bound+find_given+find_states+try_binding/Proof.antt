@@ -21,7 +21,7 @@ use Rattle.term_check.proofs.check.Bound.{try-misses, try-lacks, try-se
 use Rattle.term_check.proofs.check.Bound as Bound
 use Rattle.term_check.proofs.check.Given.{given-start, given-none, given-end, member-misses, member-fails, member-has}
 use Rattle.term_check.proofs.check.Given as Given
-use Rattle.term_check.proofs.check.Members.{states-lack, states-had, states-fail, states-checked, Asked, asked-start, asked-end, Recalled, recalled-none, recalled-more, recalled-on, recalled-no, recalled-yes, checked-no, checked-yes}
+use Rattle.term_check.proofs.check.Members.{states-lack, states-had, states-fail, states-checked, had-at-once, Asked, asked-start, asked-end, Recalled, recalled-none, recalled-more, recalled-on, recalled-no, recalled-yes, checked-no, checked-yes}
 use Rattle.term_check.proofs.check.States.{finds-none, finds-on, finds-more, Left, left-start, left-more, left-fails, left-end}
 use Rattle.term_check.proofs.check.Moved.{members-moved, asked-moved, recalled-moved, all-moved, tries-moved}
 use Rattle.term_check.proofs.check.Terms.{term-past, no-targets, built-checked, alone-no, alone-yes}
@@ -88,6 +88,7 @@ use Rattle.tables.proofs.reading.node_of.Reads as node-of-reads
 use Rattle.tables.proofs.reading.off.Reads as off-reads
 use Rattle.tables.proofs.reading.result_of.Reads as result-of-reads
 use Rattle.tables.proofs.reading.states_of.Reads as states-of-reads
+use Rattle.term_check.proofs.heads.all_had.Reads as all-had-reads
 use Rattle.term_check.proofs.heads.alone.Reads as alone-reads
 use Rattle.term_check.proofs.heads.candidate.Reads as candidate-reads
 use Rattle.term_check.proofs.heads.goes_down.Reads as goes-down-reads
@@ -338,7 +339,7 @@ check-bound-claims t =
 
 abbrev check-each-claims : ℕ → check-each-lts.Claims
 check-each-claims t =
-    (many-of-reads.Asked, many-of-reads.Learnt, member-of-reads.Asked, member-of-reads.Learnt, outlook-on-reads.Asked, outlook-on-reads.Learnt, has-bit-reads.Asked, has-bit-reads.Learnt, with-bit-reads.Asked, with-bit-reads.Learnt, check-member-below t, check-member.Post, learn-in-reads.Asked, learn-in-reads.Learnt)
+    (all-had-reads.Asked, all-had-reads.Learnt, many-of-reads.Asked, many-of-reads.Learnt, member-of-reads.Asked, member-of-reads.Learnt, outlook-on-reads.Asked, outlook-on-reads.Learnt, has-bit-reads.Asked, has-bit-reads.Learnt, with-bit-reads.Asked, with-bit-reads.Learnt, check-member-below t, check-member.Post, learn-in-reads.Asked, learn-in-reads.Learnt)
 
 abbrev check-given-claims : ℕ → check-given-lts.Claims
 check-given-claims t =
@@ -479,6 +480,15 @@ check-each-Inv-loop t r w₀ at ty many known₀ word₀ j₀ w known word j = (
 abbrev check-each-μ-loop : check-each-lts.MeasureT-loop
 check-each-μ-loop t r w₀ at ty many known₀ word₀ j₀ w known word j = many - j
 
+check-each-all-had-requires : (t : ℕ) → check-each-lts.Need-all-had-requires (check-each-claims t) (check-each-at t) check-each.Post check-each-Inv-loop check-each-μ-loop
+check-each-all-had-requires t c κs = search needs
+
+check-each-same-length : (t : ℕ) → check-each-lts.Need-same-length (check-each-claims t) (check-each-at t) check-each.Post check-each-Inv-loop check-each-μ-loop
+check-each-same-length t c = search needs
+
+check-each-returns : (t : ℕ) → check-each-lts.Need-returns (check-each-claims t) (check-each-at t) check-each.Post check-each-Inv-loop check-each-μ-loop
+check-each-returns t c = (refl, had-at-once _ _ _ _ _ (c .before .all-had .ensures) (c .if1 .taken))
+
 check-each-many-of-requires : (t : ℕ) → check-each-lts.Need-many-of-requires (check-each-claims t) (check-each-at t) check-each.Post check-each-Inv-loop check-each-μ-loop
 check-each-many-of-requires t c κs = search needs
 
@@ -497,11 +507,11 @@ check-each-outlook-on-requires t c κs = search needs
 check-each-has-bit-requires : (t : ℕ) → check-each-lts.Need-has-bit-requires (check-each-claims t) (check-each-at t) check-each.Post check-each-Inv-loop check-each-μ-loop
 check-each-has-bit-requires t c κs = search needs
 
-check-each-same-length : (t : ℕ) → check-each-lts.Need-same-length (check-each-claims t) (check-each-at t) check-each.Post check-each-Inv-loop check-each-μ-loop
-check-each-same-length t c = c .before .before .before .before .before .before .loop .inv .0
+check-each-same-length-2 : (t : ℕ) → check-each-lts.Need-same-length-2 (check-each-claims t) (check-each-at t) check-each.Post check-each-Inv-loop check-each-μ-loop
+check-each-same-length-2 t c = c .before .before .before .before .before .before .loop .inv .0
 
-check-each-returns : (t : ℕ) → check-each-lts.Need-returns (check-each-claims t) (check-each-at t) check-each.Post check-each-Inv-loop check-each-μ-loop
-check-each-returns t c = (c .before .before .before .before .before .before .loop .inv .0, recalled-no _ _ _ _ _ (c .before .before .before .before .before .before .loop .inv .1) _ (c .before .before .before .before .before .before .before .many-of .ensures .0) (c .before .before .before .before .before .loop-test .taken) _ (c .before .before .before .before .member-of .ensures .0) _ _ (recalled-on _ _ _ _ _ (c .before .before .before .before .before .before .loop .inv .1 .keeps) _ _ _ _ _ refl (c .before .before .before .before .before .before .loop .inv .2) (c .before .before .outlook-on .ensures)) refl _ (c .before .has-bit .ensures) (c .if1 .taken))
+check-each-returns-2 : (t : ℕ) → check-each-lts.Need-returns-2 (check-each-claims t) (check-each-at t) check-each.Post check-each-Inv-loop check-each-μ-loop
+check-each-returns-2 t c = (c .before .before .before .before .before .before .loop .inv .0, recalled-no _ _ _ _ _ (c .before .before .before .before .before .before .loop .inv .1) _ (c .before .before .before .before .before .before .before .many-of .ensures .0) (c .before .before .before .before .before .loop-test .taken) _ (c .before .before .before .before .member-of .ensures .0) _ _ (recalled-on _ _ _ _ _ (c .before .before .before .before .before .before .loop .inv .1 .keeps) _ _ _ _ _ refl (c .before .before .before .before .before .before .loop .inv .2) (c .before .before .outlook-on .ensures)) refl _ (c .before .has-bit .ensures) (c .if2 .taken))
 
 check-each-has-bit-requires-2 : (t : ℕ) → check-each-lts.Need-has-bit-requires-2 (check-each-claims t) (check-each-at t) check-each.Post check-each-Inv-loop check-each-μ-loop
 check-each-has-bit-requires-2 t c κs = search needs
@@ -510,16 +520,16 @@ check-each-with-bit-requires : (t : ℕ) → check-each-lts.Need-with-bit-requir
 check-each-with-bit-requires t c κs = search needs
 
 check-each-check-member-requires : (t : ℕ) → check-each-lts.Need-check-member-requires (check-each-claims t) (check-each-at t) check-each.Post check-each-Inv-loop check-each-μ-loop
-check-each-check-member-requires t c κs = let p = c .before .before .before .before .before .before .before .before .before .before .before .before .before .before .before .pre .0 in (omega arith, Prim.tt)
+check-each-check-member-requires t c κs = let p = c .before .before .before .before .before .before .before .before .before .before .before .before .before .before .before .before .before .before .pre .0 in (omega arith, Prim.tt)
 
 check-each-learn-in-requires : (t : ℕ) → check-each-lts.Need-learn-in-requires (check-each-claims t) (check-each-at t) check-each.Post check-each-Inv-loop check-each-μ-loop
 check-each-learn-in-requires t c κs = search needs
 
-check-each-same-length-2 : (t : ℕ) → check-each-lts.Need-same-length-2 (check-each-claims t) (check-each-at t) check-each.Post check-each-Inv-loop check-each-μ-loop
-check-each-same-length-2 t c = c .before .before .learn-in .ensures .0 ∙ c .before .before .before .before .before .before .before .check-member .ensures .0 ∙ c .before .before .before .before .before .before .before .before .before .before .before .before .before .before .before .before .before .before .loop .inv .0
+check-each-same-length-3 : (t : ℕ) → check-each-lts.Need-same-length-3 (check-each-claims t) (check-each-at t) check-each.Post check-each-Inv-loop check-each-μ-loop
+check-each-same-length-3 t c = c .before .before .learn-in .ensures .0 ∙ c .before .before .before .before .before .before .before .check-member .ensures .0 ∙ c .before .before .before .before .before .before .before .before .before .before .before .before .before .before .before .before .before .before .loop .inv .0
 
-check-each-returns-2 : (t : ℕ) → check-each-lts.Need-returns-2 (check-each-claims t) (check-each-at t) check-each.Post check-each-Inv-loop check-each-μ-loop
-check-each-returns-2 t c = (c .before .before .learn-in .ensures .0 ∙ c .before .before .before .before .before .before .before .check-member .ensures .0 ∙ c .before .before .before .before .before .before .before .before .before .before .before .before .before .before .before .before .before .before .loop .inv .0, members-moved _ _ _ (c .before .before .before .before .before .before .before .before .before .before .before .before .before .before .before .before .before .before .before .before .before .before .before .args .at) _ _ _ _ _ (c .before .before .learn-in .ensures .1) (checked-no _ _ _ _ _ (c .before .before .before .before .before .before .before .before .before .before .before .before .before .before .before .before .before .before .loop .inv .1) _ (c .before .before .before .before .before .before .before .before .before .before .before .before .before .before .before .before .before .before .before .many-of .ensures .0) (c .before .before .before .before .before .before .before .before .before .before .before .before .before .before .before .before .before .loop-test .taken) _ (c .before .before .before .before .before .before .before .before .before .before .before .before .before .before .before .before .member-of .ensures .0) _ (c .before .before .before .before .before .before .before .before .before .with-bit .ensures) _ _ _ (c .before .before .before .before .before .before .before .check-member .ensures .1) _ (not-true _ (c .before .before .before .before .if3 .taken)) (c .before .before .learn-in .ensures .2)))
+check-each-returns-3 : (t : ℕ) → check-each-lts.Need-returns-3 (check-each-claims t) (check-each-at t) check-each.Post check-each-Inv-loop check-each-μ-loop
+check-each-returns-3 t c = (c .before .before .learn-in .ensures .0 ∙ c .before .before .before .before .before .before .before .check-member .ensures .0 ∙ c .before .before .before .before .before .before .before .before .before .before .before .before .before .before .before .before .before .before .loop .inv .0, members-moved _ _ _ (c .before .before .before .before .before .before .before .before .before .before .before .before .before .before .before .before .before .before .before .before .before .before .before .before .before .before .args .at) _ _ _ _ _ (c .before .before .learn-in .ensures .1) (checked-no _ _ _ _ _ (c .before .before .before .before .before .before .before .before .before .before .before .before .before .before .before .before .before .before .loop .inv .1) _ (c .before .before .before .before .before .before .before .before .before .before .before .before .before .before .before .before .before .before .before .many-of .ensures .0) (c .before .before .before .before .before .before .before .before .before .before .before .before .before .before .before .before .before .loop-test .taken) _ (c .before .before .before .before .before .before .before .before .before .before .before .before .before .before .before .before .member-of .ensures .0) _ (c .before .before .before .before .before .before .before .before .before .with-bit .ensures) _ _ _ (c .before .before .before .before .before .before .before .check-member .ensures .1) _ (not-true _ (c .before .before .before .before .if4 .taken)) (c .before .before .learn-in .ensures .2)))
 
 check-each-learn-in-requires-2 : (t : ℕ) → check-each-lts.Need-learn-in-requires-2 (check-each-claims t) (check-each-at t) check-each.Post check-each-Inv-loop check-each-μ-loop
 check-each-learn-in-requires-2 t c κs = search needs
@@ -528,19 +538,19 @@ check-each-loop-less : (t : ℕ) → check-each-lts.Need-loop-less (check-each-c
 check-each-loop-less t c = let h = c .before .before .before .before .before .before .before .before .before .before .before .before .before .before .before .before .before .loop-test .taken in omega arith
 
 check-each-loop-again : (t : ℕ) → check-each-lts.Need-loop-again (check-each-claims t) (check-each-at t) check-each.Post check-each-Inv-loop check-each-μ-loop
-check-each-loop-again t c = (c .before .before .learn-in2 .ensures .0 ∙ c .before .before .before .before .before .before .before .check-member .ensures .0 ∙ c .before .before .before .before .before .before .before .before .before .before .before .before .before .before .before .before .before .before .loop .inv .0, asked-moved _ _ _ _ _ _ _ _ _ (c .before .before .learn-in2 .ensures .1) (checked-yes _ _ _ _ _ (c .before .before .before .before .before .before .before .before .before .before .before .before .before .before .before .before .before .before .loop .inv .1) _ (c .before .before .before .before .before .before .before .before .before .before .before .before .before .before .before .before .before .before .before .many-of .ensures .0) (c .before .before .before .before .before .before .before .before .before .before .before .before .before .before .before .before .before .loop-test .taken) _ (c .before .before .before .before .before .before .before .before .before .before .before .before .before .before .before .before .member-of .ensures .0) _ (c .before .before .before .before .before .before .before .before .before .with-bit .ensures) _ _ _ (c .before .before .before .before .before .before .before .check-member .ensures .1) _ (not-false _ (c .before .before .before .before .if3 .left)) (c .before .before .learn-in2 .ensures .2) _ (omega arith)), recalled-moved _ _ _ _ _ _ _ _ _ (c .before .before .learn-in2 .ensures .1) (recalled-more _ _ _ _ _ (c .before .before .before .before .before .before .before .check-member .ensures .1 .keeps .grows) (recalled-on _ _ _ _ _ (c .before .before .before .before .before .before .before .before .before .before .before .before .before .before .before .before .before .before .loop .inv .1 .keeps) _ _ _ _ _ refl (c .before .before .before .before .before .before .before .before .before .before .before .before .before .before .before .before .before .before .loop .inv .2) (c .before .before .before .before .before .before .before .before .before .before .before .before .before .before .outlook-on .ensures))))
+check-each-loop-again t c = (c .before .before .learn-in2 .ensures .0 ∙ c .before .before .before .before .before .before .before .check-member .ensures .0 ∙ c .before .before .before .before .before .before .before .before .before .before .before .before .before .before .before .before .before .before .loop .inv .0, asked-moved _ _ _ _ _ _ _ _ _ (c .before .before .learn-in2 .ensures .1) (checked-yes _ _ _ _ _ (c .before .before .before .before .before .before .before .before .before .before .before .before .before .before .before .before .before .before .loop .inv .1) _ (c .before .before .before .before .before .before .before .before .before .before .before .before .before .before .before .before .before .before .before .many-of .ensures .0) (c .before .before .before .before .before .before .before .before .before .before .before .before .before .before .before .before .before .loop-test .taken) _ (c .before .before .before .before .before .before .before .before .before .before .before .before .before .before .before .before .member-of .ensures .0) _ (c .before .before .before .before .before .before .before .before .before .with-bit .ensures) _ _ _ (c .before .before .before .before .before .before .before .check-member .ensures .1) _ (not-false _ (c .before .before .before .before .if4 .left)) (c .before .before .learn-in2 .ensures .2) _ (omega arith)), recalled-moved _ _ _ _ _ _ _ _ _ (c .before .before .learn-in2 .ensures .1) (recalled-more _ _ _ _ _ (c .before .before .before .before .before .before .before .check-member .ensures .1 .keeps .grows) (recalled-on _ _ _ _ _ (c .before .before .before .before .before .before .before .before .before .before .before .before .before .before .before .before .before .before .loop .inv .1 .keeps) _ _ _ _ _ refl (c .before .before .before .before .before .before .before .before .before .before .before .before .before .before .before .before .before .before .loop .inv .2) (c .before .before .before .before .before .before .before .before .before .before .before .before .before .before .outlook-on .ensures))))
 
 check-each-loop-less-2 : (t : ℕ) → check-each-lts.Need-loop-less-2 (check-each-claims t) (check-each-at t) check-each.Post check-each-Inv-loop check-each-μ-loop
 check-each-loop-less-2 t c = let h = c .before .before .before .before .before .before .before .loop-test .taken in omega arith
 
 check-each-loop-again-2 : (t : ℕ) → check-each-lts.Need-loop-again-2 (check-each-claims t) (check-each-at t) check-each.Post check-each-Inv-loop check-each-μ-loop
-check-each-loop-again-2 t c = (c .before .before .before .before .before .before .before .before .loop .inv .0, recalled-yes _ _ _ _ _ (c .before .before .before .before .before .before .before .before .loop .inv .1) _ (c .before .before .before .before .before .before .before .before .before .many-of .ensures .0) (c .before .before .before .before .before .before .before .loop-test .taken) _ (c .before .before .before .before .before .before .member-of .ensures .0) _ _ (recalled-on _ _ _ _ _ (c .before .before .before .before .before .before .before .before .loop .inv .1 .keeps) _ _ _ _ _ refl (c .before .before .before .before .before .before .before .before .loop .inv .2) (c .before .before .before .before .outlook-on .ensures)) refl _ (c .before .has-bit2 .ensures) (not-false _ (c .if2 .left)) _ (omega arith), (recalled-on _ _ _ _ _ (c .before .before .before .before .before .before .before .before .loop .inv .1 .keeps) _ _ _ _ _ refl (c .before .before .before .before .before .before .before .before .loop .inv .2) (c .before .before .before .before .outlook-on .ensures)))
+check-each-loop-again-2 t c = (c .before .before .before .before .before .before .before .before .loop .inv .0, recalled-yes _ _ _ _ _ (c .before .before .before .before .before .before .before .before .loop .inv .1) _ (c .before .before .before .before .before .before .before .before .before .many-of .ensures .0) (c .before .before .before .before .before .before .before .loop-test .taken) _ (c .before .before .before .before .before .before .member-of .ensures .0) _ _ (recalled-on _ _ _ _ _ (c .before .before .before .before .before .before .before .before .loop .inv .1 .keeps) _ _ _ _ _ refl (c .before .before .before .before .before .before .before .before .loop .inv .2) (c .before .before .before .before .outlook-on .ensures)) refl _ (c .before .has-bit2 .ensures) (not-false _ (c .if3 .left)) _ (omega arith), (recalled-on _ _ _ _ _ (c .before .before .before .before .before .before .before .before .loop .inv .1 .keeps) _ _ _ _ _ refl (c .before .before .before .before .before .before .before .before .loop .inv .2) (c .before .before .before .before .outlook-on .ensures)))
 
-check-each-same-length-3 : (t : ℕ) → check-each-lts.Need-same-length-3 (check-each-claims t) (check-each-at t) check-each.Post check-each-Inv-loop check-each-μ-loop
-check-each-same-length-3 t c = c .before .loop .inv .0
+check-each-same-length-4 : (t : ℕ) → check-each-lts.Need-same-length-4 (check-each-claims t) (check-each-at t) check-each.Post check-each-Inv-loop check-each-μ-loop
+check-each-same-length-4 t c = c .before .loop .inv .0
 
-check-each-returns-3 : (t : ℕ) → check-each-lts.Need-returns-3 (check-each-claims t) (check-each-at t) check-each.Post check-each-Inv-loop check-each-μ-loop
-check-each-returns-3 t c = (c .before .loop .inv .0, asked-end _ _ _ _ _ (c .before .loop .inv .1) _ (c .before .before .many-of .ensures .0) (c .loop-test .left))
+check-each-returns-4 : (t : ℕ) → check-each-lts.Need-returns-4 (check-each-claims t) (check-each-at t) check-each.Post check-each-Inv-loop check-each-μ-loop
+check-each-returns-4 t c = (c .before .loop .inv .0, asked-end _ _ _ _ _ (c .before .loop .inv .1) _ (c .before .before .many-of .ensures .0) (c .loop-test .left))
 
 abbrev check-given-Inv-loop : check-given-lts.InvT-loop
 check-given-Inv-loop t r w₀ at goal node given many j₀ w j = (length w ≡ length w₀) × Given.Tried (caseOf t r) (answersOf r w₀) (usersOf r w₀) at goal node given (answersOf r w) (usersOf r w) j
@@ -1252,27 +1262,30 @@ pub +check-all-args+check-args+check-bound+check-each+check-given+check-left+che
     check-each.Post
     check-each-Inv-loop
     check-each-μ-loop
+    (check-each-all-had-requires t)
+    (check-each-same-length t)
+    (check-each-returns t)
     (check-each-many-of-requires t)
     (check-each-loop-holds t)
     (check-each-member-of-requires t)
     (check-each-add-j t)
     (check-each-outlook-on-requires t)
     (check-each-has-bit-requires t)
-    (check-each-same-length t)
-    (check-each-returns t)
+    (check-each-same-length-2 t)
+    (check-each-returns-2 t)
     (check-each-has-bit-requires-2 t)
     (check-each-with-bit-requires t)
     (check-each-check-member-requires t)
     (check-each-learn-in-requires t)
-    (check-each-same-length-2 t)
-    (check-each-returns-2 t)
+    (check-each-same-length-3 t)
+    (check-each-returns-3 t)
     (check-each-learn-in-requires-2 t)
     (check-each-loop-less t)
     (check-each-loop-again t)
     (check-each-loop-less-2 t)
     (check-each-loop-again-2 t)
-    (check-each-same-length-3 t)
-    (check-each-returns-3 t))
+    (check-each-same-length-4 t)
+    (check-each-returns-4 t))
     (λ t. check-given-lts.spec (check-given-claims t)
     (check-given-at t)
     check-given.Post
