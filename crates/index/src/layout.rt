@@ -231,11 +231,20 @@ pub const ARITIES_AT: usize = PRESENT_AT + MAX_CONSTRUCTORS;
 
 pub const GROUPS_AT: usize = ARITIES_AT + MAX_CONSTRUCTORS;
 
+// Then the nonterminal of each binding and its type as a goal, two cells for each that a file may have.
+pub const PAIRS_AT: usize = GROUPS_AT + ROWS;
+
+pub const SYMBOL: usize = 0;
+
+pub const OWN: usize = 1;
+
+pub const PAIR_CELLS: usize = 2;
+
 // Then rows, by number. A goal is a state by its number, or an arrow by the number of its type behind the states. Row g has of goal g
 // the result, the final state, the states among its members as bits, how many members are arrows, how many there are; the goal that
-// is the type with that row; row b has the nonterminal of binding b and its type as a goal; the word in which all members of goal g
-// stand, and their bits there in two halves; at the end the members of goal g.
-pub const ROWS_AT: usize = GROUPS_AT + ROWS;
+// is the type with that row; the word in which all members of goal g stand, and their bits there in two halves; at the end the members
+// of goal g.
+pub const ROWS_AT: usize = PAIRS_AT + MAX_BINDINGS * PAIR_CELLS;
 
 pub const RESULT: usize = 0;
 
@@ -249,17 +258,13 @@ pub const MANY: usize = 4;
 
 pub const GOAL: usize = 5;
 
-pub const SYMBOL: usize = 6;
+pub const NEAR: usize = 6;
 
-pub const OWN: usize = 7;
+pub const LOW: usize = 7;
 
-pub const NEAR: usize = 8;
+pub const HIGH: usize = 8;
 
-pub const LOW: usize = 9;
-
-pub const HIGH: usize = 10;
-
-pub const MEMBERS: usize = 11;
+pub const MEMBERS: usize = 9;
 
 pub const ROW_CELLS: usize = MEMBERS + MAX_MEMBERS;
 
@@ -316,7 +321,7 @@ pub const WIDE_FRAME: usize = MIDDLE_FRAME + 1;
 pub const NO_HINTS: usize = 0;
 
 // The tiny frame of a binding case: how many nodes, types and bindings it has room for, and from these its tables as those at the
-// limits. It has a row for each goal and for each binding. A test remembers answers for all nodes that a body may have, and for all
+// limits. It has a row for each goal. A test remembers answers for all nodes that a body may have, and for all
 // goals.
 pub const TINY_NODES: usize = 96;
 
@@ -326,11 +331,9 @@ pub const TINY_BINDINGS: usize = 32;
 
 pub const TINY_GOALS: usize = TINY_TYPES + MAX_STATES;
 
-pub const TINY_ROWS: usize = TINY_GOALS;
-
 pub const TINY_WORDS: usize = (TINY_BINDINGS + WORD - 1) / WORD;
 
-pub const TINY_TABLE: usize = ROWS_AT + TINY_ROWS * ROW_CELLS + TINY_NODES * NODE_CELLS;
+pub const TINY_TABLE: usize = ROWS_AT + TINY_GOALS * ROW_CELLS + TINY_NODES * NODE_CELLS;
 
 pub const TINY_SETS: usize = TINY_GOALS * TINY_WORDS;
 
@@ -347,11 +350,9 @@ pub const SMALL_BINDINGS: usize = 96;
 
 pub const SMALL_GOALS: usize = SMALL_TYPES + MAX_STATES;
 
-pub const SMALL_ROWS: usize = SMALL_BINDINGS;
-
 pub const SMALL_WORDS: usize = (SMALL_BINDINGS + WORD - 1) / WORD;
 
-pub const SMALL_TABLE: usize = ROWS_AT + SMALL_ROWS * ROW_CELLS + SMALL_NODES * NODE_CELLS;
+pub const SMALL_TABLE: usize = ROWS_AT + SMALL_GOALS * ROW_CELLS + SMALL_NODES * NODE_CELLS;
 
 pub const SMALL_SETS: usize = SMALL_GOALS * SMALL_WORDS;
 
@@ -368,11 +369,9 @@ pub const PLAIN_BINDINGS: usize = 320;
 
 pub const PLAIN_GOALS: usize = PLAIN_TYPES + MAX_STATES;
 
-pub const PLAIN_ROWS: usize = PLAIN_BINDINGS;
-
 pub const PLAIN_WORDS: usize = (PLAIN_BINDINGS + WORD - 1) / WORD;
 
-pub const PLAIN_TABLE: usize = ROWS_AT + PLAIN_ROWS * ROW_CELLS + PLAIN_NODES * NODE_CELLS;
+pub const PLAIN_TABLE: usize = ROWS_AT + PLAIN_GOALS * ROW_CELLS + PLAIN_NODES * NODE_CELLS;
 
 pub const PLAIN_SETS: usize = PLAIN_GOALS * PLAIN_WORDS;
 
@@ -389,11 +388,9 @@ pub const MIDDLE_BINDINGS: usize = 320;
 
 pub const MIDDLE_GOALS: usize = MIDDLE_TYPES + MAX_STATES;
 
-pub const MIDDLE_ROWS: usize = MIDDLE_GOALS;
-
 pub const MIDDLE_WORDS: usize = (MIDDLE_BINDINGS + WORD - 1) / WORD;
 
-pub const MIDDLE_TABLE: usize = ROWS_AT + MIDDLE_ROWS * ROW_CELLS + MIDDLE_NODES * NODE_CELLS;
+pub const MIDDLE_TABLE: usize = ROWS_AT + MIDDLE_GOALS * ROW_CELLS + MIDDLE_NODES * NODE_CELLS;
 
 pub const MIDDLE_SETS: usize = MIDDLE_GOALS * MIDDLE_WORDS;
 
@@ -410,11 +407,9 @@ pub const WIDE_BINDINGS: usize = 1024;
 
 pub const WIDE_GOALS: usize = WIDE_TYPES + MAX_STATES;
 
-pub const WIDE_ROWS: usize = WIDE_BINDINGS;
-
 pub const WIDE_WORDS: usize = (WIDE_BINDINGS + WORD - 1) / WORD;
 
-pub const WIDE_TABLE: usize = ROWS_AT + WIDE_ROWS * ROW_CELLS + WIDE_NODES * NODE_CELLS;
+pub const WIDE_TABLE: usize = ROWS_AT + WIDE_GOALS * ROW_CELLS + WIDE_NODES * NODE_CELLS;
 
 pub const WIDE_SETS: usize = WIDE_GOALS * WIDE_WORDS;
 

@@ -41,24 +41,21 @@ readOf types bindings = testCells + (types + maxStates) * ((bindings + 31) / wor
 abbrev pub writeOf : ℕ → ℕ → ℕ → ℕ → ℕ
 writeOf hints bindings nodes types = hints + bindings * ((bindings + 31) / wordBits + 1) + nodes * ((types + maxStates + 31) / wordBits) * cellWords
 
--- tables that have room for so many nodes, types and bindings; each goal has a row, and each binding
-pub record Roomy (nodes types bindings rows : ℕ) (index firsts table r w : List ℕ) (hints : ℕ) : Type 0 where
+-- tables that have room for so many nodes, types and bindings; each goal has a row
+pub record Roomy (nodes types bindings : ℕ) (index firsts table r w : List ℕ) (hints : ℕ) : Type 0 where
   pub few-nodes : nodes ≤ endsSize
-  pub goal-rows : types + maxStates ≤ rows
-  pub binding-rows : bindings ≤ rows
   pub few-hints : hints < placeLimit
   pub index-long : indexSize ≤ length index
   pub firsts-long : rowsSize ≤ length firsts
-  pub table-long : rowsAt + rows * rowCells + nodes * nodeCells ≤ length table
+  pub table-long : rowsAt + (types + maxStates) * rowCells + nodes * nodeCells ≤ length table
   pub read-long : readOf types bindings ≤ length r
   pub write-long : hints + bindings * ((bindings + 31) / wordBits + 1) ≤ length w
 
-module _ {nodes types bindings rows : ℕ} {index firsts table r w : List ℕ} {hints : ℕ} (roomy : Roomy nodes types bindings rows index firsts table r w hints)
+module _ {nodes types bindings : ℕ} {index firsts table r w : List ℕ} {hints : ℕ} (roomy : Roomy nodes types bindings index firsts table r w hints)
     (no-numbers : (i : ℕ) → getD r i 0 ≡ 0) (no-answers : (i : ℕ) → getD w i 0 ≡ 0) where
   lent-room : (rs : List Record) → nodesIn (payloads Kind.rule rs) ≤ nodes → count Kind.type rs ≤ types → count Kind.binding rs ≤ bindings → Lent rs firsts table r w hints
   lent-room rs n t b =
       let words : (count Kind.binding rs + 31) / wordBits ≤ (bindings + 31) / wordBits = omega arith in
-      let rows-fit : max (count Kind.type rs + maxStates) (count Kind.binding rs) ≤ rows = max-le (omega (arith, roomy .goal-rows)) (omega (arith, roomy .binding-rows)) in
       let sets-fit = mul-le-mul {n₁ = count Kind.type rs + maxStates} {n₂ = types + maxStates} (omega arith) words in
       let users-fit = mul-le-mul b words in
       record {

@@ -1,6 +1,6 @@
 -- What our own crates promise each other; nothing here has to be believed.
 -- The flat table as it is filled from the file of a binding case.
-use Prim.Native.Nat.{ℕ, _+_, _*_, _/_, _<_, _≤_, max}
+use Prim.Native.Nat.{ℕ, _+_, _*_, _/_, _<_, _≤_}
 use mathlib.Core.Path.{_≡_}
 use mathlib.Core.List.{List}
 use lib.ListN.{length, getD, set, replicate}
@@ -32,7 +32,7 @@ pub record Given (file index counts ends firsts : List ℕ) (rs : List Record) :
 
 -- where the nodes begin, and how long the table is
 abbrev pub nodesFrom : List Record → ℕ
-nodesFrom rs = rowsAt + max (count Kind.type rs + maxStates) (count Kind.binding rs) * rowCells
+nodesFrom rs = rowsAt + (count Kind.type rs + maxStates) * rowCells
 
 abbrev pub tableFor : List Record → ℕ
 tableFor rs = nodesFrom rs + nodesIn (payloads Kind.rule rs) * nodeCells

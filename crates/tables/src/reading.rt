@@ -7,6 +7,7 @@ use index::layout::GROUPS_AT;
 use index::layout::HIGH;
 use index::layout::LOW;
 use index::layout::MANY;
+use index::layout::MAX_BINDINGS;
 use index::layout::MAX_CONSTRUCTORS;
 use index::layout::MAX_MEMBERS;
 use index::layout::MAX_NODES;
@@ -19,6 +20,8 @@ use index::layout::NODE_CELLS;
 use index::layout::NONE;
 use index::layout::NUMBER;
 use index::layout::OWN;
+use index::layout::PAIR_CELLS;
+use index::layout::PAIRS_AT;
 use index::layout::PLACE_LIMIT;
 use index::layout::PRESENT_AT;
 use index::layout::RESULT;
@@ -111,14 +114,14 @@ pub fn mask_of(t: &[u16], goal: usize) -> u32
 pub fn symbol_of(t: &[u16], b: usize) -> usize
     ensures { λ r. ⌜ (r ≡ symbolOf (now (t .entry)) b) × (r < 65536) ⌝ }
 {
-    place_at(t, ROWS_AT + b % ROW_LIMIT * ROW_CELLS + SYMBOL)
+    place_at(t, PAIRS_AT + b % MAX_BINDINGS * PAIR_CELLS + SYMBOL)
 }
 
 // The type of a binding, as a goal.
 pub fn own_of(t: &[u16], b: usize) -> usize
     ensures { λ r. ⌜ (r ≡ ownOf (now (t .entry)) b) × (r < 65536) ⌝ }
 {
-    place_at(t, ROWS_AT + b % ROW_LIMIT * ROW_CELLS + OWN)
+    place_at(t, PAIRS_AT + b % MAX_BINDINGS * PAIR_CELLS + OWN)
 }
 
 // The first binding of a nonterminal or a later one.

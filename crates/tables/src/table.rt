@@ -5,13 +5,13 @@ use crate::types::fill_bindings;
 use crate::types::fill_states;
 use crate::types::fill_types;
 use goals::groups::fill_groups;
-use index::entries::larger;
 use index::entries::place_at;
 use index::layout::BINDING;
 use index::layout::CONSTRUCTOR;
 use index::layout::GROUPS_AT;
 use index::layout::MAX_STATES;
 use index::layout::NONTERMINAL;
+use index::layout::PAIRS_AT;
 use index::layout::ROW_CELLS;
 use index::layout::ROWS_AT;
 use index::layout::RULE;
@@ -23,10 +23,10 @@ ghost use Rattle.tables.specs.table.Parts.{FillsGroups};
 fn enter_groups(file: &[u8], index: &[u16], n: usize, last: usize, t: &mut [u16])
     ensures { λ _. ⌜ FillsGroups (now (file .entry)) (now (index .entry)) n last (now (t .entry)) (now (t .exit)) ⌝ }
 {
-    if t.len() < ROWS_AT {
+    if t.len() < PAIRS_AT {
         return;
     }
-    fill_groups(file, index, n, last, &mut t[GROUPS_AT..ROWS_AT]);
+    fill_groups(file, index, n, last, &mut t[GROUPS_AT..PAIRS_AT]);
 }
 
 // Fills the table, and says where its nodes begin.
@@ -45,7 +45,7 @@ pub fn fill_table(
     let nonterminals = place_at(counts, NONTERMINAL);
     let constructors = place_at(counts, CONSTRUCTOR);
     let rules = place_at(counts, RULE);
-    let at = ROWS_AT + larger(types + MAX_STATES, bindings) * ROW_CELLS;
+    let at = ROWS_AT + (types + MAX_STATES) * ROW_CELLS;
     enter_groups(file, index, bindings, nonterminals, t);
     fill_automaton(file, index, constructors, t);
     fill_states(t);

@@ -20,6 +20,8 @@ use index::layout::MEMBERS;
 use index::layout::NEAR;
 use index::layout::NONE;
 use index::layout::OWN;
+use index::layout::PAIR_CELLS;
+use index::layout::PAIRS_AT;
 use index::layout::RESULT;
 use index::layout::ROW_CELLS;
 use index::layout::ROW_LIMIT;
@@ -191,24 +193,24 @@ pub fn fill_types(file: &[u8], index: &[u16], types: usize, t: &mut [u16])
     }
 }
 
-// Enters the rows of all bindings, where the table has them.
+// Enters the nonterminals and the types of all bindings, where the table has room for them.
 pub fn fill_bindings(file: &[u8], index: &[u16], bindings: usize, t: &mut [u16])
     ensures { λ _. ⌜ FillsBindings (now (file .entry)) (now (index .entry)) bindings (now (t .entry)) (now (t .exit)) ⌝ }
 {
     if MAX_BINDINGS < bindings {
         return;
     }
-    if t.len() < ROWS_AT + bindings * ROW_CELLS {
+    if t.len() < PAIRS_AT + bindings * PAIR_CELLS {
         return;
     }
     let mut b: usize = 0;
     while b < bindings {
-        let row = row_at(b);
+        let pair = PAIRS_AT + b * PAIR_CELLS;
         let place = place_at(index, BINDINGS_AT + b);
         let symbol = word_at(file, place);
         let own = goal_of(t, word_at(file, place + 2));
-        t[row + SYMBOL] = symbol as u16;
-        t[row + OWN] = own as u16;
+        t[pair + SYMBOL] = symbol as u16;
+        t[pair + OWN] = own as u16;
         b = b + 1;
     }
 }

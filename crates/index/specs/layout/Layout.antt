@@ -168,8 +168,14 @@ aritiesAt = presentAt + maxConstructors
 abbrev pub groupsAt : ℕ
 groupsAt = aritiesAt + maxConstructors
 
+abbrev pub pairsAt : ℕ
+pairsAt = groupsAt + rowsSize
+
+abbrev pub pairCells : ℕ
+pairCells = 2
+
 abbrev pub rowsAt : ℕ
-rowsAt = groupsAt + rowsSize
+rowsAt = pairsAt + maxBindings * pairCells
 
 abbrev pub resultCell : ℕ
 resultCell = 0
@@ -190,25 +196,25 @@ abbrev pub goalCell : ℕ
 goalCell = 5
 
 abbrev pub symbolCell : ℕ
-symbolCell = 6
+symbolCell = 0
 
 abbrev pub ownCell : ℕ
-ownCell = 7
+ownCell = 1
 
 abbrev pub nearCell : ℕ
-nearCell = 8
+nearCell = 6
 
 abbrev pub lowCell : ℕ
-lowCell = 9
+lowCell = 7
 
 abbrev pub highCell : ℕ
-highCell = 10
+highCell = 8
 
 abbrev pub membersCell : ℕ
-membersCell = 11
+membersCell = 9
 
 abbrev pub rowCells : ℕ
-rowCells = 27
+rowCells = 25
 
 abbrev pub rowLimit : ℕ
 rowLimit = 2048

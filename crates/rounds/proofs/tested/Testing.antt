@@ -1,6 +1,6 @@
 -- The test of a binding is the check of its nonterminal's body against the final state of its type, with the numbers of the test in front
 -- of what is read and nothing remembered under the number of the test.
-use Prim.Native.Nat.{ℕ, _+_, _*_, _/_, _%_, _<_, _≤_, max}
+use Prim.Native.Nat.{ℕ, _+_, _*_, _/_, _%_, _<_, _≤_}
 use native.Mathlib.Omega.{arith}
 use native.Mathlib.Nat.{mul-le-mul}
 use mathlib.Core.Path.{_≡_, refl, sym, ap, subst, _∙_}
@@ -40,10 +40,6 @@ pub end-goal : {rs : List Record} {t : List ℕ} → TypesAre rs t → (g : ℕ)
 unfolding final
 end-goal {rs} {t} are g τ (of-state q h e f) = of-state q h (ap (endOf t) e ∙ are .state-row q h .own-end) (ap final f)
 end-goal {rs} {t} are g τ (of-arrow m a r k x u y) = let row = are .arrow-row g a r (of-arrow m a r k x u refl) in of-state (endOf t g) (row .end-small) refl (ap final y ∙ row .ends)
-
--- the greater of two is below what both are below
-max-below : (a b n : ℕ) → a ≤ n → b ≤ n → max a b ≤ n
-max-below a b n h k = omega arith
 
 -- the body of a nonterminal with a rule
 body-there : (rs : List Record) (f : ℕ) → f < count Kind.rule rs → body (planOf rs) f ≡ bodyOf (ruleOf rs f)
@@ -108,7 +104,6 @@ module _ (t firsts : List ℕ) (sizes : Sizes) (before test memo users : List �
           let few = frame .few-bindings in
           let types = frame .table .types .few-types in
           let i = first-for in
-          let m = max-below (count Kind.type rs + maxStates) (count Kind.binding rs) 1040 (omega arith) (omega arith) in
           omega arith
 
       column-for : (c : ℕ) → c < total rs → columnOf test c ≡ c * wordsFor rs

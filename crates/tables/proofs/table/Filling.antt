@@ -1,5 +1,5 @@
 -- The whole table: its parts are filled one after another, and each leaves the others as they are.
-use Prim.Native.Nat.{ℕ, zero, suc, _+_, _-_, _*_, _/_, _%_, _<_, _≤_, max}
+use Prim.Native.Nat.{ℕ, zero, suc, _+_, _-_, _*_, _/_, _%_, _<_, _≤_}
 use native.Mathlib.Omega.{arith}
 use native.Mathlib.Decide.{decLe}
 use mathlib.Core.Path.{_≡_, refl, sym, ap, subst, _∙_}
@@ -13,7 +13,7 @@ use Rattle.casefile.specs.Tables.{nodesOf}
 use Rattle.casefile.proofs.TypeTable.{count-payloads}
 use Rattle.records.specs.cursor.Reading.{partOf}
 use Rattle.records.proofs.cursor.Reading.{part-out}
-use Rattle.index.specs.layout.Layout.{maxStates, maxTypes, maxBindings, maxConstructors, maxNonterminals, rowsSize, groupsAt, rowsAt, rowCells, rowLimit, nodeCells}
+use Rattle.index.specs.layout.Layout.{maxStates, maxTypes, maxBindings, maxConstructors, maxNonterminals, rowsSize, groupsAt, pairsAt, pairCells, rowsAt, rowCells, rowLimit, nodeCells}
 use Rattle.index.specs.entries.Index.{Indexed}
 use Rattle.intake.proofs.plan.Contents.{payload-bytes}
 use Rattle.rules.specs.reading.RuleBodies.{nodesIn, ruleOf, firstNode}
@@ -21,7 +21,7 @@ use Rattle.rules.proofs.reading.AllRules.{nodes-more, nodes-some}
 use Rattle.goals.specs.groups.Groups.{Grouped, Fills}
 use Rattle.tables.specs.Facts.{StateRow, TypesAre, BindingsAre, AutomatonIs, NodesAre}
 use Rattle.tables.specs.Filling.{Given, nodesFrom, tableFor, TableIs, FillsTable}
-use Rattle.tables.specs.reading.Cells.{rowAt, cellOf, groupOf}
+use Rattle.tables.specs.reading.Cells.{rowAt, cellOf, pairAt, groupOf}
 use Rattle.tables.specs.types.Rows.{TypeSays, FillsStates, FillsTypes, FillsBindings}
 use Rattle.tables.specs.automaton.Packing.{FillsAutomaton}
 use Rattle.tables.specs.nodes.Bodies.{BodySays, startOf, firstOf, Bodied, FillsNodes}
@@ -34,10 +34,10 @@ use Rattle.tables.proofs.automaton.Meaning.{automaton-is, automaton-kep
 use Rattle.tables.proofs.nodes.Meaning.{nodes-are}
 
 -- The groups, in their part of the table.
-pub groups-none : {file index : List ℕ} {n last : ℕ} {t : List ℕ} → length t < rowsAt → FillsGroups file index n last t t
+pub groups-none : {file index : List ℕ} {n last : ℕ} {t : List ℕ} → length t < pairsAt → FillsGroups file index n last t t
 groups-none h = record { long = refl; grouped = λ room. absurd (omega arith) }
 
-pub groups-put : {file index : List ℕ} {n last : ℕ} (t groups : List ℕ) → rowsAt ≤ length t → Fills file index n last (take rowsSize (drop groupsAt t)) groups → FillsGroups file index n last t (take groupsAt t ++ (groups ++ drop rowsSize (drop groupsAt t)))
+pub groups-put : {file index : List ℕ} {n last : ℕ} (t groups : List ℕ) → pairsAt ≤ length t → Fills file index n last (take rowsSize (drop groupsAt t)) groups → FillsGroups file index n last t (take groupsAt t ++ (groups ++ drop rowsSize (drop groupsAt t)))
 groups-put {file} {index} {n} {last} t groups room fills =
     record {
       long = same-len-mid groupsAt rowsSize t groups (fills .long);
@@ -76,14 +76,9 @@ part-there file start p e = go (decLe (start + length p) (length file))
     go (no l) = let none : length p ≡ 0 = ap length (sym e ∙ part-out file start (length p) (omega arith)) in omega arith
 
 -- where the nodes begin
-pub nodes-from : {file index counts ends firsts : List ℕ} (rs : List Record) → Given file index counts ends firsts rs → (types bindings r : ℕ) → types ≡ getD counts 7 0 → bindings ≡ getD counts 8 0 → r ≡ max (types + maxStates) bindings → rowsAt + r * rowCells ≡ nodesFrom rs
+pub nodes-from : {file index counts ends firsts : List ℕ} (rs : List Record) → Given file index counts ends firsts rs → (types : ℕ) → types ≡ getD counts 7 0 → rowsAt + (types + maxStates) * rowCells ≡ nodesFrom rs
 unfolding number
-nodes-from rs given types bindings r et eb er =
-    let a = given .known .entries Kind.type .counted in
-    let b = given .known .entries Kind.binding .counted in
-    let x : types ≡ count Kind.type rs = et ∙ sym a in
-    let y : bindings ≡ count Kind.binding rs = eb ∙ sym b in
-    ap (λ k. rowsAt + k * rowCells) (er ∙ ap (λ k. max (k + maxStates) bindings) x ∙ ap (max (count Kind.type rs + maxStates)) y)
+nodes-from rs given types et = ap (λ k. rowsAt + (k + maxStates) * rowCells) (et ∙ sym (given .known .entries Kind.type .counted))
 
 module _ {file index counts ends firsts : List ℕ} (rs : List Record) (given : Given file index counts ends firsts rs) (types bindings nonterminals constructors rules at : ℕ)
     (et : types ≡ getD counts 7 0) (eb : bindings ≡ getD counts 8 0) (en : nonterminals ≡ getD counts 3 0) (ec : constructors ≡ getD counts 2 0) (er : rules ≡ getD counts 4 0) (ea : at ≡ nodesFrom rs)
@@ -139,10 +134,10 @@ module _ {file index counts ends firsts : List ℕ} (rs : List Record) (given : 
       omega arith
 
   -- the table has room for the rows
-  rows-there : (rowsAt + (types + maxStates) * rowCells ≤ at) × (rowsAt + bindings * rowCells ≤ at) × (at ≤ length t)
+  rows-there : (rowsAt + (types + maxStates) * rowCells ≤ at) × (pairsAt + bindings * pairCells ≤ rowsAt) × (at ≤ length t)
   rows-there =
       let x = type-there .counted in
-      let y = binding-there .counted in
+      let few = few-bindings in
       (omega arith, omega arith, omega arith)
 
   lengths : (length a ≡ length t) × (length b ≡ length t) × (length c ≡ length t) × (length d ≡ length t) × (length e ≡ length t)
@@ -179,11 +174,11 @@ module _ {file index counts ends firsts : List ℕ} (rs : List Record) (given : 
   row-kept : (g k : ℕ) → (g < types + maxStates) → k < rowCells → cellOf f g k ≡ cellOf e g k
   row-kept g k h l = let (r, s, u) = rows-there in let few = few-types in ns .below (rowAt g + k) (omega arith)
 
-  binding-kept : (g k : ℕ) → (g < bindings) → k < rowCells → cellOf f g k ≡ cellOf e g k
-  binding-kept g k h l = let (r, s, u) = rows-there in let few = few-bindings in ns .below (rowAt g + k) (omega arith)
+  binding-kept : (g k : ℕ) → k < pairCells → getD f (pairAt g + k) 0 ≡ getD e (pairAt g + k) 0
+  binding-kept g k l = let (r, s, u) = rows-there in ns .below (pairAt g + k) (omega arith)
 
   types-last : TypesAre rs f
-  types-last = let x = type-there .counted in types-kept rs d f (λ g k h l y z. row-kept g k (omega arith) l ∙ bs .others g k l y z) types-there
+  types-last = let x = type-there .counted in types-kept rs d f (λ g k h l. row-kept g k (omega arith) l ∙ bs .within .outside (rowAt g + k) (λ y z. omega arith)) types-there
 
   -- the groups
   groups-kept : (g : ℕ) → g < rowsSize → groupOf e g ≡ getD (groupsIn a) g 0
@@ -207,7 +202,7 @@ module _ {file index counts ends firsts : List ℕ} (rs : List Record) (given : 
       let n = binding-there .counted in
       let k = nonterminal-there .counted in
       let few = few-nonterminals in
-      bindings-kept rs e f (λ g k h l. binding-kept g k (omega arith) l) (λ g h. ns .below (groupsAt + g % rowLimit) (omega arith)) (λ g h. let l = symbol-below (given .passed) binding-there few-bindings g (omega arith) in omega arith) bindings-there
+      bindings-kept rs e f binding-kept (λ g h. ns .below (groupsAt + g % rowLimit) (omega arith)) (λ g h. let l = symbol-below (given .passed) binding-there few-bindings g (omega arith) in omega arith) bindings-there
 
   -- the automaton
   automaton-last : AutomatonIs rs f
@@ -278,12 +273,12 @@ module _ {file index counts ends firsts : List ℕ} (rs : List Record) (given : 
   table-is = record { types = types-last; bindings = bindings-last; automaton = automaton-last; bodies = bodies-last }
 
 -- THE TABLE
-pub table-filled : {file index counts ends firsts : List ℕ} (types bindings nonterminals constructors rules rows : ℕ) → types ≡ getD counts 7 0 → bindings ≡ getD counts 8 0 → nonterminals ≡ getD counts 3 0 → constructors ≡ getD counts 2 0 → rules ≡ getD counts 4 0 → rows ≡ max (types + maxStates) bindings
+pub table-filled : {file index counts ends firsts : List ℕ} (types bindings nonterminals constructors rules : ℕ) → types ≡ getD counts 7 0 → bindings ≡ getD counts 8 0 → nonterminals ≡ getD counts 3 0 → constructors ≡ getD counts 2 0 → rules ≡ getD counts 4 0
     → (t a b c d e f : List ℕ) → FillsGroups file index bindings nonterminals t a → FillsAutomaton file index constructors a b → FillsStates b c → FillsTypes file index types c d → FillsBindings file index bindings d e
-    → FillsNodes file index ends firsts rules (rowsAt + rows * rowCells) e f → FillsTable file index counts ends firsts t f (rowsAt + rows * rowCells)
-table-filled types bindings nonterminals constructors rules rows et eb en ec er em t a b c d e f gs as′ ss ts bs ns =
+    → FillsNodes file index ends firsts rules (rowsAt + (types + maxStates) * rowCells) e f → FillsTable file index counts ends firsts t f (rowsAt + (types + maxStates) * rowCells)
+table-filled types bindings nonterminals constructors rules et eb en ec er t a b c d e f gs as′ ss ts bs ns =
     record {
       long = ns .long ∙ bs .within .long ∙ ts .within .long ∙ ss .within .long ∙ as′ .within .long ∙ gs .long;
-      place = λ rs given. nodes-from rs given types bindings rows et eb em;
-      filled = λ rs given room. table-is rs given types bindings nonterminals constructors rules (rowsAt + rows * rowCells) et eb en ec er (nodes-from rs given types bindings rows et eb em) t a b c d e f gs as′ ss ts bs ns room;
+      place = λ rs given. nodes-from rs given types et;
+      filled = λ rs given room. table-is rs given types bindings nonterminals constructors rules (rowsAt + (types + maxStates) * rowCells) et eb en ec er (nodes-from rs given types et) t a b c d e f gs as′ ss ts bs ns room;
     }

@@ -1,4 +1,4 @@
--- What the rows of bindings mean: the nonterminal and the type of each; its nonterminal has it in its group.
+-- What the cells of bindings mean: the nonterminal and the type of each; its nonterminal has it in its group.
 use Prim.Native.Nat.{ℕ, suc, _+_, _*_, _<_, _≤_}
 use native.Mathlib.Omega.{arith}
 use native.Mathlib.Decide.{decLt}
@@ -19,7 +19,7 @@ use Rattle.casefile.specs.Tables.{typesOf, bindingsOf}
 use Rattle.casefile.specs.Promises.{Passed}
 use Rattle.casefile.proofs.Passed.{entry}
 use Rattle.casefile.proofs.TypeTable.{count-payloads}
-use Rattle.index.specs.layout.Layout.{maxBindings, rowsSize, rowsAt, rowCells, bindingsAt}
+use Rattle.index.specs.layout.Layout.{maxBindings, rowsSize, pairsAt, pairCells, bindingsAt}
 use Rattle.index.specs.entries.Index.{Indexed}
 use Rattle.goals.specs.groups.Groups.{nonterminalOf, Grouped}
 use Rattle.tables.specs.Facts.{Goal, noBinding, bindingAt, BindingsAre}
@@ -72,8 +72,8 @@ module _ {file index : List ℕ} {n : ℕ} {rs : List Record} (ok : Passed rs) (
       let l = binding-there ok b (omega arith) .1 in
       omega arith
 
-  -- THE ROWS OF BINDINGS
-  pub bindings-are : {t after : List ℕ} → FillsBindings file index n t after → rowsAt + n * rowCells ≤ length t → ((i : ℕ) → i < count Kind.type rs → Done rs t i)
+  -- THE CELLS OF BINDINGS
+  pub bindings-are : {t after : List ℕ} → FillsBindings file index n t after → pairsAt + n * pairCells ≤ length t → ((i : ℕ) → i < count Kind.type rs → Done rs t i)
       → (groups : List ℕ) → Grouped rs n groups → count Kind.nonterminal rs < rowsSize → ((f : ℕ) → f < rowsSize → groupOf after f ≡ getD groups f 0) → BindingsAre rs after
   bindings-are {t} {after} fills room done groups gs known same =
       record {

@@ -10,14 +10,14 @@ use lib.ListN.{length, getD, set}
 use lib.Seq.{getD-set-same, getD-set-other}
 use Rattle.casefile.specs.Fields.{byte, word}
 use Rattle.records.specs.fields.Promises.{HasLength}
-use Rattle.index.specs.layout.Layout.{maxStates, maxTypes, maxBindings, maxMembers, typesAt, bindingsAt, rowsAt, rowCells, goalCell, symbolCell, ownCell, nearCell, lowCell, highCell, membersCell, wordBits, noNumber}
+use Rattle.index.specs.layout.Layout.{maxStates, maxTypes, maxBindings, maxMembers, typesAt, bindingsAt, rowsAt, rowCells, goalCell, symbolCell, ownCell, nearCell, lowCell, highCell, membersCell, wordBits, noNumber, pairsAt, pairCells}
 use Rattle.index.specs.enter.Entering.{stored}
 use Rattle.marks.specs.Marks.{bitOf}
 use Rattle.marks.proofs.Bits.{zero-bit}
 use Rattle.tables.specs.Facts.{StateRow}
 use Rattle.tables.specs.Frames.{Within, Adds}
 use Rattle.tables.specs.declared.types.Among.{Among}
-use Rattle.tables.specs.reading.Cells.{rowAt, cellOf, endOf, memberOf, maskOf, symbolOf, ownOf}
+use Rattle.tables.specs.reading.Cells.{rowAt, cellOf, endOf, memberOf, maskOf, symbolOf, ownOf, pairAt}
 use Rattle.tables.specs.types.Rows.{rowOf, goalOf, memberIn, Room, FillsStates, CountsMembers, FillsMembers, StatesAmong, ArrowsAmong, NearAmong, NearWith, AddsMember, ArrowSays, Low, FillsArrow, TypeSays, FillsType, FillsTypes, FillsBindings}
 use Rattle.tables.proofs.Frames.{Put, within-none, within-then, within-wider, store-long, store-here, store-other, within-store, within-set, stores, row-apart, column-apart, other-row}
 
@@ -244,76 +244,75 @@ module _ {file : List ℕ} {start many m : ℕ} {before : List ℕ} {j : ℕ} {t
 pub record BindingsTo (file index : List ℕ) (bindings : ℕ) (before : List ℕ) (b : ℕ) (t : List ℕ) : Type 0 where
   pub upTo : b ≤ bindings
   pub few : bindings ≤ maxBindings
-  pub within : Within rowsAt (rowsAt + bindings * rowCells) before t
-  pub others : (i k : ℕ) → k < rowCells → (k ≡ symbolCell → ⊥) → (k ≡ ownCell → ⊥) → cellOf t i k ≡ cellOf before i k
-  pub symbol : rowsAt + bindings * rowCells ≤ length before → (i : ℕ) → i < b → symbolOf t i ≡ word file (getD index (bindingsAt + i) 0)
-  pub own : rowsAt + bindings * rowCells ≤ length before → (i : ℕ) → i < b → ownOf t i ≡ goalOf before (word file (getD index (bindingsAt + i) 0 + 2))
+  pub within : Within pairsAt (pairsAt + maxBindings * pairCells) before t
+  pub symbol : pairsAt + bindings * pairCells ≤ length before → (i : ℕ) → i < b → symbolOf t i ≡ word file (getD index (bindingsAt + i) 0)
+  pub own : pairsAt + bindings * pairCells ≤ length before → (i : ℕ) → i < b → ownOf t i ≡ goalOf before (word file (getD index (bindingsAt + i) 0 + 2))
 
 pub bindings-many : {file index : List ℕ} {bindings : ℕ} {before : List ℕ} → maxBindings < bindings → FillsBindings file index bindings before before
-bindings-many h = record { within = within-none; others = λ i k l x y. refl; symbol = λ few. absurd (omega arith); own = λ few. absurd (omega arith) }
+bindings-many h = record { within = within-none; symbol = λ few. absurd (omega arith); own = λ few. absurd (omega arith) }
 
-pub bindings-far : {file index : List ℕ} {bindings : ℕ} {before : List ℕ} → length before < rowsAt + bindings * rowCells → FillsBindings file index bindings before before
-bindings-far h = record { within = within-none; others = λ i k l x y. refl; symbol = λ few room. absurd (omega arith); own = λ few room. absurd (omega arith) }
+pub bindings-far : {file index : List ℕ} {bindings : ℕ} {before : List ℕ} → length before < pairsAt + bindings * pairCells → FillsBindings file index bindings before before
+bindings-far h = record { within = within-none; symbol = λ few room. absurd (omega arith); own = λ few room. absurd (omega arith) }
 
 pub bindings-none : {file index : List ℕ} {bindings : ℕ} {before : List ℕ} → bindings ≤ maxBindings → BindingsTo file index bindings before 0 before
-bindings-none few = record { upTo = omega arith; few = few; within = within-none; others = λ i k l x y. refl; symbol = λ l i h. absurd (omega arith); own = λ l i h. absurd (omega arith) }
+bindings-none few = record { upTo = omega arith; few = few; within = within-none; symbol = λ l i h. absurd (omega arith); own = λ l i h. absurd (omega arith) }
 
 module _ {file index : List ℕ} {bindings : ℕ} {before : List ℕ} {b : ℕ} {t : List ℕ} (so : BindingsTo file index bindings before b t) where
-  pub bindings-more : b < bindings → (row place symbol w own : ℕ) → row ≡ rowAt b → place ≡ getD index (bindingsAt + b) 0 → symbol ≡ word file place → symbol < 65536 → w ≡ word file (place + 2) → own ≡ goalOf t w → own < 65536
-      → BindingsTo file index bindings before (b + 1) (set (set t (row + symbolCell) symbol) (row + ownCell) own)
-  bindings-more h row place symbol w own er ep es small ew eo small′ =
+  pub bindings-more : b < bindings → (place symbol w own : ℕ) → place ≡ getD index (bindingsAt + b) 0 → symbol ≡ word file place → symbol < 65536 → w ≡ word file (place + 2) → own ≡ goalOf t w → own < 65536
+      → BindingsTo file index bindings before (b + 1) (set (set t (pairsAt + b * pairCells + symbolCell) symbol) (pairsAt + b * pairCells + ownCell) own)
+  bindings-more h place symbol w own ep es small ew eo small′ =
       let few = so .few in
       record {
         upTo = omega arith;
         few = so .few;
         within = within-then (so .within) (within-then (within-store pa (omega arith) (omega arith)) (within-store pc (omega arith) (omega arith)));
-        others = λ i k l x y. both i k (λ e. x (column-apart i b k symbolCell l (omega arith) (e ∙ ap (λ z. z + symbolCell) er))) (λ e. y (column-apart i b k ownCell l (omega arith) (e ∙ ap (λ z. z + ownCell) er))) ∙ so .others i k l x y;
         symbol = λ l i k. symbol-at l i k (ℕ-discrete i b);
         own = λ l i k. own-at l i k (ℕ-discrete i b);
       }
     where
       a : List ℕ
-      a = set t (row + symbolCell) symbol
+      a = set t (pairsAt + b * pairCells + symbolCell) symbol
 
       c : List ℕ
-      c = set a (row + ownCell) own
+      c = set a (pairsAt + b * pairCells + ownCell) own
 
-      pa : Put t (row + symbolCell) symbol a
-      pa = record { is = stores t (row + symbolCell) symbol small }
+      pa : Put t (pairsAt + b * pairCells + symbolCell) symbol a
+      pa = record { is = stores t (pairsAt + b * pairCells + symbolCell) symbol small }
 
-      pc : Put a (row + ownCell) own c
-      pc = record { is = stores a (row + ownCell) own small′ }
+      pc : Put a (pairsAt + b * pairCells + ownCell) own c
+      pc = record { is = stores a (pairsAt + b * pairCells + ownCell) own small′ }
 
-      both : (i k : ℕ) → (rowAt i + k ≡ row + symbolCell → ⊥) → (rowAt i + k ≡ row + ownCell → ⊥) → cellOf c i k ≡ cellOf t i k
-      both i k x y = store-other pc (rowAt i + k) y ∙ store-other pa (rowAt i + k) x
+      both : (i : ℕ) → (i ≡ pairsAt + b * pairCells + symbolCell → ⊥) → (i ≡ pairsAt + b * pairCells + ownCell → ⊥) → getD c i 0 ≡ getD t i 0
+      both i x y = store-other pc i y ∙ store-other pa i x
 
-      -- a row of an earlier binding
-      earlier : (i k l : ℕ) → i < bindings → (i ≡ b → ⊥) → k < rowCells → l < rowCells → rowAt i + k ≡ row + l → ⊥
-      earlier i k l hi z hk hl e = z (row-apart i b k l (omega (arith, so .few)) (omega (arith, so .few)) hk hl (e ∙ ap (λ x. x + l) er))
+      there : pairAt b ≡ pairsAt + b * pairCells
+      there = let few = so .few in omega arith
 
-      symbol-at : rowsAt + bindings * rowCells ≤ length before → (i : ℕ) → i < b + 1 → Dec (i ≡ b) → symbolOf c i ≡ word file (getD index (bindingsAt + i) 0)
+      symbol-at : pairsAt + bindings * pairCells ≤ length before → (i : ℕ) → i < b + 1 → Dec (i ≡ b) → symbolOf c i ≡ word file (getD index (bindingsAt + i) 0)
       symbol-at l i k (no z) =
+          let few = so .few in
           let y : (i ≡ b → ⊥) = z in
-          both i symbolCell (earlier i symbolCell symbolCell (omega arith) z (omega arith) (omega arith)) (earlier i symbolCell ownCell (omega arith) z (omega arith) (omega arith)) ∙ so .symbol l i (omega arith)
+          both (pairAt i + symbolCell) (λ e. z (omega arith)) (λ e. omega arith) ∙ so .symbol l i (omega arith)
       symbol-at l i k (yes z) =
           let lt = so .within .long in
           let few = so .few in
           subst (λ x. symbolOf c x ≡ word file (getD index (bindingsAt + x) 0)) (sym z)
-          (ap (λ x. getD c (x + symbolCell) 0) (sym er) ∙ store-other pc (row + symbolCell) (λ e. omega arith) ∙ store-here pa small (omega arith) ∙ es ∙ ap (word file) ep)
+          (ap (λ x. getD c (x + symbolCell) 0) there ∙ store-other pc (pairsAt + b * pairCells + symbolCell) (λ e. omega arith) ∙ store-here pa small (omega arith) ∙ es ∙ ap (word file) ep)
 
-      own-at : rowsAt + bindings * rowCells ≤ length before → (i : ℕ) → i < b + 1 → Dec (i ≡ b) → ownOf c i ≡ goalOf before (word file (getD index (bindingsAt + i) 0 + 2))
+      own-at : pairsAt + bindings * pairCells ≤ length before → (i : ℕ) → i < b + 1 → Dec (i ≡ b) → ownOf c i ≡ goalOf before (word file (getD index (bindingsAt + i) 0 + 2))
       own-at l i k (no z) =
+          let few = so .few in
           let y : (i ≡ b → ⊥) = z in
-          both i ownCell (earlier i ownCell symbolCell (omega arith) z (omega arith) (omega arith)) (earlier i ownCell ownCell (omega arith) z (omega arith) (omega arith)) ∙ so .own l i (omega arith)
+          both (pairAt i + ownCell) (λ e. omega arith) (λ e. z (omega arith)) ∙ so .own l i (omega arith)
       own-at l i k (yes z) =
           let lt = so .within .long in
           let la = store-long pa in
           let few = so .few in
           subst (λ x. ownOf c x ≡ goalOf before (word file (getD index (bindingsAt + x) 0 + 2))) (sym z)
-          (ap (λ x. getD c (x + ownCell) 0) (sym er) ∙ store-here pc small′ (omega arith) ∙ eo ∙ so .others (rowOf w) goalCell (omega arith) (λ e. omega arith) (λ e. omega arith) ∙ ap (goalOf before) (ew ∙ ap (λ x. word file (x + 2)) ep))
+          (ap (λ x. getD c (x + ownCell) 0) there ∙ store-here pc small′ (omega arith) ∙ eo ∙ so .within .outside (rowAt (rowOf w) + goalCell) (λ x y. omega arith) ∙ ap (goalOf before) (ew ∙ ap (λ x. word file (x + 2)) ep))
 
   pub bindings-all : bindings ≤ b → FillsBindings file index bindings before t
-  bindings-all h = record { within = so .within; others = so .others; symbol = λ few l i k. so .symbol l i (omega arith); own = λ few l i k. so .own l i (omega arith) }
+  bindings-all h = record { within = so .within; symbol = λ few l i k. so .symbol l i (omega arith); own = λ few l i k. so .own l i (omega arith) }
 
 -- The row of an arrow.
 module _ {file : List ℕ} {start len m : ℕ} {t : List ℕ} (types : m < maxTypes) (room : Room (rowOf m) t) where

@@ -5,7 +5,7 @@ use mathlib.Core.List.{List}
 use lib.Dec.{eqb}
 use lib.ListN.{getD}
 use Rattle.scheme.specs.Lists.{if_then_else_}
-use Rattle.index.specs.layout.Layout.{maxStates, maxNodes, maxMembers, maxConstructors, groupsAt, rowsAt, rowLimit, rowCells, resultCell, endCell, statesCell, arrowsCell, manyCell, symbolCell, ownCell, nearCell, lowCell, highCell, membersCell, presentAt, aritiesAt, targetsBase, placeLimit, nodeCells, numberCell, nextCell, noNumber}
+use Rattle.index.specs.layout.Layout.{maxStates, maxNodes, maxMembers, maxConstructors, groupsAt, rowsAt, rowLimit, rowCells, resultCell, endCell, statesCell, arrowsCell, manyCell, symbolCell, ownCell, nearCell, lowCell, highCell, membersCell, presentAt, aritiesAt, targetsBase, placeLimit, nodeCells, numberCell, nextCell, noNumber, maxBindings, pairsAt, pairCells}
 use Rattle.tables.specs.declared.reading.Node.{Node}
 
 -- where a row begins, and a cell of it
@@ -42,11 +42,14 @@ abbrev pub maskOf : List ℕ → ℕ → ℕ
 maskOf t g = cellOf t g lowCell + 65536 * cellOf t g highCell
 
 -- the nonterminal of a binding, and its type as a goal
+abbrev pub pairAt : ℕ → ℕ
+pairAt b = pairsAt + b % maxBindings * pairCells
+
 abbrev pub symbolOf : List ℕ → ℕ → ℕ
-symbolOf t b = cellOf t b symbolCell
+symbolOf t b = getD t (pairAt b + symbolCell) 0
 
 abbrev pub ownOf : List ℕ → ℕ → ℕ
-ownOf t b = cellOf t b ownCell
+ownOf t b = getD t (pairAt b + ownCell) 0
 
 -- the first binding of a nonterminal
 abbrev pub groupOf : List ℕ → ℕ → ℕ

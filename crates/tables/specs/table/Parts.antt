@@ -7,7 +7,7 @@ use lib.ListN.{length, take, drop}
 use Rattle.casefile.specs.Records.{Record}
 use Rattle.casefile.specs.Kinds.{Kind, count}
 use Rattle.casefile.specs.Promises.{Passed}
-use Rattle.index.specs.layout.Layout.{maxBindings, rowsSize, groupsAt, rowsAt}
+use Rattle.index.specs.layout.Layout.{maxBindings, rowsSize, groupsAt, pairsAt}
 use Rattle.index.specs.entries.Index.{Indexed}
 use Rattle.goals.specs.groups.Groups.{Grouped}
 
@@ -17,4 +17,4 @@ groupsIn t = take rowsSize (drop groupsAt t)
 
 pub record FillsGroups (file index : List ℕ) (n last : ℕ) (before after : List ℕ) : Type 0 where
   pub long : length after ≡ length before
-  pub grouped : rowsAt ≤ length before → last < rowsSize → (rs : List Record) → Passed rs → Indexed file index Kind.binding n rs → n ≤ maxBindings → count Kind.nonterminal rs ≤ last → Grouped rs n (groupsIn after)
+  pub grouped : pairsAt ≤ length before → last < rowsSize → (rs : List Record) → Passed rs → Indexed file index Kind.binding n rs → n ≤ maxBindings → count Kind.nonterminal rs ≤ last → Grouped rs n (groupsIn after)

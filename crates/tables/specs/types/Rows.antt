@@ -5,7 +5,7 @@ use mathlib.Core.Path.{_≡_}
 use mathlib.Core.List.{List}
 use lib.ListN.{length, getD}
 use Rattle.casefile.specs.Fields.{byte, word}
-use Rattle.index.specs.layout.Layout.{maxStates, maxTypes, maxBindings, maxMembers, typesAt, bindingsAt, rowsAt, rowCells, goalCell, symbolCell, ownCell, membersCell, wordBits, noNumber}
+use Rattle.index.specs.layout.Layout.{maxStates, maxTypes, maxBindings, maxMembers, typesAt, bindingsAt, rowsAt, rowCells, goalCell, membersCell, wordBits, noNumber, pairsAt, pairCells}
 use Rattle.marks.specs.Marks.{bitOf}
 use Rattle.tables.specs.Facts.{StateRow}
 use Rattle.tables.specs.Frames.{Within, Adds}
@@ -114,7 +114,6 @@ pub record FillsTypes (file index : List ℕ) (types : ℕ) (before after : List
 
 -- the rows of all bindings: two cells of each
 pub record FillsBindings (file index : List ℕ) (bindings : ℕ) (before after : List ℕ) : Type 0 where
-  pub within : Within rowsAt (rowsAt + bindings * rowCells) before after
-  pub others : (i k : ℕ) → k < rowCells → (k ≡ symbolCell → ⊥) → (k ≡ ownCell → ⊥) → cellOf after i k ≡ cellOf before i k
-  pub symbol : bindings ≤ maxBindings → rowsAt + bindings * rowCells ≤ length before → (b : ℕ) → b < bindings → symbolOf after b ≡ word file (getD index (bindingsAt + b) 0)
-  pub own : bindings ≤ maxBindings → rowsAt + bindings * rowCells ≤ length before → (b : ℕ) → b < bindings → ownOf after b ≡ goalOf before (word file (getD index (bindingsAt + b) 0 + 2))
+  pub within : Within pairsAt (pairsAt + maxBindings * pairCells) before after
+  pub symbol : bindings ≤ maxBindings → pairsAt + bindings * pairCells ≤ length before → (b : ℕ) → b < bindings → symbolOf after b ≡ word file (getD index (bindingsAt + b) 0)
+  pub own : bindings ≤ maxBindings → pairsAt + bindings * pairCells ≤ length before → (b : ℕ) → b < bindings → ownOf after b ≡ goalOf before (word file (getD index (bindingsAt + b) 0 + 2))

@@ -29,7 +29,7 @@ returns c =
     let a = c .before .before .before .before .before .before .before .before .before .before .before .before .before .before .before .before .args in
     let i : _≡_ {A = ℕ} indexSize (length (a .index .now)) = search needs in
     let f : _≡_ {A = ℕ} rowsSize (length (a .firsts .now)) = search needs in
-    frame-judges {rows = maxGoals} (omega arith) (zeros (readOf maxTypes maxBindings)) (zeros (writeOf hintCells maxBindings maxNodes maxTypes)) (c .before .before .before .before .before .judge-bindings .ensures)
+    frame-judges (omega arith) (zeros (readOf maxTypes maxBindings)) (zeros (writeOf hintCells maxBindings maxNodes maxTypes)) (c .before .before .before .before .before .judge-bindings .ensures)
 
 pub all-bindings-spec : {M : Type 1} → statement M
 all-bindings-spec =

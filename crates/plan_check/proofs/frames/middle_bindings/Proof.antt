@@ -29,7 +29,7 @@ returns c =
     let a = c .before .before .before .before .before .before .before .before .before .before .before .before .before .before .before .before .args in
     let i : _≡_ {A = ℕ} indexSize (length (a .index .now)) = search needs in
     let f : _≡_ {A = ℕ} rowsSize (length (a .firsts .now)) = search needs in
-    frame-judges {rows = middleTypes + maxStates} (omega arith) (zeros (readOf middleTypes middleBindings)) (zeros (writeOf hintCells middleBindings maxNodes middleTypes)) (c .before .before .before .before .before .judge-bindings .ensures)
+    frame-judges (omega arith) (zeros (readOf middleTypes middleBindings)) (zeros (writeOf hintCells middleBindings maxNodes middleTypes)) (c .before .before .before .before .before .judge-bindings .ensures)
 
 pub middle-bindings-spec : {M : Type 1} → statement M
 middle-bindings-spec =

@@ -29,7 +29,7 @@ returns c =
     let a = c .before .before .before .before .before .before .before .before .before .before .before .before .before .before .before .before .args in
     let i : _≡_ {A = ℕ} indexSize (length (a .index .now)) = search needs in
     let f : _≡_ {A = ℕ} rowsSize (length (a .firsts .now)) = search needs in
-    frame-judges {rows = plainBindings} (omega arith) (zeros (readOf plainTypes plainBindings)) (zeros (writeOf 0 plainBindings maxNodes plainTypes)) (c .before .before .before .before .before .judge-bindings .ensures)
+    frame-judges (omega arith) (zeros (readOf plainTypes plainBindings)) (zeros (writeOf 0 plainBindings maxNodes plainTypes)) (c .before .before .before .before .before .judge-bindings .ensures)
 
 pub plain-bindings-spec : {M : Type 1} → statement M
 plain-bindings-spec =

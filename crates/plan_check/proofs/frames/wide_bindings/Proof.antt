@@ -29,7 +29,7 @@ returns c =
     let a = c .before .before .before .before .before .before .before .before .before .before .before .before .before .before .before .before .args in
     let i : _≡_ {A = ℕ} indexSize (length (a .index .now)) = search needs in
     let f : _≡_ {A = ℕ} rowsSize (length (a .firsts .now)) = search needs in
-    frame-judges {rows = wideBindings} (omega arith) (zeros (readOf wideTypes wideBindings)) (zeros (writeOf 0 wideBindings maxNodes wideTypes)) (c .before .before .before .before .before .judge-bindings .ensures)
+    frame-judges (omega arith) (zeros (readOf wideTypes wideBindings)) (zeros (writeOf 0 wideBindings maxNodes wideTypes)) (c .before .before .before .before .before .judge-bindings .ensures)
 
 pub wide-bindings-spec : {M : Type 1} → statement M
 wide-bindings-spec =

@@ -21,17 +21,14 @@ place-at-requires-4 c κs = search needs
 place-at-requires-5 : tie.Need-place-at-requires-5
 place-at-requires-5 c κs = search needs
 
-add-larger : tie.Need-add-larger
-add-larger c = omega (arith, c .before .before .before .before .place-at .ensures .bound)
-
-larger-requires : tie.Need-larger-requires
-larger-requires c κs = search needs
+add-at : tie.Need-add-at
+add-at c = omega (arith, c .before .before .before .before .place-at .ensures .bound)
 
 mul-at : tie.Need-mul-at
-mul-at c = omega (arith, c .before .before .before .before .before .place-at .ensures .bound, c .before .before .before .before .place-at2 .ensures .bound, c .larger .ensures)
+mul-at c = omega (arith, c .before .before .before .before .place-at .ensures .bound)
 
-add-at : tie.Need-add-at
-add-at c = omega (arith, c .before .before .before .before .before .place-at .ensures .bound, c .before .before .before .before .place-at2 .ensures .bound, c .larger .ensures)
+add-at-2 : tie.Need-add-at-2
+add-at-2 c = omega (arith, c .before .before .before .before .place-at .ensures .bound)
 
 enter-groups-requires : tie.Need-enter-groups-requires
 enter-groups-requires c κs = search needs
@@ -55,7 +52,7 @@ same-length : tie.Need-same-length
 same-length c = c .before .before .fill-nodes .ensures .long ∙ c .before .before .before .before .before .before .fill-bindings .ensures .within .long ∙ c .before .before .before .before .before .before .before .before .before .before .fill-types .ensures .within .long ∙ c .before .before .before .before .before .before .before .before .before .before .before .before .before .before .fill-states .ensures .within .long ∙ c .before .before .before .before .before .before .before .before .before .before .before .before .before .before .before .before .before .before .fill-automaton .ensures .within .long ∙ c .before .before .before .before .before .before .before .before .before .before .before .before .before .before .before .before .before .before .before .before .before .before .enter-groups .ensures .long
 
 returns : tie.Need-returns
-returns c = table-filled _ _ _ _ _ _ (c .before .before .before .before .before .before .before .before .before .before .before .before .before .before .before .before .before .before .before .before .before .before .before .before .before .before .before .before .before .place-at .ensures .value) (c .before .before .before .before .before .before .before .before .before .before .before .before .before .before .before .before .before .before .before .before .before .before .before .before .before .before .before .before .place-at2 .ensures .value) (c .before .before .before .before .before .before .before .before .before .before .before .before .before .before .before .before .before .before .before .before .before .before .before .before .before .before .before .place-at3 .ensures .value) (c .before .before .before .before .before .before .before .before .before .before .before .before .before .before .before .before .before .before .before .before .before .before .before .before .before .before .place-at4 .ensures .value) (c .before .before .before .before .before .before .before .before .before .before .before .before .before .before .before .before .before .before .before .before .before .before .before .before .before .place-at5 .ensures .value) (c .before .before .before .before .before .before .before .before .before .before .before .before .before .before .before .before .before .before .before .before .before .before .before .before .larger .ensures) _ _ _ _ _ _ _ (c .before .before .before .before .before .before .before .before .before .before .before .before .before .before .before .before .before .before .before .before .before .before .enter-groups .ensures) (c .before .before .before .before .before .before .before .before .before .before .before .before .before .before .before .before .before .before .fill-automaton .ensures) (c .before .before .before .before .before .before .before .before .before .before .before .before .before .before .fill-states .ensures) (c .before .before .before .before .before .before .before .before .before .before .fill-types .ensures) (c .before .before .before .before .before .before .fill-bindings .ensures) (c .before .before .fill-nodes .ensures)
+returns c = table-filled _ _ _ _ _ (c .before .before .before .before .before .before .before .before .before .before .before .before .before .before .before .before .before .before .before .before .before .before .before .before .before .before .before .before .place-at .ensures .value) (c .before .before .before .before .before .before .before .before .before .before .before .before .before .before .before .before .before .before .before .before .before .before .before .before .before .before .before .place-at2 .ensures .value) (c .before .before .before .before .before .before .before .before .before .before .before .before .before .before .before .before .before .before .before .before .before .before .before .before .before .before .place-at3 .ensures .value) (c .before .before .before .before .before .before .before .before .before .before .before .before .before .before .before .before .before .before .before .before .before .before .before .before .before .place-at4 .ensures .value) (c .before .before .before .before .before .before .before .before .before .before .before .before .before .before .before .before .before .before .before .before .before .before .before .before .place-at5 .ensures .value) _ _ _ _ _ _ _ (c .before .before .before .before .before .before .before .before .before .before .before .before .before .before .before .before .before .before .before .before .before .before .enter-groups .ensures) (c .before .before .before .before .before .before .before .before .before .before .before .before .before .before .before .before .before .before .fill-automaton .ensures) (c .before .before .before .before .before .before .before .before .before .before .before .before .before .before .fill-states .ensures) (c .before .before .before .before .before .before .before .before .before .before .fill-types .ensures) (c .before .before .before .before .before .before .fill-bindings .ensures) (c .before .before .fill-nodes .ensures)
 
 pub fill-table-spec : {M : Type 1} → statement M
 fill-table-spec =
@@ -66,10 +63,9 @@ fill-table-spec =
     place-at-requires-3
     place-at-requires-4
     place-at-requires-5
-    add-larger
-    larger-requires
-    mul-at
     add-at
+    mul-at
+    add-at-2
     enter-groups-requires
     fill-automaton-requires
     fill-states-requires

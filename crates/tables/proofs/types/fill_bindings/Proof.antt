@@ -1,4 +1,4 @@
--- `fill_bindings` meets its contract. The invariant: the rows of the bindings below b are entered.
+-- `fill_bindings` meets its contract. The invariant: the bindings below b are entered.
 use Prim.Native.Nat.{_-_}
 use lib.ListN.{length-set}
 use Rattle.tables.proofs.types.Filling.{BindingsTo, bindings-many, bindings-far, bindings-none, bindings-more, bindings-all}
@@ -28,11 +28,14 @@ returns-2 c = bindings-far (c .if2 .taken)
 loop-holds : tie.Need-loop-holds Inv-loop μ-loop
 loop-holds c = bindings-none (c .before .if1 .left)
 
-row-at-requires : tie.Need-row-at-requires Inv-loop μ-loop
-row-at-requires c κs = search needs
+mul-pair : tie.Need-mul-pair Inv-loop μ-loop
+mul-pair c = omega (arith, c .loop-test .taken, c .before .before .before .if1 .left)
+
+add-pair : tie.Need-add-pair Inv-loop μ-loop
+add-pair c = omega (arith, c .loop-test .taken, c .before .before .before .if1 .left)
 
 add-place-at : tie.Need-add-place-at Inv-loop μ-loop
-add-place-at c = omega (arith, c .before .loop-test .taken, c .before .before .before .before .if1 .left)
+add-place-at c = omega (arith, c .loop-test .taken, c .before .before .before .if1 .left)
 
 place-at-requires : tie.Need-place-at-requires Inv-loop μ-loop
 place-at-requires c κs = search needs
@@ -53,34 +56,34 @@ cast-t : tie.Need-cast-t Inv-loop μ-loop
 cast-t c = omega (arith, c .before .before .before .word-at .ensures .bound)
 
 add-t : tie.Need-add-t Inv-loop μ-loop
-add-t c = omega (arith, c .before .before .before .before .before .row-at .ensures .1)
+add-t c = omega (arith, c .before .before .before .before .before .loop-test .taken, c .before .before .before .before .before .before .before .before .if1 .left)
 
 mul-t : tie.Need-mul-t Inv-loop μ-loop
-mul-t c = omega (arith, c .before .before .before .before .before .row-at .ensures .1)
+mul-t c = omega (arith, c .before .before .before .before .before .loop-test .taken, c .before .before .before .before .before .before .before .before .if1 .left)
 
 slice-write-t : tie.Need-slice-write-t Inv-loop μ-loop
-slice-write-t c = omega (arith, c .before .before .before .before .before .before .before .loop .inv .within .long, c .before .before .before .before .before .before .before .before .if2 .left, c .before .before .before .before .before .before .before .before .before .if1 .left, c .before .before .before .before .before .before .loop-test .taken, c .before .before .before .before .before .row-at .ensures .0)
+slice-write-t c = omega (arith, c .before .before .before .before .before .before .loop .inv .within .long, c .before .before .before .before .before .before .before .if2 .left, c .before .before .before .before .before .before .before .before .if1 .left, c .before .before .before .before .before .loop-test .taken)
 
 cast-t-2 : tie.Need-cast-t-2 Inv-loop μ-loop
 cast-t-2 c = omega (arith, c .goal-of .ensures .1)
 
 add-t-2 : tie.Need-add-t-2 Inv-loop μ-loop
-add-t-2 c = omega (arith, c .before .before .before .before .before .row-at .ensures .1)
+add-t-2 c = omega (arith, c .before .before .before .before .before .loop-test .taken, c .before .before .before .before .before .before .before .before .if1 .left)
 
 mul-t-2 : tie.Need-mul-t-2 Inv-loop μ-loop
-mul-t-2 c = omega (arith, c .before .before .before .before .before .row-at .ensures .1)
+mul-t-2 c = omega (arith, c .before .before .before .before .before .loop-test .taken, c .before .before .before .before .before .before .before .before .if1 .left)
 
 slice-write-t-2 : tie.Need-slice-write-t-2 Inv-loop μ-loop
-slice-write-t-2 c = simp length-set (omega (arith, c .before .before .before .before .before .before .before .loop .inv .within .long, c .before .before .before .before .before .before .before .before .if2 .left, c .before .before .before .before .before .before .before .before .before .if1 .left, c .before .before .before .before .before .before .loop-test .taken, c .before .before .before .before .before .row-at .ensures .0))
+slice-write-t-2 c = simp length-set (omega (arith, c .before .before .before .before .before .before .loop .inv .within .long, c .before .before .before .before .before .before .before .if2 .left, c .before .before .before .before .before .before .before .before .if1 .left, c .before .before .before .before .before .loop-test .taken))
 
 add-b : tie.Need-add-b Inv-loop μ-loop
-add-b c = omega (arith, c .before .before .before .before .before .before .loop-test .taken)
+add-b c = omega (arith, c .before .before .before .before .before .loop-test .taken, c .before .before .before .before .before .before .before .before .if1 .left)
 
 loop-less : tie.Need-loop-less Inv-loop μ-loop
-loop-less c = omega (arith, c .before .before .before .before .before .before .loop-test .taken)
+loop-less c = omega (arith, c .before .before .before .before .before .loop-test .taken, c .before .before .before .before .before .before .before .before .if1 .left)
 
 loop-again : tie.Need-loop-again Inv-loop μ-loop
-loop-again c = bindings-more (c .before .before .before .before .before .before .before .loop .inv) (c .before .before .before .before .before .before .loop-test .taken) _ _ _ _ _ (c .before .before .before .before .before .row-at .ensures .0) (c .before .before .before .before .place-at .ensures .value) (c .before .before .before .word-at .ensures .value) (c .before .before .before .word-at .ensures .bound) (c .before .word-at2 .ensures .value) (c .goal-of .ensures .0) (c .goal-of .ensures .1)
+loop-again c = bindings-more (c .before .before .before .before .before .before .loop .inv) (c .before .before .before .before .before .loop-test .taken) _ _ _ _ (c .before .before .before .before .place-at .ensures .value) (c .before .before .before .word-at .ensures .value) (c .before .before .before .word-at .ensures .bound) (c .before .word-at2 .ensures .value) (c .goal-of .ensures .0) (c .goal-of .ensures .1)
 
 same-length : tie.Need-same-length Inv-loop μ-loop
 same-length c = c .before .loop .inv .within .long
@@ -99,7 +102,8 @@ fill-bindings-spec =
     add-if2
     returns-2
     loop-holds
-    row-at-requires
+    mul-pair
+    add-pair
     add-place-at
     place-at-requires
     word-at-requires
