@@ -40,10 +40,8 @@ pub const MAX_TERM: usize = 4096;
 // The last number that an entry of a kind may have.
 pub const LAST_NONTERMINAL: usize = MAX_NONTERMINALS - 1;
 
-// The bytes of a node of a body; the least bytes of a record of a type.
+// The bytes of a node of a body.
 pub const NODE: usize = 4;
-
-pub const TYPE_BYTES: usize = 5;
 
 // The numbers of the kinds, by which the counts of a file's records stand.
 pub const SORT: usize = 1;
@@ -128,6 +126,15 @@ pub const FIT_ARGUMENTS: usize = 2;
 pub const FIT_MASKS: usize = 3;
 
 pub const FITS: usize = MAX_TYPES * FIT_MASKS;
+
+// The rooms for fewer types than all: how many types each has room for, and the words of their rows.
+pub const FEW_TYPES: usize = 64;
+
+pub const FEW_FITS: usize = FEW_TYPES * FIT_MASKS;
+
+pub const SOME_TYPES: usize = 320;
+
+pub const SOME_FITS: usize = SOME_TYPES * FIT_MASKS;
 
 pub type SortMasks = [u64; ALL_SORTS];
 
@@ -417,30 +424,22 @@ pub const WIDE_USERS: usize = WIDE_BINDINGS * (WIDE_WORDS + 1);
 
 pub const WIDE_ANSWERS: usize = MAX_NODES * ((WIDE_GOALS + WORD - 1) / WORD) * CELL;
 
-// The ends of subterms and the fit of types of a tiny file: by its length, how many nodes and types it may have.
+// The ends of subterms of a tiny file: by its length, how many nodes it may have.
 pub const TINY_FILE: usize = 384;
 
 pub const TINY_ENDS: usize = TINY_FILE / NODE;
-
-pub const TINY_FITS: usize = TINY_FILE / TYPE_BYTES * FIT_MASKS;
 
 // Those of a small file, likewise.
 pub const SMALL_FILE: usize = 1024;
 
 pub const SMALL_ENDS: usize = SMALL_FILE / NODE;
 
-pub const SMALL_FITS: usize = SMALL_FILE / TYPE_BYTES * FIT_MASKS;
-
 // Those of a file of middle length, likewise.
 pub const MIDDLE_FILE: usize = 2048;
 
 pub const MIDDLE_ENDS: usize = MIDDLE_FILE / NODE;
 
-pub const MIDDLE_FITS: usize = MIDDLE_FILE / TYPE_BYTES * FIT_MASKS;
-
-// Those of a longer file: the ends likewise, and the fit of all types, since its length has room for more.
+// Those of a longer file, likewise.
 pub const LONG_FILE: usize = 8192;
 
 pub const LONG_ENDS: usize = LONG_FILE / NODE;
-
-pub const LONG_FITS: usize = FITS;

@@ -11,9 +11,9 @@ ghost use lib.ListN.{length};
 ghost use Rattle.intake.specs.intake.Intake.{Examined};
 
 // What a file is, where as many flags are lent as `flags` says, with its tables: the index of its entries, the argument counts
-// of its sorts, the counts of its kinds, and the ends of the subterms of its bodies. `ends` and `fit` need room for the nodes and
-// the types that a file of that length may have; what the tables held before does not matter. `codes` and `depths` are tables to
-// work in: what they hold does not matter, before or after.
+// of its sorts, the counts of its kinds, and the ends of the subterms of its bodies. `ends` needs room for the nodes that a file of
+// that length may have; what the tables held before does not matter. `codes` and `depths` are tables to work in: what they hold does
+// not matter, before or after.
 pub fn examine(
     file: &[u8],
     flags: usize,
@@ -21,11 +21,10 @@ pub fn examine(
     lens: &mut SortTable,
     counts: &mut Counts,
     ends: &mut [u16],
-    fit: &mut [u64],
     codes: &mut Rows,
     depths: &mut Rows,
 ) -> Case
-    ensures { λ r. ⌜ Examined (now (file .entry)) flags (length (now (ends .entry))) (length (now (fit .entry))) (now (index .exit)) (now (lens .exit)) (now (counts .exit)) (now (ends .exit)) r ⌝ }
+    ensures { λ r. ⌜ Examined (now (file .entry)) flags (length (now (ends .entry))) (now (index .exit)) (now (lens .exit)) (now (counts .exit)) (now (ends .exit)) r ⌝ }
 {
     if MAX_FILE < file.len() {
         return Case::Refused {
@@ -36,6 +35,6 @@ pub fn examine(
     let walked = walk::walk::walk(file, index, lens, counts);
     match walked {
         Walked::Refused { number, place } => Case::Refused { number, place },
-        Walked::Read => test_whole(file, index, counts, flags, ends, fit, codes, depths),
+        Walked::Read => test_whole(file, index, counts, flags, ends, codes, depths),
     }
 }

@@ -45,12 +45,9 @@ maxType = 34
 abbrev pub maxTerm : ℕ
 maxTerm = 4096
 
--- the bytes of a node of a body; the least bytes of a record of a type
+-- the bytes of a node of a body
 abbrev pub nodeBytes : ℕ
 nodeBytes = 4
-
-abbrev pub typeBytes : ℕ
-typeBytes = 5
 
 -- the index: where the entries of each kind begin, and what stands behind them
 abbrev pub sortsAt : ℕ
@@ -122,6 +119,13 @@ fitArguments = 2
 
 abbrev pub fitMasks : ℕ
 fitMasks = 3
+
+-- how many types the smaller rooms for their rows have room for
+abbrev pub fewTypes : ℕ
+fewTypes = 64
+
+abbrev pub someTypes : ℕ
+someTypes = 320
 
 abbrev pub maxGoals : ℕ
 maxGoals = maxTypes + maxStates

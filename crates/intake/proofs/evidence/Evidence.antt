@@ -32,8 +32,8 @@ use Rattle.intake.specs.declared.plan.Plan.{Plan}
 
 -- the table of fits, then the first binding that does not fit
 pub finds-first : (file index old fit : List ℕ) (types sorts bindings r : ℕ) → Bytes file → Fills file index types sorts old fit → FindsMisfit file index fit bindings r
-    → FindsFirst file index types sorts bindings old r
-finds-first file index old fit types sorts bindings r bytes fills finds rs ok ti si bi n ni tf sf bf long =
+    → types * fitMasks ≤ length old → FindsFirst file index types sorts bindings r
+finds-first file index old fit types sorts bindings r bytes fills finds long rs ok ti si bi n ni tf sf bf =
     let listed : TypesAndSorts file index types sorts rs = record { passed = ok; type-bytes = payload-bytes ti bytes; sort-bytes = payload-bytes si bytes; types-there = ti; sorts-there = si; few-types = tf; few-sorts = sf } in
     finds n types sorts rs (offered ok fit bi bf ni listed (fills .filled rs listed long))
 
@@ -78,13 +78,13 @@ module _ {file index counts lens : List ℕ} {rs : List Record} (flags : ℕ) (k
     no10 = ap (λ b. ltb 0 (count type rs + count binding rs) && b) (le-ltb 0 (count path rs) (omega (arith, paths-are))) ∙ and-no (ltb 0 (count type rs + count binding rs))
 
     -- what the program found of the bindings
-    module _ (sorts : ℕ) (es : sorts ≡ getD counts 1 0) (b : ℕ) (fit : List ℕ) (long : count type rs * fitMasks ≤ length fit) (found : FindsFirst file index types sorts bindings fit b) where
+    module _ (sorts : ℕ) (es : sorts ≡ getD counts 1 0) (b : ℕ) (found : FindsFirst file index types sorts bindings b) where
       first-is : FirstMisfit rs bindings b
       unfolding number
       first-is =
           found rs ok (subst (λ z. Indexed file index type z rs) (sym et) (known .entries type)) (subst (λ z. Indexed file index sort z rs) (sym es) (known .entries sort))
           (subst (λ z. Indexed file index binding z rs) (sym eb) (known .entries binding)) (getD counts 3 0) (known .entries nonterminal)
-          (subst (λ z. z ≤ 1024) (sym et) (known .fits type)) (subst (λ z. z ≤ maxSorts) (sym es) (known .fits sort)) (subst (λ z. z ≤ 1024) (sym eb) (known .fits binding)) (subst (λ z. z * fitMasks ≤ length fit) types-are long)
+          (subst (λ z. z ≤ 1024) (sym et) (known .fits type)) (subst (λ z. z ≤ maxSorts) (sym es) (known .fits sort)) (subst (λ z. z ≤ 1024) (sym eb) (known .fits binding))
 
       pub evidence-11 : b < bindings → (place : ℕ) → (4 ≤ getD index (bindingsAt + b) 0 → place + 4 ≡ getD index (bindingsAt + b) 0) → WholeEnds rs flags (is.Refused 11 place)
       unfolding WholeEnds number

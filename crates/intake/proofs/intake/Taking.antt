@@ -12,7 +12,7 @@ use Rattle.casefile.specs.Refusals.{tooLong, refuseWhole}
 use Rattle.casefile.specs.Cases.{pathCase, unlessRefused, acceptedCase, caseFrom, caseOf}
 use Rattle.casefile.proofs.TypeTable.{count-payloads}
 use Rattle.rules.specs.reading.RuleBodies.{nodesIn}
-use Rattle.rules.proofs.rules.Room.{file-room, count-few}
+use Rattle.rules.proofs.rules.Room.{file-room}
 use Rattle.walk.specs.walk.Walking.{AllRead, WalkEnds}
 use Rattle.walk.specs.declared.walk.Walked.{Walked}
 use Rattle.walk.specs.declared.walk.Walked.the-variants as walked
@@ -20,7 +20,7 @@ use Rattle.intake.specs.declared.evidence.Case.{Case}
 use Rattle.intake.specs.declared.evidence.Case.the-variants as is
 use Rattle.intake.specs.intake.Intake.{caseAs, Tables, Leaves, RoomFor, CaseFound}
 use Rattle.intake.specs.evidence.Whole.{WholeEnds, WholeTested, TestsWhole}
-use Rattle.index.specs.layout.Layout.{maxFile, fitMasks}
+use Rattle.index.specs.layout.Layout.{maxFile}
 
 module _ (file : List ℕ) (flags : ℕ) (index lens counts ends : List ℕ) where
   -- 1
@@ -39,9 +39,9 @@ module _ (file : List ℕ) (flags : ℕ) (index lens counts ends : List ℕ) whe
     taken-refused n p w e h = record { is-case = sym (case-is ∙ (let k : WalkEnds file index lens counts (walked.Refused n p) = rw e at h in k flags)); tables = tt }
 
     -- 8 to 12, or none
-    pub taken-whole : (w : Walked) → w ≡ walked.Read → WalkEnds file index lens counts w → (before fit : List ℕ) → RoomFor (length file) (length before) (length fit) → (r : Case) → TestsWhole file index counts flags before fit ends r → CaseFound file flags index lens counts ends r
+    pub taken-whole : (w : Walked) → w ≡ walked.Read → WalkEnds file index lens counts w → (before : List ℕ) → RoomFor (length file) (length before) → (r : Case) → TestsWhole file index counts flags before ends r → CaseFound file flags index lens counts ends r
     unfolding WalkEnds WholeEnds caseAs Leaves unlessRefused acceptedCase
-    taken-whole w e h before fit room r tests = by r (tested .verdict)
+    taken-whole w e h before room r tests = by r (tested .verdict)
       where
         all : AllRead file index lens counts
         all = rw e at h
@@ -52,7 +52,7 @@ module _ (file : List ℕ) (flags : ℕ) (index lens counts ends : List ℕ) whe
         tested : WholeTested rs flags ends r
         tested =
             let least = file-room file (all .passed) in
-            tests lens rs (all .known) (all .passed) (room .nodes short (nodesIn (payloads Kind.rule rs)) (omega arith)) (room .types short (count Kind.type rs) (omega arith) (count-few (all .known) Kind.type))
+            tests lens rs (all .known) (all .passed) (room .nodes short (nodesIn (payloads Kind.rule rs)) (omega arith))
 
         tables : refuseWhole rs flags ≡ none → Tables file index lens counts ends
         tables f = record { passed = all .passed; known = all .known; ends-are = tested .ends-are f }

@@ -1,6 +1,6 @@
 -- What our own crates promise each other; nothing here has to be believed.
 -- What the tests over the whole file give, 8 to 12, for records that all passed.
-use Prim.Native.Nat.{ℕ, _*_, _<_, _≤_}
+use Prim.Native.Nat.{ℕ, _<_, _≤_}
 use mathlib.Core.Path.{_≡_}
 use mathlib.Core.List.{List, []}
 use mathlib.Core.Option.{none, some}
@@ -8,7 +8,7 @@ use lib.ListN.{length}
 use Rattle.casefile.specs.Records.{Record}
 use Rattle.casefile.specs.Kinds.{Kind, payloads, count}
 use Rattle.casefile.specs.Refusals.{refuseWhole}
-use Rattle.index.specs.layout.Layout.{maxSorts, maxTypes, maxBindings, fitMasks}
+use Rattle.index.specs.layout.Layout.{maxSorts, maxTypes, maxBindings}
 use Rattle.index.specs.entries.Index.{Indexed}
 use Rattle.fits.specs.misfits.Misfits.{FirstMisfit}
 use Rattle.rules.specs.reading.RuleBodies.{nodesIn}
@@ -24,23 +24,23 @@ WholeEnds rs flags (Refused n p) = refuseWhole rs flags ≡ some (record { numbe
 WholeEnds rs flags Bindings = (refuseWhole rs flags ≡ none) × (payloads Kind.path rs ≡ [])
 WholeEnds rs flags Path = (refuseWhole rs flags ≡ none) × (0 < count Kind.path rs)
 
--- the tests of the evidence, 10 to 12, after those of the plan, where the table of fits has room for the types
-abbrev pub TestsEvidence : List ℕ → List ℕ → List ℕ → ℕ → List ℕ → Case → Type 0
-TestsEvidence file index counts flags fit r =
-    (lens : List ℕ) (rs : List Record) → Known file index lens counts rs → Passed rs → PlanFine rs → count Kind.type rs * fitMasks ≤ length fit → WholeEnds rs flags r
+-- the tests of the evidence, 10 to 12, after those of the plan
+abbrev pub TestsEvidence : List ℕ → List ℕ → List ℕ → ℕ → Case → Type 0
+TestsEvidence file index counts flags r =
+    (lens : List ℕ) (rs : List Record) → Known file index lens counts rs → Passed rs → PlanFine rs → WholeEnds rs flags r
 
 -- the first binding that does not fit, or the number of bindings
-abbrev pub FindsFirst : List ℕ → List ℕ → ℕ → ℕ → ℕ → List ℕ → ℕ → Type 0
-FindsFirst file index types sorts bindings fit r =
+abbrev pub FindsFirst : List ℕ → List ℕ → ℕ → ℕ → ℕ → ℕ → Type 0
+FindsFirst file index types sorts bindings r =
     (rs : List Record) → Passed rs → Indexed file index Kind.type types rs → Indexed file index Kind.sort sorts rs → Indexed file index Kind.binding bindings rs
-    → (n : ℕ) → Indexed file index Kind.nonterminal n rs → types ≤ maxTypes → sorts ≤ maxSorts → bindings ≤ maxBindings → types * fitMasks ≤ length fit → FirstMisfit rs bindings r
+    → (n : ℕ) → Indexed file index Kind.nonterminal n rs → types ≤ maxTypes → sorts ≤ maxSorts → bindings ≤ maxBindings → FirstMisfit rs bindings r
 
 -- the answer of the tests over the whole file, and the table of ends where none is met
 pub record WholeTested (rs : List Record) (flags : ℕ) (ends : List ℕ) (r : Case) : Type 0 where
   pub verdict : WholeEnds rs flags r
   pub ends-are : refuseWhole rs flags ≡ none → EndsAre rs ends
 
--- 8 to 12, where both tables have room
-abbrev pub TestsWhole : List ℕ → List ℕ → List ℕ → ℕ → List ℕ → List ℕ → List ℕ → Case → Type 0
-TestsWhole file index counts flags before fit ends r =
-    (lens : List ℕ) (rs : List Record) → Known file index lens counts rs → Passed rs → nodesIn (payloads Kind.rule rs) ≤ length before → count Kind.type rs * fitMasks ≤ length fit → WholeTested rs flags ends r
+-- 8 to 12, where the table of ends has room
+abbrev pub TestsWhole : List ℕ → List ℕ → List ℕ → ℕ → List ℕ → List ℕ → Case → Type 0
+TestsWhole file index counts flags before ends r =
+    (lens : List ℕ) (rs : List Record) → Known file index lens counts rs → Passed rs → nodesIn (payloads Kind.rule rs) ≤ length before → WholeTested rs flags ends r

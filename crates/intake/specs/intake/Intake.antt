@@ -9,7 +9,7 @@ use Rattle.casefile.specs.Kinds.{Kind, payloads, count}
 use Rattle.casefile.specs.Cases.{refusedCase, bindingCase, pathCase, caseOf}
 use Rattle.casefile.specs.Cases
 use Rattle.casefile.specs.Promises.{Passed}
-use Rattle.index.specs.layout.Layout.{maxFile, maxTypes, nodeBytes, typeBytes, fitMasks}
+use Rattle.index.specs.layout.Layout.{maxFile, nodeBytes}
 use Rattle.index.specs.entries.Known.{Known}
 use Rattle.intake.specs.plan.PlanTests.{EndsAre}
 use Rattle.intake.specs.declared.evidence.Case.{Case}
@@ -33,17 +33,15 @@ Leaves file index lens counts ends (Refused n p) = Unit {0}
 Leaves file index lens counts ends Bindings = Tables file index lens counts ends
 Leaves file index lens counts ends Path = Tables file index lens counts ends × (0 < count Kind.path (listed (recordsOf file)))
 
--- a table of ends and a table of fits have room for the nodes and the types that a file of a given length may have, if it is no longer
--- than all files may be
-pub record RoomFor (size ends fit : ℕ) : Type 0 where
+-- a table of ends has room for the nodes that a file of a given length may have, if it is no longer than all files may be
+pub record RoomFor (size ends : ℕ) : Type 0 where
   pub nodes : size ≤ maxFile → (n : ℕ) → nodeBytes * n ≤ size → n ≤ ends
-  pub types : size ≤ maxFile → (t : ℕ) → typeBytes * t ≤ size → t ≤ maxTypes → t * fitMasks ≤ fit
 
 -- the case of the definitions, and its tables
 pub record CaseFound (file : List ℕ) (flags : ℕ) (index lens counts ends : List ℕ) (r : Case) : Type 0 where
   pub is-case : caseAs file r ≡ caseOf file flags
   pub tables : Leaves file index lens counts ends r
 
--- the promise of the intake, where tables of given lengths have room
-pub record Examined (file : List ℕ) (flags ends-long fit-long : ℕ) (index lens counts ends : List ℕ) (r : Case) : Type 0 where
-  pub found : RoomFor (length file) ends-long fit-long → CaseFound file flags index lens counts ends r
+-- the promise of the intake, where a table of ends of a given length has room
+pub record Examined (file : List ℕ) (flags ends-long : ℕ) (index lens counts ends : List ℕ) (r : Case) : Type 0 where
+  pub found : RoomFor (length file) ends-long → CaseFound file flags index lens counts ends r

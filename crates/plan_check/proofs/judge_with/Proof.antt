@@ -28,11 +28,14 @@ judge-binding-case-requires c κs = search needs
 same-length : tie.Need-same-length
 same-length c = search needs
 
+returns : tie.Need-returns
+returns c = λ room. judged-refused _ _ (c .before .before .before .before .before .examine .ensures .found room) _ _ (c .before .case .given .1)
+
 same-length-2 : tie.Need-same-length-2
 same-length-2 c = search needs
 
-returns : tie.Need-returns
-returns c = λ room. judged-refused _ _ (c .before .before .before .before .before .before .before .examine .ensures .found room) _ _ (c .before .case .given .1)
+returns-2 : tie.Need-returns-2
+returns-2 c = λ room. judged-path _ _ (c .before .before .before .before .before .before .before .before .examine .ensures .found room) (c .before .before .before .before .enum-told .given .1) _ (c .before .replay-path .ensures) _ (c .of-path .ensures)
 
 same-length-3 : tie.Need-same-length-3
 same-length-3 c = search needs
@@ -40,20 +43,8 @@ same-length-3 c = search needs
 same-length-4 : tie.Need-same-length-4
 same-length-4 c = search needs
 
-returns-2 : tie.Need-returns-2
-returns-2 c = λ room. judged-path _ _ (c .before .before .before .before .before .before .before .before .before .before .examine .ensures .found room) (c .before .before .before .before .enum-told .given .1) _ (c .before .replay-path .ensures) _ (c .of-path .ensures)
-
-same-length-5 : tie.Need-same-length-5
-same-length-5 c = search needs
-
-same-length-6 : tie.Need-same-length-6
-same-length-6 c = search needs
-
-same-length-7 : tie.Need-same-length-7
-same-length-7 c = search needs
-
 returns-3 : tie.Need-returns-3
-returns-3 c = λ room. judged-bindings _ _ (c .before .before .before .before .before .before .before .before .before .before .before .before .before .before .examine .ensures .found room) (c .before .before .before .before .before .before .before .before .enum-told2 .given .1) _ (c .before .before .judge-binding-case .ensures)
+returns-3 c = λ room. judged-bindings _ _ (c .before .before .before .before .before .before .before .before .before .before .before .before .examine .ensures .found room) (c .before .before .before .before .before .before .before .before .enum-told2 .given .1) _ (c .before .before .judge-binding-case .ensures)
 
 pub judge-with-spec : {M : Type 1} → statement M
 judge-with-spec =
@@ -67,12 +58,9 @@ judge-with-spec =
     enum-told-2
     judge-binding-case-requires
     same-length
-    same-length-2
     returns
+    same-length-2
+    returns-2
     same-length-3
     same-length-4
-    returns-2
-    same-length-5
-    same-length-6
-    same-length-7
     returns-3)

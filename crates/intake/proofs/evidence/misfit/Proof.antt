@@ -1,27 +1,33 @@
 -- `misfit` meets its contract.
-use native.Mathlib.Omega.{arith}
-use Rattle.intake.proofs.evidence.Evidence.{finds-first}
 use borrow.Author.Needs.{needs}
 use Rattle.intake.proofs.evidence.misfit.Statement.{statement}
 use Rattle.intake.proofs.evidence.misfit.Tie as tie
 
-fill-fits-requires : tie.Need-fill-fits-requires
-fill-fits-requires c κs = search needs
-
-first-misfit-requires : tie.Need-first-misfit-requires
-first-misfit-requires c κs = search needs
-
-same-length : tie.Need-same-length
-same-length c = search needs
+misfit-of-few-requires : tie.Need-misfit-of-few-requires
+misfit-of-few-requires c κs = search needs
 
 returns : tie.Need-returns
-returns c = finds-first _ _ _ _ _ _ _ _ (λ k. omega (arith, c .before .before .before .before .before .before .before .before .shared-slice-known .given k)) (c .before .before .before .before .fill-fits .ensures) (c .first-misfit .ensures)
+returns c = c .misfit-of-few .ensures (c .before .if1 .taken)
+
+misfit-of-some-requires : tie.Need-misfit-of-some-requires
+misfit-of-some-requires c κs = search needs
+
+returns-2 : tie.Need-returns-2
+returns-2 c = c .misfit-of-some .ensures (c .before .if2 .taken)
+
+misfit-of-all-requires : tie.Need-misfit-of-all-requires
+misfit-of-all-requires c κs = search needs
+
+returns-3 : tie.Need-returns-3
+returns-3 c = λ rs ok types sorts bindings n nonterminals few. c .misfit-of-all .ensures few rs ok types sorts bindings n nonterminals few
 
 pub misfit-spec : {M : Type 1} → statement M
 misfit-spec =
     tie.close
     (tie.spec
-    fill-fits-requires
-    first-misfit-requires
-    same-length
-    returns)
+    misfit-of-few-requires
+    returns
+    misfit-of-some-requires
+    returns-2
+    misfit-of-all-requires
+    returns-3)

@@ -20,19 +20,16 @@ same-length : tie.Need-same-length
 same-length c = search needs
 
 returns : tie.Need-returns
-returns c = λ lens rs kn ok room long. whole-refused rs _ _ _ _ _ (c .before .plan .given .1) (c .before .before .before .before .before .test-plan .ensures lens rs kn ok room)
+returns c = λ lens rs kn ok room. whole-refused rs _ _ _ _ _ (c .before .plan .given .1) (c .before .before .before .before .before .test-plan .ensures lens rs kn ok room)
 
 same-length-2 : tie.Need-same-length-2
 same-length-2 c = search needs
 
-same-length-3 : tie.Need-same-length-3
-same-length-3 c = search needs
-
 returns-2 : tie.Need-returns-2
-returns-2 c = λ lens rs kn ok room long.
-    let fine = c .before .before .before .before .enum-told .given .1 in
-    let planned = c .before .before .before .before .before .before .before .before .test-plan .ensures lens rs kn ok room in
-    record { verdict = c .before .before .test-evidence .ensures lens rs kn ok (plan-is-fine rs _ _ fine planned) long; ends-are = λ e. planned .ends-are fine }
+returns-2 c = λ lens rs kn ok room.
+    let fine = c .before .enum-told .given .1 in
+    let planned = c .before .before .before .before .before .test-plan .ensures lens rs kn ok room in
+    record { verdict = c .test-evidence .ensures lens rs kn ok (plan-is-fine rs _ _ fine planned); ends-are = λ e. planned .ends-are fine }
 
 pub test-whole-spec : {M : Type 1} → statement M
 test-whole-spec =
@@ -45,5 +42,4 @@ test-whole-spec =
     same-length
     returns
     same-length-2
-    same-length-3
     returns-2)

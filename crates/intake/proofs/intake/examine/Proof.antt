@@ -26,7 +26,7 @@ test-whole-requires c κs = search needs
 
 returns-2 : tie.Need-returns-2
 returns-2 c =
-    let a = c .before .before .before .before .before .before .before .before .before .before .before .args in
+    let a = c .before .before .before .before .before .before .before .before .before .before .args in
     let i : _≡_ {A = ℕ} indexSize (length (a .index .now)) = search needs in
     let l : _≡_ {A = ℕ} allSorts (length (a .lens .now)) = search needs in
     let k : _≡_ {A = ℕ} kinds (length (a .counts .now)) = search needs in
@@ -37,18 +37,15 @@ returns-2 c =
 same-length : tie.Need-same-length
 same-length c = search needs
 
-same-length-2 : tie.Need-same-length-2
-same-length-2 c = search needs
-
 returns-3 : tie.Need-returns-3
 returns-3 c =
-    let a = c .before .before .before .before .before .before .before .before .before .before .before .before .before .before .before .before .before .before .before .before .before .before .before .args in
+    let a = c .before .before .before .before .before .before .before .before .before .before .before .before .before .before .before .before .before .before .before .args in
     let i : _≡_ {A = ℕ} indexSize (length (a .index .now)) = search needs in
     let l : _≡_ {A = ℕ} allSorts (length (a .lens .now)) = search needs in
     let k : _≡_ {A = ℕ} kinds (length (a .counts .now)) = search needs in
-    let short = c .before .before .before .before .before .before .before .before .before .before .before .before .before .before .before .before .before .before .before .if1 .left in
-    let walked = c .before .before .before .before .before .before .before .before .before .before .before .before .before .before .before .walk .ensures (omega arith) (sym l) (sym k) short in
-    record { found = λ room. taken-whole _ _ _ _ _ _ short _ (c .before .before .before .before .before .before .before .before .before .before .before .before .before .enum-told .given .1) walked (a .ends .now) (a .fit .now) room _ (c .before .before .before .before .test-whole .ensures) }
+    let short = c .before .before .before .before .before .before .before .before .before .before .before .before .before .before .before .before .if1 .left in
+    let walked = c .before .before .before .before .before .before .before .before .before .before .before .before .walk .ensures (omega arith) (sym l) (sym k) short in
+    record { found = λ room. taken-whole _ _ _ _ _ _ short _ (c .before .before .before .before .before .before .before .before .before .before .enum-told .given .1) walked (a .ends .now) room _ (c .before .before .test-whole .ensures) }
 
 pub examine-spec : {M : Type 1} → statement M
 examine-spec =
@@ -61,5 +58,4 @@ examine-spec =
     test-whole-requires
     returns-2
     same-length
-    same-length-2
     returns-3)
