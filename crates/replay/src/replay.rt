@@ -26,6 +26,7 @@ use records::fields::byte_at;
 use transitions::rows::row_of;
 use transitions::table::moves;
 ghost use mathlib.Core.Path.{_≡_};
+ghost use mathlib.Core.Bool.{true, false};
 ghost use Rattle.replay.specs.replay.Replays.{stoppedAt, Arrives, Runs, ReplaysPath};
 
 // The answer to a path.
@@ -136,27 +137,117 @@ fn run(
     arrive(table, constructors, held, i)
 }
 
-// The answer to the path of a file, by its tables. A path has the smallest of four sets of cells that is enough for its letters:
-// those of up to 4,096 letters take 262 KB of stack.
-pub fn replay_path(file: &[u8], index: &Index, counts: &Counts) -> Replayed
+// An answer to a path, where it is done.
+struct Attempt {
+    done: bool,
+    answer: Replayed,
+}
+
+// A path has more letters than there are cells for.
+fn too_long() -> Attempt
+    ensures { λ a. ⌜ a .done ≡ false ⌝ }
+{
+    Attempt {
+        done: false,
+        answer: Replayed::Refused {
+            number: 0,
+            place: 0,
+        },
+    }
+}
+
+// The answer to the path of a file, by its tables, with cells for few letters.
+fn tiny_path(file: &[u8], index: &Index, counts: &Counts) -> Attempt
+    ensures { λ a. ⌜ (a .done ≡ true → ReplaysPath (now (file .entry)) (now (index .entry)) (now (counts .entry)) (a .answer)) ⌝ }
+{
+    let path = entry(file, index, PATH_AT);
+    if TINY_PATH < path.len() {
+        return too_long();
+    }
+    let table = moves(file, index, place_at(counts, TRANSITION));
+    let rules = place_at(counts, RULE);
+    let constructors = place_at(counts, CONSTRUCTOR);
+    let mut cells = [0u64; TINY_CELLS];
+    let answer = run(file, index, rules, constructors, table, path, &mut cells);
+    Attempt { done: true, answer }
+}
+
+// The same with cells for more letters.
+fn short_path(file: &[u8], index: &Index, counts: &Counts) -> Attempt
+    ensures { λ a. ⌜ (a .done ≡ true → ReplaysPath (now (file .entry)) (now (index .entry)) (now (counts .entry)) (a .answer)) ⌝ }
+{
+    let path = entry(file, index, PATH_AT);
+    if SHORT_PATH < path.len() {
+        return too_long();
+    }
+    let table = moves(file, index, place_at(counts, TRANSITION));
+    let rules = place_at(counts, RULE);
+    let constructors = place_at(counts, CONSTRUCTOR);
+    let mut cells = [0u64; SHORT_CELLS];
+    let answer = run(file, index, rules, constructors, table, path, &mut cells);
+    Attempt { done: true, answer }
+}
+
+// The same with cells for many letters.
+fn long_path(file: &[u8], index: &Index, counts: &Counts) -> Attempt
+    ensures { λ a. ⌜ (a .done ≡ true → ReplaysPath (now (file .entry)) (now (index .entry)) (now (counts .entry)) (a .answer)) ⌝ }
+{
+    let path = entry(file, index, PATH_AT);
+    if LONG_PATH < path.len() {
+        return too_long();
+    }
+    let table = moves(file, index, place_at(counts, TRANSITION));
+    let rules = place_at(counts, RULE);
+    let constructors = place_at(counts, CONSTRUCTOR);
+    let mut cells = [0u64; LONG_CELLS];
+    let answer = run(file, index, rules, constructors, table, path, &mut cells);
+    Attempt { done: true, answer }
+}
+
+// The answer to the path of a file, with cells for all letters that it may have.
+fn any_path(file: &[u8], index: &Index, counts: &Counts) -> Replayed
     ensures { λ r. ⌜ ReplaysPath (now (file .entry)) (now (index .entry)) (now (counts .entry)) r ⌝ }
 {
     let table = moves(file, index, place_at(counts, TRANSITION));
     let path = entry(file, index, PATH_AT);
     let rules = place_at(counts, RULE);
     let constructors = place_at(counts, CONSTRUCTOR);
-    if path.len() <= TINY_PATH {
-        let mut cells = [0u64; TINY_CELLS];
-        return run(file, index, rules, constructors, table, path, &mut cells);
-    }
-    if path.len() <= SHORT_PATH {
-        let mut cells = [0u64; SHORT_CELLS];
-        return run(file, index, rules, constructors, table, path, &mut cells);
-    }
-    if path.len() <= LONG_PATH {
-        let mut cells = [0u64; LONG_CELLS];
-        return run(file, index, rules, constructors, table, path, &mut cells);
-    }
     let mut cells = [0u64; ALL_CELLS];
     run(file, index, rules, constructors, table, path, &mut cells)
+}
+
+// The answer to the path of a file, with the first of four sets of cells, from one on, that is enough for its letters.
+fn replay_in(file: &[u8], index: &Index, counts: &Counts, set: usize) -> Replayed
+    ensures { λ r. ⌜ ReplaysPath (now (file .entry)) (now (index .entry)) (now (counts .entry)) r ⌝ }
+{
+    if set == 0 {
+        let tried = tiny_path(file, index, counts);
+        if tried.done {
+            return tried.answer;
+        }
+        return replay_in(file, index, counts, 1);
+    }
+    if set == 1 {
+        let tried = short_path(file, index, counts);
+        if tried.done {
+            return tried.answer;
+        }
+        return replay_in(file, index, counts, 2);
+    }
+    if set == 2 {
+        let tried = long_path(file, index, counts);
+        if tried.done {
+            return tried.answer;
+        }
+        return replay_in(file, index, counts, 3);
+    }
+    any_path(file, index, counts)
+}
+
+// The answer to the path of a file, by its tables. A path has the smallest of four sets of cells that is enough for its letters:
+// those of up to 4,096 letters take 262 KB of stack.
+pub fn replay_path(file: &[u8], index: &Index, counts: &Counts) -> Replayed
+    ensures { λ r. ⌜ ReplaysPath (now (file .entry)) (now (index .entry)) (now (counts .entry)) r ⌝ }
+{
+    replay_in(file, index, counts, 0)
 }
