@@ -290,7 +290,7 @@ pub const NODE_CELLS: usize = 3;
 // What stands for no targets of a constructor.
 pub const NO_TARGETS: usize = 65536;
 
-// The most words of a set of bindings, and of a set of bindings and bodies; the bindings that a column may have.
+// A set of bindings has fewer words than these: a number of words is taken modulo it.
 pub const WORDS_LIMIT: usize = 64;
 
 // The words of a set of bindings.
