@@ -3,7 +3,9 @@ pub mod Arguments
 pub mod Targets
 pub mod Bound
 pub mod Members
+pub mod Known
 pub mod States
 pub mod Given
+pub mod Seeking
 pub mod Terms
 pub mod Moved

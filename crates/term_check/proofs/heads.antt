@@ -3,3 +3,4 @@ pub mod Candidates
 pub mod Matching
 pub mod Building
 pub mod Looking
+pub mod Wanting

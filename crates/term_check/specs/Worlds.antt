@@ -149,6 +149,12 @@ pub record Finds (x : Case) (memo users : List ℕ) (i : ℕ) (memo′ users′ 
   pub keeps : Keeps x memo users memo′ users′
   pub found : (w : World) → Ready x w memo users → (q : ℕ) → bitOf q m ≡ 1 → Yes x w users′ i q
 
+-- what is found of the goals of a set, as bits: some that the term at a node has, and some of the set that it lacks
+pub record Settles (x : Case) (memo users : List ℕ) (i asked : ℕ) (memo′ users′ : List ℕ) (m : Outlook) : Type 0 where
+  pub finds : Finds x memo users i memo′ users′ (m .had)
+  pub within : (q : ℕ) → bitOf q (m .lacked) ≡ 1 → bitOf q asked ≡ 1
+  pub lacks : (w : World) → Ready x w memo users → (q : ℕ) → bitOf q (m .lacked) ≡ 1 → No x w i q
+
 -- r is what was known of the goals of a word, where the goal is one of them, or else what is remembered
 abbrev pub LooksOn : List ℕ → ℕ → ℕ → ℕ → ℕ → ℕ → Outlook → Outlook → Type 0
 LooksOn memo wide stamp at goal word known r = ((goal / wordBits ≡ word) × (r ≡ known)) ⊎ Looks memo wide stamp at goal r

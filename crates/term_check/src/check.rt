@@ -1,6 +1,7 @@
 // The check of a term and the check of its arguments, which call each other.
 use crate::heads::all_had;
 use crate::heads::alone;
+use crate::heads::args_known;
 use crate::heads::candidate;
 use crate::heads::goes_down;
 use crate::heads::listed;
@@ -50,7 +51,7 @@ ghost use Rattle.index.specs.layout.Layout.{maxNodes};
 ghost use Rattle.tables.specs.reading.Cells.{nodeAt};
 ghost use Rattle.term_check.specs.notes.Notes.{baseIn};
 ghost use Rattle.term_check.specs.heads.Heads.{Tries};
-ghost use Rattle.term_check.specs.Worlds.{caseOf, answersOf, usersOf, ChecksTerm, ChecksMembers, ChecksAll, Finds, ChecksArgs, ChecksTargets};
+ghost use Rattle.term_check.specs.Worlds.{caseOf, answersOf, usersOf, ChecksTerm, ChecksMembers, ChecksAll, Finds, Settles, ChecksArgs, ChecksTargets};
 
 // Whether the term at a node has a goal. What its yes rests on is noted.
 pub fn check_term(t: &[u16], r: &[u32], w: &mut [u32], at: usize, goal: usize) -> bool
@@ -283,12 +284,17 @@ fn check_members(t: &[u16], r: &[u32], w: &mut [u32], at: usize, ty: usize) -> b
     check_each(&*t, &*r, w, at, ty)
 }
 
-// Whether the term at a node has all goals of a set of states: first those that are found at once, then the others.
+// Whether the term at a node has all goals of a set of states: first what is found at once, then the others.
 fn check_states(t: &[u16], r: &[u32], w: &mut [u32], at: usize, asked: u32) -> bool
     ensures { λ b. ⌜ (length (now (w .exit)) ≡ length (now (w .entry))) × ChecksAll (caseOf (now (t .entry)) (now (r .entry))) (answersOf (now (r .entry)) (now (w .entry))) (usersOf (now (r .entry)) (now (w .entry))) at asked (answersOf (now (r .entry)) (now (w .exit))) (usersOf (now (r .entry)) (now (w .exit))) b ⌝ }
 {
     let found = find_states(&*t, &*r, w, at, asked);
-    check_left(&*t, &*r, w, at, asked, found)
+    if found.lacked != 0 {
+        let known = with_bit(found.had, lowest(found.lacked));
+        learn_in(r, w, at, 0, known, found.had);
+        return false;
+    }
+    check_left(&*t, &*r, w, at, asked, found.had)
 }
 
 // Whether the term at a node has those of a set of states that were not found, one by one. What is found is remembered.
@@ -310,25 +316,26 @@ fn check_left(t: &[u16], r: &[u32], w: &mut [u32], at: usize, asked: u32, found:
     true
 }
 
-// Some states that the term at a node has, of a set: the ones found before something fails. Of a nonterminal's term none is found where
-// there are no hints.
-fn find_states(t: &[u16], r: &[u32], w: &mut [u32], at: usize, asked: u32) -> u32
-    ensures { λ m. ⌜ (length (now (w .exit)) ≡ length (now (w .entry))) × Finds (caseOf (now (t .entry)) (now (r .entry))) (answersOf (now (r .entry)) (now (w .entry))) (usersOf (now (r .entry)) (now (w .entry))) at (answersOf (now (r .entry)) (now (w .exit))) (usersOf (now (r .entry)) (now (w .exit))) m ⌝ }
+// What is found at once of the states of a set: some that the term at a node has, and some that it lacks. Of a nonterminal's term nothing
+// is found where there are no hints.
+fn find_states(t: &[u16], r: &[u32], w: &mut [u32], at: usize, asked: u32) -> Outlook
+    ensures { λ m. ⌜ (length (now (w .exit)) ≡ length (now (w .entry))) × Settles (caseOf (now (t .entry)) (now (r .entry))) (answersOf (now (r .entry)) (now (w .entry))) (usersOf (now (r .entry)) (now (w .entry))) at asked (answersOf (now (r .entry)) (now (w .exit))) (usersOf (now (r .entry)) (now (w .exit))) m ⌝ }
 {
     if MAX_NODES <= at {
-        return 0;
+        return Outlook { had: 0, lacked: 0 };
     }
     let node = node_of(t, number_in(r, TEST_BASE), at);
     if node.tag == 1 {
         if number_in(r, TEST_USERS) < HINTS {
-            return 0;
+            return Outlook { had: 0, lacked: 0 };
         }
-        return find_bound(&*t, &*r, w, at, asked, node);
+        let had = find_bound(&*t, &*r, w, at, asked, node);
+        return Outlook { had, lacked: 0 };
     }
     if node.tag == 2 {
         return find_given(&*t, &*r, w, at, asked, node);
     }
-    0
+    Outlook { had: 0, lacked: 0 }
 }
 
 // States of a set that a nonterminal's term has by the bindings that served last for this node.
@@ -355,30 +362,44 @@ fn find_bound(t: &[u16], r: &[u32], w: &mut [u32], at: usize, asked: u32, node: 
     had
 }
 
-// States of a set that a parameter's term has by the members given for it, one after another.
-fn find_given(t: &[u16], r: &[u32], w: &mut [u32], at: usize, asked: u32, node: Node) -> u32
+// Of the states of a set those that a parameter's term has by the members given for it, one after another. From the first one on for which
+// a member fails, that state alone is asked for; what no member serves for is lacked.
+fn find_given(t: &[u16], r: &[u32], w: &mut [u32], at: usize, asked: u32, node: Node) -> Outlook
     requires { ⌜ at < maxNodes ⌝ }
-    ensures { λ m. ⌜ (length (now (w .exit)) ≡ length (now (w .entry))) × (node ≡ nodeAt (now (t .entry)) (baseIn (now (r .entry))) at → (node .tag ≡ 0 → ⊥) → (node .tag ≡ 1 → ⊥) → Finds (caseOf (now (t .entry)) (now (r .entry))) (answersOf (now (r .entry)) (now (w .entry))) (usersOf (now (r .entry)) (now (w .entry))) at (answersOf (now (r .entry)) (now (w .exit))) (usersOf (now (r .entry)) (now (w .exit))) m) ⌝ }
+    ensures { λ m. ⌜ (length (now (w .exit)) ≡ length (now (w .entry))) × (node ≡ nodeAt (now (t .entry)) (baseIn (now (r .entry))) at → (node .tag ≡ 0 → ⊥) → (node .tag ≡ 1 → ⊥) → Settles (caseOf (now (t .entry)) (now (r .entry))) (answersOf (now (r .entry)) (now (w .entry))) (usersOf (now (r .entry)) (now (w .entry))) at asked (answersOf (now (r .entry)) (now (w .exit))) (usersOf (now (r .entry)) (now (w .exit))) m) ⌝ }
 {
     let given = off(t, number_in(r, TEST_OWN), node.number);
     if given == NONE {
-        return 0;
+        return Outlook { had: 0, lacked: 0 };
     }
     let many = many_of(t, given);
     let mut had: u32 = 0;
+    let mut left = asked;
     let mut j: usize = 0;
     while j < many {
         let ty = member_of(t, given, j);
         j = j + 1;
-        let q = wanted(t, left_of(asked, had), ty, node.count);
+        let q = wanted(t, left, ty, node.count);
         if q != NONE {
-            if !check_args(&*t, &*r, w, at + 1, node.count, ty) {
-                return had;
+            if check_again(&*t, &*r, w, at + 1, node.count, ty) {
+                had = with_bit(had, q);
+                left = without_bit(left, q);
+            } else {
+                left = with_bit(0, q);
             }
-            had = with_bit(had, q);
         }
     }
-    had
+    Outlook { had, lacked: left }
+}
+
+// Whether the `count` arguments from node `at` on have what a type asks for, where they were perhaps asked for the same before.
+fn check_again(t: &[u16], r: &[u32], w: &mut [u32], at: usize, count: usize, ty: usize) -> bool
+    ensures { λ b. ⌜ (length (now (w .exit)) ≡ length (now (w .entry))) × ChecksArgs (caseOf (now (t .entry)) (now (r .entry))) (answersOf (now (r .entry)) (now (w .entry))) (usersOf (now (r .entry)) (now (w .entry))) at count ty (answersOf (now (r .entry)) (now (w .exit))) (usersOf (now (r .entry)) (now (w .exit))) b ⌝ }
+{
+    if args_known(t, r, w, at, count, ty) {
+        return true;
+    }
+    check_args(&*t, &*r, w, at, count, ty)
 }
 
 // Whether the term at a node has each member of an arrow. What is found is remembered.

@@ -19,6 +19,7 @@ use index::layout::WORDS_LIMIT;
 use marks::is_in;
 use tables::reading::Node;
 use tables::reading::arity_of;
+use tables::reading::arrows_of;
 use tables::reading::end_of;
 use tables::reading::many_of;
 use tables::reading::mask_of;
@@ -38,7 +39,7 @@ ghost use mathlib.Core.Bool.{true};
 ghost use Rattle.index.specs.layout.Layout.{maxStates, noNumber};
 ghost use Rattle.tables.specs.reading.Cells.{offOf};
 ghost use Rattle.term_check.specs.Worlds.{caseOf, answersOf};
-ghost use Rattle.term_check.specs.heads.Heads.{IsCandidate, IsListed, Matches, IsTargets, Alone, Seen, AllHad};
+ghost use Rattle.term_check.specs.heads.Heads.{IsCandidate, IsListed, Matches, IsTargets, Alone, Seen, AllHad, ArgsKnown, Wanted};
 
 // Fewer members than these are looked up one by one.
 const FEW_MEMBERS: usize = 4;
@@ -210,21 +211,33 @@ pub fn all_had(t: &[u16], r: &[u32], w: &[u32], at: usize, ty: usize) -> bool
     left_of(mask_of(t, ty), known.had) == 0
 }
 
-// The state that a type becomes with so many arrows off, where it is one of a set; else NONE.
-pub fn wanted(t: &[u16], states: u32, ty: usize, count: usize) -> usize
-    ensures { λ s. ⌜ ((s ≡ noNumber → ⊥) → (s < maxStates) × (s ≡ offOf (now (t .entry)) count ty)) ⌝ }
+// Whether the arguments from a node on are known to have what a type asks for; that is seen where there is one, and its members are states.
+pub fn args_known(t: &[u16], r: &[u32], w: &[u32], at: usize, count: usize, ty: usize) -> bool
+    ensures { λ s. ⌜ ArgsKnown (caseOf (now (t .entry)) (now (r .entry))) (answersOf (now (r .entry)) (now (w .entry))) at count ty s ⌝ }
 {
-    let q = end_of(t, ty);
-    if MAX_STATES <= q {
+    if count != 1 {
+        return false;
+    }
+    if arrows_of(t, ty) != 0 {
+        return false;
+    }
+    let states = states_of(t, ty) as u32;
+    let known = outlook_in(r, w, at, 0);
+    left_of(states, known.had) == 0
+}
+
+// The goal that a type becomes with so many arrows off, where it is one of a set; else NONE.
+pub fn wanted(t: &[u16], goals: u32, ty: usize, count: usize) -> usize
+    ensures { λ s. ⌜ Wanted (now (t .entry)) goals ty count s ⌝ }
+{
+    let g = off(t, ty, count);
+    if WORD <= g {
         return NONE;
     }
-    if !has_bit(states, q) {
+    if !has_bit(goals, g) {
         return NONE;
     }
-    if off(t, ty, count) != q {
-        return NONE;
-    }
-    q
+    g
 }
 
 // Whether there is one argument left, and it has a constructor in front.

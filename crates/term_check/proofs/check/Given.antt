@@ -46,6 +46,9 @@ module _ (x : Case) (memo users : List ℕ) (at goal : ℕ) (a : Node) (given : 
   pub given-start : Tried memo users 0
   given-start = record { keeps = keeps-all x memo users; fails = λ w r k h. absurd (omega arith) }
 
+  pub tried-on : {memo′ users′ memo″ users″ : List ℕ} {j : ℕ} → Keeps x memo′ users′ memo″ users″ → Tried memo′ users′ j → Tried memo″ users″ j
+  tried-on k t = record { keeps = keeps-on (t .keeps) k; fails = t .fails }
+
   module _ {memo′ users′ : List ℕ} {j : ℕ} (t : Tried memo′ users′ j) where
     module _ (ty : ℕ) (is-ty : ty ≡ memberOf (x .t) given j) (j′ : ℕ) (ej : j′ ≡ suc j) where
       more : (memo″ users″ : List ℕ) → Keeps x memo users memo″ users″ → ((w : World) → Ready x w memo users → Fails w j) → Tried memo″ users″ j′

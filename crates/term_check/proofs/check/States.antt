@@ -9,10 +9,11 @@ use Rattle.index.specs.layout.Layout.{wordBits}
 use Rattle.marks.specs.Marks.{bitOf}
 use Rattle.marks.proofs.Bits.{zero-bit}
 use Rattle.answers.specs.Answers.{Learns}
+use Rattle.answers.specs.declared.Outlook.{Outlook}
 use Rattle.tables.specs.Frames.{Adds}
 use Rattle.term_check.specs.masks.Masks.{Lowest, TakesOut, Leaves}
 use Rattle.term_check.specs.notes.Notes.{stampIn, wideIn}
-use Rattle.term_check.specs.Worlds.{Case, World, Ready, Yes, No, Keeps, ChecksTerm, ChecksAll, Finds}
+use Rattle.term_check.specs.Worlds.{Case, World, Ready, Yes, No, Keeps, ChecksTerm, ChecksAll, Finds, Settles}
 use Rattle.term_check.proofs.check.Keeping.{yes-more, ready-on, keeps-all, keeps-on, keeps-learn}
 
 -- What is found.
@@ -32,6 +33,13 @@ module _ (x : Case) (memo users : List ℕ) (at : ℕ) where
         go w r p (inl b) = finds-on .found w r p b
         go w r p (inr e) = subst (Yes x w users″ at) (sym e) (yes-q w (ready-on (f .keeps) r))
 
+  -- nothing is found to be lacked
+  pub settles-found : (asked : ℕ) {memo′ users′ : List ℕ} {had : ℕ} → Finds x memo users at memo′ users′ had → Settles x memo users at asked memo′ users′ (record { had = had; lacked = 0 })
+  settles-found asked f = record { finds = f; within = λ q b. absurd (nothing q b); lacks = λ w r q b. absurd (nothing q b) }
+    where
+      nothing : (q : ℕ) → bitOf q 0 ≡ 1 → ⊥
+      nothing q b = let z = zero-bit q in omega arith
+
 -- What is left.
 module _ (x : Case) (memo users : List ℕ) (at asked : ℕ) where
   pub record Left (memo′ users′ : List ℕ) (had left : ℕ) : Type 0 where
@@ -42,11 +50,27 @@ module _ (x : Case) (memo users : List ℕ) (at asked : ℕ) where
   pub left-start : {memo′ users′ : List ℕ} {had left : ℕ} → Finds x memo users at memo′ users′ had → Leaves asked had left → Left memo′ users′ had left
   left-start f leaves = record { finds = f; all = leaves .all; within = leaves .within }
 
-  module _ {memo′ users′ : List ℕ} {had left : ℕ} (s : Left memo′ users′ had left) where
-    -- the states stand in one cell
-    state-bit : (h : ℕ) → h / wordBits ≡ 0 / wordBits → (n : ℕ) → bitOf (h % wordBits) n ≡ 1 → bitOf h n ≡ 1
-    state-bit h e n b = subst (λ k. bitOf k n ≡ 1) (let f : h % wordBits ≡ h = omega arith in f) b
+  -- the states stand in one cell
+  state-bit : (h : ℕ) → h / wordBits ≡ 0 / wordBits → (n : ℕ) → bitOf (h % wordBits) n ≡ 1 → bitOf h n ≡ 1
+  state-bit h e n b = subst (λ k. bitOf k n ≡ 1) (let f : h % wordBits ≡ h = omega arith in f) b
 
+  -- one of them is lacked, and that is remembered
+  lost : {memo′ users′ : List ℕ} {had : ℕ} → Finds x memo users at memo′ users′ had → (q : ℕ) → q < wordBits → bitOf q asked ≡ 1 → ((w : World) → Ready x w memo users → No x w at q) → (known : ℕ) → Adds had q known → (memo″ : List ℕ)
+      → Learns memo′ (wideIn (x .test)) (stampIn (x .test)) at 0 known had memo″ → ChecksAll x memo users at asked memo″ users′ false
+  lost {memo′} {users′} {had} f q low is-asked no-q known puts memo″ learns =
+      record {
+        keeps =
+            keeps-learn (f .keeps) at 0 known had memo″ learns
+            (record { yes = λ w r h e k o. f .found w r h (state-bit h e had o); no = λ w r h e k o. lacks w r h e o (puts .only low (h % wordBits) k) });
+        yes = λ y. absurd (true≢false (sym y));
+        no = λ y w r. (q, is-asked, no-q w r);
+      }
+    where
+      lacks : (w : World) → Ready x w memo users → (h : ℕ) → h / wordBits ≡ 0 / wordBits → bitOf (h % wordBits) had ≡ 0 → (bitOf (h % wordBits) had ≡ 1) ⊎ (h % wordBits ≡ q) → No x w at h
+      lacks w r h e z (inl o) = absurd (omega arith)
+      lacks w r h e z (inr o) = subst (No x w at) (let g : q ≡ h = omega arith in g) (no-q w r)
+
+  module _ {memo′ users′ : List ℕ} {had left : ℕ} (s : Left memo′ users′ had left) where
     -- all are had
     pub left-end : left ≡ 0 → (memo″ : List ℕ) → Learns memo′ (wideIn (x .test)) (stampIn (x .test)) at 0 had had memo″ → ChecksAll x memo users at asked memo″ users′ true
     left-end z memo″ learns =
@@ -81,18 +105,9 @@ module _ (x : Case) (memo users : List ℕ) (at asked : ℕ) where
               by (inr f) = inr (subst (λ k. bitOf k had′ ≡ 1) (sym f) (puts .put (is .within nz)))
 
       pub left-fails : b ≡ false → (known : ℕ) → Adds had q known → (memo‴ : List ℕ) → Learns memo″ (wideIn (x .test)) (stampIn (x .test)) at 0 known had memo‴ → ChecksAll x memo users at asked memo‴ users″ false
-      left-fails e known puts memo‴ learns =
-          record {
-            keeps =
-                keeps-learn (keeps-on (s .finds .keeps) (told .keeps)) at 0 known had memo‴ learns
-                (record {
-                  yes = λ w r h f k o. yes-more x w users′ users″ (told .keeps .grows) at h (s .finds .found w r h (state-bit h f had o));
-                  no = λ w r h f k o. lacks w r h f o (puts .only (is .within nz) (h % wordBits) k);
-                });
-            yes = λ y. absurd (true≢false (sym y));
-            no = λ y w r. (q, s .within q (is .has nz), told .no e w (ready-on (s .finds .keeps) r));
-          }
-        where
-          lacks : (w : World) → Ready x w memo users → (h : ℕ) → h / wordBits ≡ 0 / wordBits → bitOf (h % wordBits) had ≡ 0 → (bitOf (h % wordBits) had ≡ 1) ⊎ (h % wordBits ≡ q) → No x w at h
-          lacks w r h f z (inl o) = absurd (omega arith)
-          lacks w r h f z (inr o) = subst (No x w at) (let g : q ≡ h = omega arith in g) (told .no e w (ready-on (s .finds .keeps) r))
+      left-fails e known puts memo‴ learns = lost (finds-on x memo users at (s .finds) (told .keeps)) q (is .within nz) (s .within q (is .has nz)) (λ w r. told .no e w (ready-on (s .finds .keeps) r)) known puts memo‴ learns
+
+  -- some are found to be lacked at once
+  pub settled-fails : {memo′ users′ : List ℕ} {m : Outlook} → Settles x memo users at asked memo′ users′ m → (m .lacked ≡ 0 → ⊥) → (q : ℕ) → Lowest (m .lacked) q → (known : ℕ) → Adds (m .had) q known → (memo″ : List ℕ)
+      → Learns memo′ (wideIn (x .test)) (stampIn (x .test)) at 0 known (m .had) memo″ → ChecksAll x memo users at asked memo″ users′ false
+  settled-fails s nz q is known puts memo″ learns = lost (s .finds) q (is .within nz) (s .within q (is .has nz)) (λ w r. s .lacks w r q (is .has nz)) known puts memo″ learns

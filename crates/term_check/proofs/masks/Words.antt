@@ -9,7 +9,7 @@ use lib.Count.{trailingZeros}
 use lib.Dec.{eqb}
 use Rattle.marks.specs.Marks.{bitOf}
 use Rattle.marks.proofs.Bits.{bit-small, bit-two, zero-bit, and-bit, minus-bit, shifted, zeros-end, zeros-few}
-use Rattle.marks.proofs.Sets.{shifted-same, out-fewer, out-stays}
+use Rattle.marks.proofs.Sets.{shifted-same, out-same, out-fewer, out-stays}
 use Rattle.term_check.specs.masks.Masks.{HasBit, Lowest, TakesOut, Leaves}
 
 pub bit-decided : (word k : ℕ) → HasBit word k (eqb (word / 2 ^ (k % 32) % 2) 1)
@@ -38,6 +38,7 @@ module _ (word k : ℕ) where
       record {
         fewer = out-fewer word (k % 32) low;
         stays = λ h j e. at h j (out-stays word (k % 32) low j e);
+        gone = λ h. subst (λ i. bitOf i (word - bitAnd word (shifted (k % 32))) ≡ 0) (here h) (out-same word (k % 32) low);
         less = λ h e. smaller (subst (λ i. bitOf i word ≡ 1) (let f = here h in let g : k ≡ k % 32 = omega arith in g) e);
       }
     where

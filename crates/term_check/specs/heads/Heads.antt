@@ -10,14 +10,14 @@ use Rattle.scheme.specs.Terms.{Terms, countᵗ}
 use Rattle.scheme.specs.Types.{Ty, state, arrow, Tys, members, takes, final}
 use Rattle.scheme.specs.Flags.{isKept}
 use Rattle.casefile.specs.Tables.{transitionsOf, targetsAt}
-use Rattle.index.specs.layout.Layout.{maxStates, rowLimit, noNumber, noTargets}
+use Rattle.index.specs.layout.Layout.{maxStates, rowLimit, noNumber, noTargets, wordBits}
 use Rattle.marks.specs.Marks.{bitOf, In}
-use Rattle.tables.specs.reading.Cells.{memberOf, nodeAt}
+use Rattle.tables.specs.reading.Cells.{memberOf, nodeAt, offOf}
 use Rattle.tables.specs.declared.reading.Node.{Node}
 use Rattle.tables.specs.Facts.{Goal, AllAt, TypesAre, bindingAt, off}
 use Rattle.answers.specs.declared.Outlook.{Outlook}
 use Rattle.term_check.specs.notes.Notes.{baseIn, wordsIn}
-use Rattle.term_check.specs.Worlds.{Args, Case, World, Has, Setting, Ready, Tells, Yes, No, Targets, total}
+use Rattle.term_check.specs.Worlds.{Args, Case, World, Has, Setting, Ready, Tells, Yes, No, ArgsYes, Targets, total}
 
 -- binding c is kept, it is one of a nonterminal, and its type with arrows off is σ
 pub record Leads (w : World) (number n : ℕ) (σ : Ty) (c : ℕ) : Type 0 where
@@ -69,3 +69,12 @@ pub record Seen (x : Case) (memo : List ℕ) (i : ℕ) (r : Outlook) : Type 0 wh
 -- where r is true, the term at a node has all members of an arrow
 pub record AllHad (x : Case) (memo : List ℕ) (i g : ℕ) (r : Bool) : Type 0 where
   pub had : r ≡ true → (w : World) (users : List ℕ) → Ready x w memo users → (a : Tys) (ρ : Ty) → Goal (w .rs) g (arrow a ρ) → (j : ℕ) → j < length (members a) → Yes x w users i (memberOf (x .t) g j)
+
+-- where r is true, the arguments from a node on have what a type asks for
+pub record ArgsKnown (x : Case) (memo : List ℕ) (first n g : ℕ) (r : Bool) : Type 0 where
+  pub have : r ≡ true → (w : World) (users : List ℕ) → Ready x w memo users → ArgsYes x w users first n g
+
+-- r is the goal that a type becomes with arrows off, where it is one of a set, as bits
+pub record Wanted (t : List ℕ) (goals ty n r : ℕ) : Type 0 where
+  pub leads : (r ≡ noNumber → ⊥) → (r < wordBits) × (bitOf r goals ≡ 1) × (r ≡ offOf t n ty)
+  pub misses : r ≡ noNumber → (g : ℕ) → bitOf g goals ≡ 1 → offOf t n ty ≡ g → ⊥

@@ -21,6 +21,7 @@ pub record Lowest (word r : ℕ) : Type 0 where
 pub record TakesOut (word k r : ℕ) : Type 0 where
   pub fewer : (j : ℕ) → bitOf j r ≡ 1 → bitOf j word ≡ 1
   pub stays : k < wordBits → (j : ℕ) → bitOf j word ≡ 1 → (bitOf j r ≡ 1) ⊎ (j ≡ k)
+  pub gone : k < wordBits → bitOf k r ≡ 0
   pub less : k < wordBits → bitOf k word ≡ 1 → r < word
 
 -- r has the bits of a word that another has not

@@ -21,64 +21,69 @@ use Rattle.term_check.proofs.check.Bound.{try-misses, try-lacks, try-se
 use Rattle.term_check.proofs.check.Bound as Bound
 use Rattle.term_check.proofs.check.Given.{given-start, given-none, given-end, member-misses, member-fails, member-has}
 use Rattle.term_check.proofs.check.Given as Given
+use Rattle.term_check.proofs.check.Seeking.{Sought, sought-start, sought-misses, sought-fails, sought-serves, sought-end}
+use Rattle.term_check.proofs.check.Known.{known-args}
 use Rattle.term_check.proofs.check.Members.{states-lack, states-had, states-fail, states-checked, had-at-once, Asked, asked-start, asked-end, Recalled, recalled-none, recalled-more, recalled-on, recalled-no, recalled-yes, checked-no, checked-yes}
-use Rattle.term_check.proofs.check.States.{finds-none, finds-on, finds-more, Left, left-start, left-more, left-fails, left-end}
+use Rattle.term_check.proofs.check.States.{finds-none, finds-on, finds-more, settles-found, Left, left-start, left-more, left-fails, left-end, settled-fails}
 use Rattle.term_check.proofs.check.Moved.{members-moved, asked-moved, recalled-moved, all-moved, tries-moved}
 use Rattle.term_check.proofs.check.Terms.{term-past, no-targets, built-checked, alone-no, alone-yes}
 use Prim.Native.Nat.{ℕ, _<_}
 use borrow.Fn.Kinds.{In}
 use borrow.Fn.PlainCycle.{Measures, is, falls, and}
+use Rattle.term_check.proofs.check.check_again.Reads as check-again
+use Rattle.term_check.proofs.check.check_again.Kinds as check-again-kinds
+use Rattle.term_check.proofs.check.+check_again+check_all_args+check_args+check_bound+check_each+check_given+check_left+check_listed+check_member+check_members+check_states+check_target+check_targets+check_term+find_bound+find_given+find_states+try_binding.Lts-check_again as check-again-lts
 use Rattle.term_check.proofs.check.check_all_args.Reads as check-all-args
 use Rattle.term_check.proofs.check.check_all_args.Kinds as check-all-args-kinds
-use Rattle.term_check.proofs.check.+check_all_args+check_args+check_bound+check_each+check_given+check_left+check_listed+check_member+check_members+check_states+check_target+check_targets+check_term+find_bound+find_given+find_states+try_binding.Lts-check_all_args as check-all-args-lts
+use Rattle.term_check.proofs.check.+check_again+check_all_args+check_args+check_bound+check_each+check_given+check_left+check_listed+check_member+check_members+check_states+check_target+check_targets+check_term+find_bound+find_given+find_states+try_binding.Lts-check_all_args as check-all-args-lts
 use Rattle.term_check.proofs.check.check_args.Reads as check-args
 use Rattle.term_check.proofs.check.check_args.Kinds as check-args-kinds
-use Rattle.term_check.proofs.check.+check_all_args+check_args+check_bound+check_each+check_given+check_left+check_listed+check_member+check_members+check_states+check_target+check_targets+check_term+find_bound+find_given+find_states+try_binding.Lts-check_args as check-args-lts
+use Rattle.term_check.proofs.check.+check_again+check_all_args+check_args+check_bound+check_each+check_given+check_left+check_listed+check_member+check_members+check_states+check_target+check_targets+check_term+find_bound+find_given+find_states+try_binding.Lts-check_args as check-args-lts
 use Rattle.term_check.proofs.check.check_bound.Reads as check-bound
 use Rattle.term_check.proofs.check.check_bound.Kinds as check-bound-kinds
-use Rattle.term_check.proofs.check.+check_all_args+check_args+check_bound+check_each+check_given+check_left+check_listed+check_member+check_members+check_states+check_target+check_targets+check_term+find_bound+find_given+find_states+try_binding.Lts-check_bound as check-bound-lts
+use Rattle.term_check.proofs.check.+check_again+check_all_args+check_args+check_bound+check_each+check_given+check_left+check_listed+check_member+check_members+check_states+check_target+check_targets+check_term+find_bound+find_given+find_states+try_binding.Lts-check_bound as check-bound-lts
 use Rattle.term_check.proofs.check.check_each.Reads as check-each
 use Rattle.term_check.proofs.check.check_each.Kinds as check-each-kinds
-use Rattle.term_check.proofs.check.+check_all_args+check_args+check_bound+check_each+check_given+check_left+check_listed+check_member+check_members+check_states+check_target+check_targets+check_term+find_bound+find_given+find_states+try_binding.Lts-check_each as check-each-lts
+use Rattle.term_check.proofs.check.+check_again+check_all_args+check_args+check_bound+check_each+check_given+check_left+check_listed+check_member+check_members+check_states+check_target+check_targets+check_term+find_bound+find_given+find_states+try_binding.Lts-check_each as check-each-lts
 use Rattle.term_check.proofs.check.check_given.Reads as check-given
 use Rattle.term_check.proofs.check.check_given.Kinds as check-given-kinds
-use Rattle.term_check.proofs.check.+check_all_args+check_args+check_bound+check_each+check_given+check_left+check_listed+check_member+check_members+check_states+check_target+check_targets+check_term+find_bound+find_given+find_states+try_binding.Lts-check_given as check-given-lts
+use Rattle.term_check.proofs.check.+check_again+check_all_args+check_args+check_bound+check_each+check_given+check_left+check_listed+check_member+check_members+check_states+check_target+check_targets+check_term+find_bound+find_given+find_states+try_binding.Lts-check_given as check-given-lts
 use Rattle.term_check.proofs.check.check_left.Reads as check-left
 use Rattle.term_check.proofs.check.check_left.Kinds as check-left-kinds
-use Rattle.term_check.proofs.check.+check_all_args+check_args+check_bound+check_each+check_given+check_left+check_listed+check_member+check_members+check_states+check_target+check_targets+check_term+find_bound+find_given+find_states+try_binding.Lts-check_left as check-left-lts
+use Rattle.term_check.proofs.check.+check_again+check_all_args+check_args+check_bound+check_each+check_given+check_left+check_listed+check_member+check_members+check_states+check_target+check_targets+check_term+find_bound+find_given+find_states+try_binding.Lts-check_left as check-left-lts
 use Rattle.term_check.proofs.check.check_listed.Reads as check-listed
 use Rattle.term_check.proofs.check.check_listed.Kinds as check-listed-kinds
-use Rattle.term_check.proofs.check.+check_all_args+check_args+check_bound+check_each+check_given+check_left+check_listed+check_member+check_members+check_states+check_target+check_targets+check_term+find_bound+find_given+find_states+try_binding.Lts-check_listed as check-listed-lts
+use Rattle.term_check.proofs.check.+check_again+check_all_args+check_args+check_bound+check_each+check_given+check_left+check_listed+check_member+check_members+check_states+check_target+check_targets+check_term+find_bound+find_given+find_states+try_binding.Lts-check_listed as check-listed-lts
 use Rattle.term_check.proofs.check.check_member.Reads as check-member
 use Rattle.term_check.proofs.check.check_member.Kinds as check-member-kinds
-use Rattle.term_check.proofs.check.+check_all_args+check_args+check_bound+check_each+check_given+check_left+check_listed+check_member+check_members+check_states+check_target+check_targets+check_term+find_bound+find_given+find_states+try_binding.Lts-check_member as check-member-lts
+use Rattle.term_check.proofs.check.+check_again+check_all_args+check_args+check_bound+check_each+check_given+check_left+check_listed+check_member+check_members+check_states+check_target+check_targets+check_term+find_bound+find_given+find_states+try_binding.Lts-check_member as check-member-lts
 use Rattle.term_check.proofs.check.check_members.Reads as check-members
 use Rattle.term_check.proofs.check.check_members.Kinds as check-members-kinds
-use Rattle.term_check.proofs.check.+check_all_args+check_args+check_bound+check_each+check_given+check_left+check_listed+check_member+check_members+check_states+check_target+check_targets+check_term+find_bound+find_given+find_states+try_binding.Lts-check_members as check-members-lts
+use Rattle.term_check.proofs.check.+check_again+check_all_args+check_args+check_bound+check_each+check_given+check_left+check_listed+check_member+check_members+check_states+check_target+check_targets+check_term+find_bound+find_given+find_states+try_binding.Lts-check_members as check-members-lts
 use Rattle.term_check.proofs.check.check_states.Reads as check-states
 use Rattle.term_check.proofs.check.check_states.Kinds as check-states-kinds
-use Rattle.term_check.proofs.check.+check_all_args+check_args+check_bound+check_each+check_given+check_left+check_listed+check_member+check_members+check_states+check_target+check_targets+check_term+find_bound+find_given+find_states+try_binding.Lts-check_states as check-states-lts
+use Rattle.term_check.proofs.check.+check_again+check_all_args+check_args+check_bound+check_each+check_given+check_left+check_listed+check_member+check_members+check_states+check_target+check_targets+check_term+find_bound+find_given+find_states+try_binding.Lts-check_states as check-states-lts
 use Rattle.term_check.proofs.check.check_target.Reads as check-target
 use Rattle.term_check.proofs.check.check_target.Kinds as check-target-kinds
-use Rattle.term_check.proofs.check.+check_all_args+check_args+check_bound+check_each+check_given+check_left+check_listed+check_member+check_members+check_states+check_target+check_targets+check_term+find_bound+find_given+find_states+try_binding.Lts-check_target as check-target-lts
+use Rattle.term_check.proofs.check.+check_again+check_all_args+check_args+check_bound+check_each+check_given+check_left+check_listed+check_member+check_members+check_states+check_target+check_targets+check_term+find_bound+find_given+find_states+try_binding.Lts-check_target as check-target-lts
 use Rattle.term_check.proofs.check.check_targets.Reads as check-targets
 use Rattle.term_check.proofs.check.check_targets.Kinds as check-targets-kinds
-use Rattle.term_check.proofs.check.+check_all_args+check_args+check_bound+check_each+check_given+check_left+check_listed+check_member+check_members+check_states+check_target+check_targets+check_term+find_bound+find_given+find_states+try_binding.Lts-check_targets as check-targets-lts
+use Rattle.term_check.proofs.check.+check_again+check_all_args+check_args+check_bound+check_each+check_given+check_left+check_listed+check_member+check_members+check_states+check_target+check_targets+check_term+find_bound+find_given+find_states+try_binding.Lts-check_targets as check-targets-lts
 use Rattle.term_check.proofs.check.check_term.Reads as check-term
 use Rattle.term_check.proofs.check.check_term.Kinds as check-term-kinds
-use Rattle.term_check.proofs.check.+check_all_args+check_args+check_bound+check_each+check_given+check_left+check_listed+check_member+check_members+check_states+check_target+check_targets+check_term+find_bound+find_given+find_states+try_binding.Lts-check_term as check-term-lts
+use Rattle.term_check.proofs.check.+check_again+check_all_args+check_args+check_bound+check_each+check_given+check_left+check_listed+check_member+check_members+check_states+check_target+check_targets+check_term+find_bound+find_given+find_states+try_binding.Lts-check_term as check-term-lts
 use Rattle.term_check.proofs.check.find_bound.Reads as find-bound
 use Rattle.term_check.proofs.check.find_bound.Kinds as find-bound-kinds
-use Rattle.term_check.proofs.check.+check_all_args+check_args+check_bound+check_each+check_given+check_left+check_listed+check_member+check_members+check_states+check_target+check_targets+check_term+find_bound+find_given+find_states+try_binding.Lts-find_bound as find-bound-lts
+use Rattle.term_check.proofs.check.+check_again+check_all_args+check_args+check_bound+check_each+check_given+check_left+check_listed+check_member+check_members+check_states+check_target+check_targets+check_term+find_bound+find_given+find_states+try_binding.Lts-find_bound as find-bound-lts
 use Rattle.term_check.proofs.check.find_given.Reads as find-given
 use Rattle.term_check.proofs.check.find_given.Kinds as find-given-kinds
-use Rattle.term_check.proofs.check.+check_all_args+check_args+check_bound+check_each+check_given+check_left+check_listed+check_member+check_members+check_states+check_target+check_targets+check_term+find_bound+find_given+find_states+try_binding.Lts-find_given as find-given-lts
+use Rattle.term_check.proofs.check.+check_again+check_all_args+check_args+check_bound+check_each+check_given+check_left+check_listed+check_member+check_members+check_states+check_target+check_targets+check_term+find_bound+find_given+find_states+try_binding.Lts-find_given as find-given-lts
 use Rattle.term_check.proofs.check.find_states.Reads as find-states
 use Rattle.term_check.proofs.check.find_states.Kinds as find-states-kinds
-use Rattle.term_check.proofs.check.+check_all_args+check_args+check_bound+check_each+check_given+check_left+check_listed+check_member+check_members+check_states+check_target+check_targets+check_term+find_bound+find_given+find_states+try_binding.Lts-find_states as find-states-lts
+use Rattle.term_check.proofs.check.+check_again+check_all_args+check_args+check_bound+check_each+check_given+check_left+check_listed+check_member+check_members+check_states+check_target+check_targets+check_term+find_bound+find_given+find_states+try_binding.Lts-find_states as find-states-lts
 use Rattle.term_check.proofs.check.try_binding.Reads as try-binding
 use Rattle.term_check.proofs.check.try_binding.Kinds as try-binding-kinds
-use Rattle.term_check.proofs.check.+check_all_args+check_args+check_bound+check_each+check_given+check_left+check_listed+check_member+check_members+check_states+check_target+check_targets+check_term+find_bound+find_given+find_states+try_binding.Lts-try_binding as try-binding-lts
+use Rattle.term_check.proofs.check.+check_again+check_all_args+check_args+check_bound+check_each+check_given+check_left+check_listed+check_member+check_members+check_states+check_target+check_targets+check_term+find_bound+find_given+find_states+try_binding.Lts-try_binding as try-binding-lts
 use Rattle.marks.proofs.next_in.Reads as next-in-reads
 use Rattle.tables.proofs.reading.arrows_of.Reads as arrows-of-reads
 use Rattle.tables.proofs.reading.group_of.Reads as group-of-reads
@@ -90,6 +95,7 @@ use Rattle.tables.proofs.reading.result_of.Reads as result-of-reads
 use Rattle.tables.proofs.reading.states_of.Reads as states-of-reads
 use Rattle.term_check.proofs.heads.all_had.Reads as all-had-reads
 use Rattle.term_check.proofs.heads.alone.Reads as alone-reads
+use Rattle.term_check.proofs.heads.args_known.Reads as args-known-reads
 use Rattle.term_check.proofs.heads.candidate.Reads as candidate-reads
 use Rattle.term_check.proofs.heads.goes_down.Reads as goes-down-reads
 use Rattle.term_check.proofs.heads.listed.Reads as listed-reads
@@ -108,12 +114,15 @@ use Rattle.term_check.proofs.notes.number_in.Reads as number-in-reads
 use Rattle.term_check.proofs.parts.learn_in.Reads as learn-in-reads
 use Rattle.term_check.proofs.parts.note_in.Reads as note-in-reads
 use Rattle.term_check.proofs.parts.outlook_on.Reads as outlook-on-reads
-use Rattle.term_check.proofs.check.+check_all_args+check_args+check_bound+check_each+check_given+check_left+check_listed+check_member+check_members+check_states+check_target+check_targets+check_term+find_bound+find_given+find_states+try_binding.{
+use Rattle.term_check.proofs.check.+check_again+check_all_args+check_args+check_bound+check_each+check_given+check_left+check_listed+check_member+check_members+check_states+check_target+check_targets+check_term+find_bound+find_given+find_states+try_binding.{
   statement,
 }
-use Rattle.term_check.proofs.check.+check_all_args+check_args+check_bound+check_each+check_given+check_left+check_listed+check_member+check_members+check_states+check_target+check_targets+check_term+find_bound+find_given+find_states+try_binding.Tie.{
+use Rattle.term_check.proofs.check.+check_again+check_all_args+check_args+check_bound+check_each+check_given+check_left+check_listed+check_member+check_members+check_states+check_target+check_targets+check_term+find_bound+find_given+find_states+try_binding.Tie.{
   close,
 }
+
+abbrev μ-check-again : Measures 3 check-again-kinds.ps ℕ
+μ-check-again κs a = (18446744073709551616 - a .1 .1 .1 .0) * 16 + 12
 
 abbrev μ-check-all-args : Measures 3 check-all-args-kinds.ps ℕ
 μ-check-all-args κs a = (18446744073709551616 - a .1 .1 .1 .0) * 16 + 10
@@ -165,6 +174,14 @@ abbrev μ-find-states : Measures 3 find-states-kinds.ps ℕ
 
 abbrev μ-try-binding : Measures 3 try-binding-kinds.ps ℕ
 μ-try-binding κs a = (18446744073709551616 - a .1 .1 .1 .0) * 16 + 3
+
+abbrev check-again-at : ℕ → In 3 check-again-kinds.ps
+check-again-at t =
+    and 3 check-again-kinds.ps (is 3 check-again-kinds.ps μ-check-again t) check-again.Pre
+
+abbrev check-again-below : ℕ → In 3 check-again-kinds.ps
+check-again-below t =
+    and 3 check-again-kinds.ps (falls 3 check-again-kinds.ps _<_ μ-check-again t) check-again.Pre
 
 abbrev check-all-args-at : ℕ → In 3 check-all-args-kinds.ps
 check-all-args-at t =
@@ -326,6 +343,9 @@ abbrev try-binding-below : ℕ → In 3 try-binding-kinds.ps
 try-binding-below t =
     and 3 try-binding-kinds.ps (falls 3 try-binding-kinds.ps _<_ μ-try-binding t) try-binding.Pre
 
+abbrev check-again-claims : ℕ → check-again-lts.Claims
+check-again-claims t = (args-known-reads.Asked, args-known-reads.Learnt, check-args-below t, check-args.Post)
+
 abbrev check-all-args-claims : ℕ → check-all-args-lts.Claims
 check-all-args-claims t =
     (number-in-reads.Asked, number-in-reads.Learnt, node-of-reads.Asked, node-of-reads.Learnt, check-members-below t, check-members.Post, result-of-reads.Asked, result-of-reads.Learnt)
@@ -363,7 +383,7 @@ check-members-claims t =
 
 abbrev check-states-claims : ℕ → check-states-lts.Claims
 check-states-claims t =
-    (find-states-below t, find-states.Post, check-left-below t, check-left.Post)
+    (find-states-below t, find-states.Post, lowest-reads.Asked, lowest-reads.Learnt, with-bit-reads.Asked, with-bit-reads.Learnt, learn-in-reads.Asked, learn-in-reads.Learnt, check-left-below t, check-left.Post)
 
 abbrev check-target-claims : ℕ → check-target-lts.Claims
 check-target-claims t =
@@ -383,7 +403,7 @@ find-bound-claims t =
 
 abbrev find-given-claims : ℕ → find-given-lts.Claims
 find-given-claims t =
-    (number-in-reads.Asked, number-in-reads.Learnt, off-reads.Asked, off-reads.Learnt, many-of-reads.Asked, many-of-reads.Learnt, member-of-reads.Asked, member-of-reads.Learnt, left-of-reads.Asked, left-of-reads.Learnt, wanted-reads.Asked, wanted-reads.Learnt, check-args-below t, check-args.Post, with-bit-reads.Asked, with-bit-reads.Learnt)
+    (number-in-reads.Asked, number-in-reads.Learnt, off-reads.Asked, off-reads.Learnt, many-of-reads.Asked, many-of-reads.Learnt, member-of-reads.Asked, member-of-reads.Learnt, wanted-reads.Asked, wanted-reads.Learnt, check-again-below t, check-again.Post, with-bit-reads.Asked, with-bit-reads.Learnt, without-bit-reads.Asked, without-bit-reads.Learnt)
 
 abbrev find-states-claims : ℕ → find-states-lts.Claims
 find-states-claims t =
@@ -392,6 +412,24 @@ find-states-claims t =
 abbrev try-binding-claims : ℕ → try-binding-lts.Claims
 try-binding-claims t =
     (candidate-reads.Asked, candidate-reads.Learnt, check-args-below t, check-args.Post, note-in-reads.Asked, note-in-reads.Learnt)
+
+check-again-args-known-requires : (t : ℕ) → check-again-lts.Need-args-known-requires (check-again-claims t) (check-again-at t) check-again.Post
+check-again-args-known-requires t c κs = search needs
+
+check-again-same-length : (t : ℕ) → check-again-lts.Need-same-length (check-again-claims t) (check-again-at t) check-again.Post
+check-again-same-length t c = refl
+
+check-again-returns : (t : ℕ) → check-again-lts.Need-returns (check-again-claims t) (check-again-at t) check-again.Post
+check-again-returns t c = (refl, known-args _ _ _ _ _ _ _ (c .before .args-known .ensures) (c .if1 .taken))
+
+check-again-check-args-requires : (t : ℕ) → check-again-lts.Need-check-args-requires (check-again-claims t) (check-again-at t) check-again.Post
+check-again-check-args-requires t c κs = let p = c .before .before .before .before .before .before .before .pre .0 in (omega arith, Prim.tt)
+
+check-again-same-length-2 : (t : ℕ) → check-again-lts.Need-same-length-2 (check-again-claims t) (check-again-at t) check-again.Post
+check-again-same-length-2 t c = c .before .before .check-args .ensures .0
+
+check-again-returns-2 : (t : ℕ) → check-again-lts.Need-returns-2 (check-again-claims t) (check-again-at t) check-again.Post
+check-again-returns-2 t c = (c .before .before .check-args .ensures .0, c .before .before .check-args .ensures .1)
 
 abbrev check-all-args-Inv-loop : check-all-args-lts.InvT-loop
 check-all-args-Inv-loop t r w₀ at count ty base here₀ rest₀ left₀ w here rest left = (length w ≡ length w₀) × (at ≤ here) × ((memo′ users′ : List ℕ) (b : Bool) → ChecksArgs (caseOf t r) (answersOf r w) (usersOf r w) here left rest memo′ users′ b → ChecksArgs (caseOf t r) (answersOf r w₀) (usersOf r w₀) at count ty memo′ users′ b)
@@ -861,14 +899,29 @@ check-members-returns-6 t c = (c .before .before .check-each2 .ensures .0 ∙ c 
 check-states-find-states-requires : (t : ℕ) → check-states-lts.Need-find-states-requires (check-states-claims t) (check-states-at t) check-states.Post
 check-states-find-states-requires t c κs = let p = c .before .before .before .before .pre .0 in (omega arith, Prim.tt)
 
-check-states-check-left-requires : (t : ℕ) → check-states-lts.Need-check-left-requires (check-states-claims t) (check-states-at t) check-states.Post
-check-states-check-left-requires t c κs = let p = c .before .before .before .before .before .before .before .before .pre .0 in (omega arith, Prim.tt)
+check-states-lowest-requires : (t : ℕ) → check-states-lts.Need-lowest-requires (check-states-claims t) (check-states-at t) check-states.Post
+check-states-lowest-requires t c κs = search needs
+
+check-states-with-bit-requires : (t : ℕ) → check-states-lts.Need-with-bit-requires (check-states-claims t) (check-states-at t) check-states.Post
+check-states-with-bit-requires t c κs = search needs
+
+check-states-learn-in-requires : (t : ℕ) → check-states-lts.Need-learn-in-requires (check-states-claims t) (check-states-at t) check-states.Post
+check-states-learn-in-requires t c κs = search needs
 
 check-states-same-length : (t : ℕ) → check-states-lts.Need-same-length (check-states-claims t) (check-states-at t) check-states.Post
-check-states-same-length t c = c .before .before .check-left .ensures .0 ∙ c .before .before .before .before .before .before .find-states .ensures .0
+check-states-same-length t c = c .before .before .learn-in .ensures .0 ∙ c .before .before .before .before .before .before .before .before .before .before .find-states .ensures .0
 
 check-states-returns : (t : ℕ) → check-states-lts.Need-returns (check-states-claims t) (check-states-at t) check-states.Post
-check-states-returns t c = (c .before .before .check-left .ensures .0 ∙ c .before .before .before .before .before .before .find-states .ensures .0, c .before .before .check-left .ensures .1 _ _ (c .before .before .before .before .before .before .find-states .ensures .1))
+check-states-returns t c = (c .before .before .learn-in .ensures .0 ∙ c .before .before .before .before .before .before .before .before .before .before .find-states .ensures .0, all-moved _ _ _ (c .before .before .before .before .before .before .before .before .before .before .before .before .before .before .before .args .at) _ _ _ _ _ (c .before .before .learn-in .ensures .1) (settled-fails _ _ _ _ _ (c .before .before .before .before .before .before .before .before .before .before .find-states .ensures .1) (c .before .before .before .before .before .before .if1 .taken) _ (c .before .before .before .before .before .lowest .ensures) _ (c .before .before .before .before .with-bit .ensures) _ (c .before .before .learn-in .ensures .2)))
+
+check-states-check-left-requires : (t : ℕ) → check-states-lts.Need-check-left-requires (check-states-claims t) (check-states-at t) check-states.Post
+check-states-check-left-requires t c κs = let p = c .before .before .before .before .before .before .before .before .before .before .pre .0 in (omega arith, Prim.tt)
+
+check-states-same-length-2 : (t : ℕ) → check-states-lts.Need-same-length-2 (check-states-claims t) (check-states-at t) check-states.Post
+check-states-same-length-2 t c = c .before .before .check-left .ensures .0 ∙ c .before .before .before .before .before .before .before .before .find-states .ensures .0
+
+check-states-returns-2 : (t : ℕ) → check-states-lts.Need-returns-2 (check-states-claims t) (check-states-at t) check-states.Post
+check-states-returns-2 t c = (c .before .before .check-left .ensures .0 ∙ c .before .before .before .before .before .before .before .before .find-states .ensures .0, c .before .before .check-left .ensures .1 _ _ (c .before .before .before .before .before .before .before .before .find-states .ensures .1 .finds))
 
 check-target-number-in-requires : (t : ℕ) → check-target-lts.Need-number-in-requires (check-target-claims t) (check-target-at t) check-target.Post
 check-target-number-in-requires t c κs = search needs
@@ -1072,10 +1125,10 @@ find-bound-returns-3 : (t : ℕ) → find-bound-lts.Need-returns-3 (find-bound-c
 find-bound-returns-3 t c = c .before .loop .inv
 
 abbrev find-given-Inv-loop : find-given-lts.InvT-loop
-find-given-Inv-loop t r w₀ at asked node given many had₀ j₀ w had j = (length w ≡ length w₀) × (node ≡ nodeAt t (baseIn r) at → (node .tag ≡ 0 → ⊥) → (node .tag ≡ 1 → ⊥) → Finds (caseOf t r) (answersOf r w₀) (usersOf r w₀) at (answersOf r w) (usersOf r w) had)
+find-given-Inv-loop t r w₀ at asked node given many had₀ left₀ j₀ w had left j = (length w ≡ length w₀) × (node ≡ nodeAt t (baseIn r) at → (node .tag ≡ 0 → ⊥) → (node .tag ≡ 1 → ⊥) → Sought (caseOf t r) (answersOf r w₀) (usersOf r w₀) at asked node given (answersOf r w) (usersOf r w) had left j)
 
 abbrev find-given-μ-loop : find-given-lts.MeasureT-loop
-find-given-μ-loop t r w₀ at asked node given many had₀ j₀ w had j = many - j
+find-given-μ-loop t r w₀ at asked node given many had₀ left₀ j₀ w had left j = many - j
 
 find-given-number-in-requires : (t : ℕ) → find-given-lts.Need-number-in-requires (find-given-claims t) (find-given-at t) find-given.Post find-given-Inv-loop find-given-μ-loop
 find-given-number-in-requires t c κs = search needs
@@ -1084,13 +1137,13 @@ find-given-off-requires : (t : ℕ) → find-given-lts.Need-off-requires (find-g
 find-given-off-requires t c κs = search needs
 
 find-given-returns : (t : ℕ) → find-given-lts.Need-returns (find-given-claims t) (find-given-at t) find-given.Post find-given-Inv-loop find-given-μ-loop
-find-given-returns t c = (refl, λ ea nc nn. finds-none _ _ _ _)
+find-given-returns t c = (refl, λ ea nc nn. settles-found _ _ _ _ _ (finds-none _ _ _ _))
 
 find-given-many-of-requires : (t : ℕ) → find-given-lts.Need-many-of-requires (find-given-claims t) (find-given-at t) find-given.Post find-given-Inv-loop find-given-μ-loop
 find-given-many-of-requires t c κs = search needs
 
 find-given-loop-holds : (t : ℕ) → find-given-lts.Need-loop-holds (find-given-claims t) (find-given-at t) find-given.Post find-given-Inv-loop find-given-μ-loop
-find-given-loop-holds t c = (refl, λ ea nc nn. finds-none _ _ _ _)
+find-given-loop-holds t c = (refl, λ ea nc nn. sought-start _ _ _ _ _ _ _)
 
 find-given-member-of-requires : (t : ℕ) → find-given-lts.Need-member-of-requires (find-given-claims t) (find-given-at t) find-given.Post find-given-Inv-loop find-given-μ-loop
 find-given-member-of-requires t c κs = search needs
@@ -1098,47 +1151,50 @@ find-given-member-of-requires t c κs = search needs
 find-given-add-j : (t : ℕ) → find-given-lts.Need-add-j (find-given-claims t) (find-given-at t) find-given.Post find-given-Inv-loop find-given-μ-loop
 find-given-add-j t c = let h = c .before .loop-test .taken in let m = c .before .before .before .many-of .ensures .1 in omega arith
 
-find-given-left-of-requires : (t : ℕ) → find-given-lts.Need-left-of-requires (find-given-claims t) (find-given-at t) find-given.Post find-given-Inv-loop find-given-μ-loop
-find-given-left-of-requires t c κs = search needs
-
 find-given-wanted-requires : (t : ℕ) → find-given-lts.Need-wanted-requires (find-given-claims t) (find-given-at t) find-given.Post find-given-Inv-loop find-given-μ-loop
 find-given-wanted-requires t c κs = search needs
 
-find-given-add-check-args : (t : ℕ) → find-given-lts.Need-add-check-args (find-given-claims t) (find-given-at t) find-given.Post find-given-Inv-loop find-given-μ-loop
-find-given-add-check-args t c = let h = c .before .before .before .before .before .before .before .before .before .before .before .before .before .before .pre .1 in omega arith
+find-given-add-check-again : (t : ℕ) → find-given-lts.Need-add-check-again (find-given-claims t) (find-given-at t) find-given.Post find-given-Inv-loop find-given-μ-loop
+find-given-add-check-again t c = let h = c .before .before .before .before .before .before .before .before .before .before .before .before .before .pre .1 in omega arith
 
-find-given-check-args-requires : (t : ℕ) → find-given-lts.Need-check-args-requires (find-given-claims t) (find-given-at t) find-given.Post find-given-Inv-loop find-given-μ-loop
-find-given-check-args-requires t c κs = let p = c .before .before .before .before .before .before .before .before .before .before .before .before .before .before .pre .0 in let h = c .before .before .before .before .before .before .before .before .before .before .before .before .before .before .pre .1 in (omega arith, Prim.tt)
-
-find-given-same-length : (t : ℕ) → find-given-lts.Need-same-length (find-given-claims t) (find-given-at t) find-given.Post find-given-Inv-loop find-given-μ-loop
-find-given-same-length t c = c .before .before .before .check-args .ensures .0 ∙ c .before .before .before .before .before .before .before .before .before .before .loop .inv .0
-
-find-given-returns-2 : (t : ℕ) → find-given-lts.Need-returns-2 (find-given-claims t) (find-given-at t) find-given.Post find-given-Inv-loop find-given-μ-loop
-find-given-returns-2 t c = (c .before .before .before .check-args .ensures .0 ∙ c .before .before .before .before .before .before .before .before .before .before .loop .inv .0, λ ea nc nn. finds-on _ _ _ _ (c .before .before .before .before .before .before .before .before .before .before .loop .inv .1 ea nc nn) (c .before .before .before .check-args .ensures .1 .keeps))
+find-given-check-again-requires : (t : ℕ) → find-given-lts.Need-check-again-requires (find-given-claims t) (find-given-at t) find-given.Post find-given-Inv-loop find-given-μ-loop
+find-given-check-again-requires t c κs = let p = c .before .before .before .before .before .before .before .before .before .before .before .before .before .pre .0 in let h = c .before .before .before .before .before .before .before .before .before .before .before .before .before .pre .1 in (omega arith, Prim.tt)
 
 find-given-with-bit-requires : (t : ℕ) → find-given-lts.Need-with-bit-requires (find-given-claims t) (find-given-at t) find-given.Post find-given-Inv-loop find-given-μ-loop
 find-given-with-bit-requires t c κs = search needs
+
+find-given-without-bit-requires : (t : ℕ) → find-given-lts.Need-without-bit-requires (find-given-claims t) (find-given-at t) find-given.Post find-given-Inv-loop find-given-μ-loop
+find-given-without-bit-requires t c κs = search needs
 
 find-given-loop-less : (t : ℕ) → find-given-lts.Need-loop-less (find-given-claims t) (find-given-at t) find-given.Post find-given-Inv-loop find-given-μ-loop
 find-given-loop-less t c = let h = c .before .before .before .before .before .before .before .before .before .before .loop-test .taken in omega arith
 
 find-given-loop-again : (t : ℕ) → find-given-lts.Need-loop-again (find-given-claims t) (find-given-at t) find-given.Post find-given-Inv-loop find-given-μ-loop
-find-given-loop-again t c = (c .before .before .before .before .check-args .ensures .0 ∙ c .before .before .before .before .before .before .before .before .before .before .before .loop .inv .0, λ ea nc nn. let told = member-has _ _ _ _ _ _ _ (c .before .before .before .before .before .before .before .before .before .before .before .before .before .before .off .ensures ∙ ap (offOf _ _) (c .before .before .before .before .before .before .before .before .before .before .before .before .before .before .before .number-in .ensures .0)) ea nc nn _ _ (c .before .before .before .before .before .before .before .before .before .before .before .before .many-of .ensures .0) (c .before .before .before .before .before .before .before .before .before .before .loop-test .taken) (c .before .before .before .before .before .before .before .before .before .before .before .before .before .if1 .left) _ (c .before .before .before .before .before .before .before .before .before .member-of .ensures .0) _ (c .before .before .before .before .before .before .before .wanted .ensures (c .before .before .before .before .before .before .if2 .taken) .1) refl ((c .before .before .before .before .before .before .before .before .before .before .before .before .before .before .before .before .before .before .before .args .at) + 1) (omega arith) _ _ _ (c .before .before .before .before .check-args .ensures .1) (not-false _ (c .before .if3 .left)) in finds-more _ _ _ _ (c .before .before .before .before .before .before .before .before .before .before .before .loop .inv .1 ea nc nn) (told .keeps) _ _ (let l = c .before .before .before .before .before .before .before .wanted .ensures (c .before .before .before .before .before .before .if2 .taken) .0 in omega arith) (c .with-bit .ensures) (told .yes refl))
+find-given-loop-again t c = (c .before .before .before .before .before .check-again .ensures .0 ∙ c .before .before .before .before .before .before .before .before .before .before .before .loop .inv .0, λ ea nc nn. sought-serves _ _ _ _ _ _ _ (c .before .before .before .before .before .before .before .before .before .before .before .loop .inv .1 ea nc nn) _ (c .before .before .before .before .before .before .before .before .before .member-of .ensures .0) _ (omega arith) _ (c .before .before .before .before .before .before .before .before .wanted .ensures) (c .before .before .before .before .before .before .before .if2 .taken) (c .before .before .before .before .before .before .before .before .before .before .before .before .before .before .before .before .before .before .before .args .at + 1) (omega arith) _ _ _ (c .before .before .before .before .before .check-again .ensures .1) (c .before .before .before .before .before .before .before .before .before .before .before .before .before .before .off .ensures ∙ ap (offOf _ _) (c .before .before .before .before .before .before .before .before .before .before .before .before .before .before .before .number-in .ensures .0)) ea nc nn _ (c .before .before .before .before .before .before .before .before .before .before .before .before .many-of .ensures .0) (c .before .before .before .before .before .before .before .before .before .before .loop-test .taken) (c .before .before .before .before .before .before .before .before .before .before .before .before .before .if1 .left) (c .before .before .if3 .taken) _ _ (c .before .with-bit .ensures) (c .without-bit .ensures))
+
+find-given-with-bit-requires-2 : (t : ℕ) → find-given-lts.Need-with-bit-requires-2 (find-given-claims t) (find-given-at t) find-given.Post find-given-Inv-loop find-given-μ-loop
+find-given-with-bit-requires-2 t c κs = search needs
 
 find-given-loop-less-2 : (t : ℕ) → find-given-lts.Need-loop-less-2 (find-given-claims t) (find-given-at t) find-given.Post find-given-Inv-loop find-given-μ-loop
-find-given-loop-less-2 t c = let h = c .before .before .before .before .loop-test .taken in omega arith
+find-given-loop-less-2 t c = let h = c .before .before .before .before .before .before .before .before .before .loop-test .taken in omega arith
 
 find-given-loop-again-2 : (t : ℕ) → find-given-lts.Need-loop-again-2 (find-given-claims t) (find-given-at t) find-given.Post find-given-Inv-loop find-given-μ-loop
-find-given-loop-again-2 t c = c .before .before .before .before .before .loop .inv
+find-given-loop-again-2 t c = (c .before .before .before .before .check-again .ensures .0 ∙ c .before .before .before .before .before .before .before .before .before .before .loop .inv .0, λ ea nc nn. sought-fails _ _ _ _ _ _ _ (c .before .before .before .before .before .before .before .before .before .before .loop .inv .1 ea nc nn) _ (c .before .before .before .before .before .before .before .before .member-of .ensures .0) _ (omega arith) _ (c .before .before .before .before .before .before .before .wanted .ensures) (c .before .before .before .before .before .before .if2 .taken) (c .before .before .before .before .before .before .before .before .before .before .before .before .before .before .before .before .before .before .args .at + 1) (omega arith) _ _ _ (c .before .before .before .before .check-again .ensures .1) (c .before .if3 .left) _ (c .with-bit2 .ensures))
 
-find-given-same-length-2 : (t : ℕ) → find-given-lts.Need-same-length-2 (find-given-claims t) (find-given-at t) find-given.Post find-given-Inv-loop find-given-μ-loop
-find-given-same-length-2 t c = c .before .loop .inv .0
+find-given-loop-less-3 : (t : ℕ) → find-given-lts.Need-loop-less-3 (find-given-claims t) (find-given-at t) find-given.Post find-given-Inv-loop find-given-μ-loop
+find-given-loop-less-3 t c = let h = c .before .before .before .loop-test .taken in omega arith
 
-find-given-returns-3 : (t : ℕ) → find-given-lts.Need-returns-3 (find-given-claims t) (find-given-at t) find-given.Post find-given-Inv-loop find-given-μ-loop
-find-given-returns-3 t c = c .before .loop .inv
+find-given-loop-again-3 : (t : ℕ) → find-given-lts.Need-loop-again-3 (find-given-claims t) (find-given-at t) find-given.Post find-given-Inv-loop find-given-μ-loop
+find-given-loop-again-3 t c = (c .before .before .before .before .loop .inv .0, λ ea nc nn. sought-misses _ _ _ _ _ _ _ (c .before .before .before .before .loop .inv .1 ea nc nn) _ (c .before .before .member-of .ensures .0) _ (omega arith) _ (c .before .wanted .ensures) (c .if2 .left))
+
+find-given-same-length : (t : ℕ) → find-given-lts.Need-same-length (find-given-claims t) (find-given-at t) find-given.Post find-given-Inv-loop find-given-μ-loop
+find-given-same-length t c = c .before .loop .inv .0
+
+find-given-returns-2 : (t : ℕ) → find-given-lts.Need-returns-2 (find-given-claims t) (find-given-at t) find-given.Post find-given-Inv-loop find-given-μ-loop
+find-given-returns-2 t c = (c .before .loop .inv .0, λ ea nc nn. sought-end _ _ _ _ _ _ _ (c .before .loop .inv .1 ea nc nn) (c .before .before .before .before .off .ensures ∙ ap (offOf _ _) (c .before .before .before .before .before .number-in .ensures .0)) ea nc nn _ (c .before .before .many-of .ensures .0) (omega arith))
 
 find-states-returns : (t : ℕ) → find-states-lts.Need-returns (find-states-claims t) (find-states-at t) find-states.Post
-find-states-returns t c = (refl, finds-none _ _ _ _)
+find-states-returns t c = (refl, settles-found _ _ _ _ _ (finds-none _ _ _ _))
 
 find-states-number-in-requires : (t : ℕ) → find-states-lts.Need-number-in-requires (find-states-claims t) (find-states-at t) find-states.Post
 find-states-number-in-requires t c κs = search needs
@@ -1150,7 +1206,7 @@ find-states-number-in-requires-2 : (t : ℕ) → find-states-lts.Need-number-in-
 find-states-number-in-requires-2 t c κs = search needs
 
 find-states-returns-2 : (t : ℕ) → find-states-lts.Need-returns-2 (find-states-claims t) (find-states-at t) find-states.Post
-find-states-returns-2 t c = (refl, finds-none _ _ _ _)
+find-states-returns-2 t c = (refl, settles-found _ _ _ _ _ (finds-none _ _ _ _))
 
 find-states-find-bound-requires : (t : ℕ) → find-states-lts.Need-find-bound-requires (find-states-claims t) (find-states-at t) find-states.Post
 find-states-find-bound-requires t c κs = let p = c .before .before .before .before .before .before .before .before .before .before .before .pre .0 in let h = c .before .before .before .before .before .before .before .if1 .left in (omega arith, omega arith)
@@ -1159,7 +1215,7 @@ find-states-same-length : (t : ℕ) → find-states-lts.Need-same-length (find-s
 find-states-same-length t c = c .before .before .find-bound .ensures .0
 
 find-states-returns-3 : (t : ℕ) → find-states-lts.Need-returns-3 (find-states-claims t) (find-states-at t) find-states.Post
-find-states-returns-3 t c = (c .before .before .find-bound .ensures .0, c .before .before .find-bound .ensures .1 (node-by _ (now (c .before .before .before .before .before .before .before .before .before .before .before .before .before .before .args .r)) _ _ _ (c .before .before .before .before .before .before .before .before .before .number-in .ensures .0) (c .before .before .before .before .before .before .before .before .node-of .ensures)) (c .before .before .before .before .before .before .if2 .taken))
+find-states-returns-3 t c = (c .before .before .find-bound .ensures .0, settles-found _ _ _ _ _ (c .before .before .find-bound .ensures .1 (node-by _ (now (c .before .before .before .before .before .before .before .before .before .before .before .before .before .before .args .r)) _ _ _ (c .before .before .before .before .before .before .before .before .before .number-in .ensures .0) (c .before .before .before .before .before .before .before .before .node-of .ensures)) (c .before .before .before .before .before .before .if2 .taken)))
 
 find-states-find-given-requires : (t : ℕ) → find-states-lts.Need-find-given-requires (find-states-claims t) (find-states-at t) find-states.Post
 find-states-find-given-requires t c κs = let p = c .before .before .before .before .before .before .before .before .before .before .before .pre .0 in let h = c .before .before .before .before .before .before .before .if1 .left in (omega arith, omega arith)
@@ -1171,7 +1227,7 @@ find-states-returns-4 : (t : ℕ) → find-states-lts.Need-returns-4 (find-state
 find-states-returns-4 t c = (c .before .before .find-given .ensures .0, c .before .before .find-given .ensures .1 (node-by _ (now (c .before .before .before .before .before .before .before .before .before .before .before .before .before .before .args .r)) _ _ _ (c .before .before .before .before .before .before .before .before .before .number-in .ensures .0) (c .before .before .before .before .before .before .before .before .node-of .ensures)) (λ e. let h = c .before .before .before .before .if4 .taken in omega arith) (c .before .before .before .before .before .before .if2 .left))
 
 find-states-returns-5 : (t : ℕ) → find-states-lts.Need-returns-5 (find-states-claims t) (find-states-at t) find-states.Post
-find-states-returns-5 t c = (refl, finds-none _ _ _ _)
+find-states-returns-5 t c = (refl, settles-found _ _ _ _ _ (finds-none _ _ _ _))
 
 try-binding-candidate-requires : (t : ℕ) → try-binding-lts.Need-candidate-requires (try-binding-claims t) (try-binding-at t) try-binding.Post
 try-binding-candidate-requires t c κs = search needs
@@ -1200,10 +1256,11 @@ try-binding-same-length-2 t c = c .before .before .note-in .ensures .0 ∙ c .be
 try-binding-returns-3 : (t : ℕ) → try-binding-lts.Need-returns-3 (try-binding-claims t) (try-binding-at t) try-binding.Post
 try-binding-returns-3 t c = (c .before .before .note-in .ensures .0 ∙ c .before .before .before .before .before .before .before .check-args .ensures .0, tries-moved _ _ _ _ _ _ _ _ _ _ _ _ (c .before .before .note-in .ensures .1) refl (try-serves _ _ _ _ _ _ _ _ (c .before .before .before .before .before .before .before .before .before .before .candidate .ensures) (c .before .before .before .before .before .before .before .before .before .if1 .left) ((c .before .before .before .before .before .before .before .before .before .before .before .before .before .before .args .at) + 1) (omega arith) _ _ _ (c .before .before .before .before .before .before .before .check-args .ensures .1) (not-false _ (c .before .before .before .before .if2 .left)) _ (c .before .before .note-in .ensures .2)))
 
-pub +check-all-args+check-args+check-bound+check-each+check-given+check-left+check-listed+check-member+check-members+check-states+check-target+check-targets+check-term+find-bound+find-given+find-states+try-binding-spec :
+pub +check-again+check-all-args+check-args+check-bound+check-each+check-given+check-left+check-listed+check-member+check-members+check-states+check-target+check-targets+check-term+find-bound+find-given+find-states+try-binding-spec :
     {M : Type 1} → statement M
-+check-all-args+check-args+check-bound+check-each+check-given+check-left+check-listed+check-member+check-members+check-states+check-target+check-targets+check-term+find-bound+find-given+find-states+try-binding-spec =
++check-again+check-all-args+check-args+check-bound+check-each+check-given+check-left+check-listed+check-member+check-members+check-states+check-target+check-targets+check-term+find-bound+find-given+find-states+try-binding-spec =
     close
+    μ-check-again
     μ-check-all-args
     μ-check-args
     μ-check-bound
@@ -1221,6 +1278,15 @@ pub +check-all-args+check-args+check-bound+check-each+check-given+check-left+che
     μ-find-given
     μ-find-states
     μ-try-binding
+    (λ t. check-again-lts.spec (check-again-claims t)
+    (check-again-at t)
+    check-again.Post
+    (check-again-args-known-requires t)
+    (check-again-same-length t)
+    (check-again-returns t)
+    (check-again-check-args-requires t)
+    (check-again-same-length-2 t)
+    (check-again-returns-2 t))
     (λ t. check-all-args-lts.spec (check-all-args-claims t)
     (check-all-args-at t)
     check-all-args.Post
@@ -1407,9 +1473,14 @@ pub +check-all-args+check-args+check-bound+check-each+check-given+check-left+che
     (check-states-at t)
     check-states.Post
     (check-states-find-states-requires t)
-    (check-states-check-left-requires t)
+    (check-states-lowest-requires t)
+    (check-states-with-bit-requires t)
+    (check-states-learn-in-requires t)
     (check-states-same-length t)
-    (check-states-returns t))
+    (check-states-returns t)
+    (check-states-check-left-requires t)
+    (check-states-same-length-2 t)
+    (check-states-returns-2 t))
     (λ t. check-target-lts.spec (check-target-claims t)
     (check-target-at t)
     check-target.Post
@@ -1501,19 +1572,20 @@ pub +check-all-args+check-args+check-bound+check-each+check-given+check-left+che
     (find-given-loop-holds t)
     (find-given-member-of-requires t)
     (find-given-add-j t)
-    (find-given-left-of-requires t)
     (find-given-wanted-requires t)
-    (find-given-add-check-args t)
-    (find-given-check-args-requires t)
-    (find-given-same-length t)
-    (find-given-returns-2 t)
+    (find-given-add-check-again t)
+    (find-given-check-again-requires t)
     (find-given-with-bit-requires t)
+    (find-given-without-bit-requires t)
     (find-given-loop-less t)
     (find-given-loop-again t)
+    (find-given-with-bit-requires-2 t)
     (find-given-loop-less-2 t)
     (find-given-loop-again-2 t)
-    (find-given-same-length-2 t)
-    (find-given-returns-3 t))
+    (find-given-loop-less-3 t)
+    (find-given-loop-again-3 t)
+    (find-given-same-length t)
+    (find-given-returns-2 t))
     (λ t. find-states-lts.spec (find-states-claims t)
     (find-states-at t)
     find-states.Post
