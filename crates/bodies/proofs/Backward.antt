@@ -8,7 +8,7 @@ use native.Mathlib.Omega.{arith}
 use native.Mathlib.Nat.{le-of-suc-le-suc}
 use borrow.Author.Tests.{le-leb, leb-true, leb-false}
 use lib.Dec.{T, leb, leb→le}
-use lib.ListN.{length, getD, drop, length-set}
+use lib.ListN.{length, getD, set, drop, length-set}
 use lib.Seq.{getD-set-same, getD-set-other, drop-set-lt}
 use Rattle.scheme.specs.Sorts.{Sort}
 use Rattle.scheme.specs.Sorting.{sortOf, sortAfter}
@@ -18,39 +18,15 @@ use Rattle.scheme.proofs.Lists.{and-left, and-right, and-both, true→T}
 use Rattle.scheme.proofs.Sorting.{after-out}
 use Rattle.casefile.specs.Fields.{field}
 use Rattle.casefile.specs.Tables.{headOf, nodesOf, firstTerm}
-use Rattle.bodies.specs.Tables.{Stored}
 use Rattle.sorts.specs.codes.Sorted.{Code}
 use Rattle.bodies.specs.Bodies.{Held, Fits, ArgumentsFit, Goods, Held-from, headsBy, BodyTables, HeadCode, Room, NodeRead, NodeTaken}
 use Rattle.bodies.specs.declared.Arguments.{Arguments}
-use Rattle.sorts.proofs.codes.Codes.{code-small}
 use Rattle.casefile.proofs.Cells.{nodeAt, nodes-length, nodes-drop}
 use Rattle.casefile.specs.Promises.{cellAt}
 use Rattle.index.specs.layout.Layout.{maxDepth}
 
--- a table after a store
-module _ {before after : List ℕ} {i v r : ℕ} (s : Stored before after i v r) where
-  pub stored-length : length after ≡ length before
-  stored-length = ap length (s .after-is) ∙ length-set before i r
-
-  pub stored-here : i < length before → v < 65536 → getD after i 0 ≡ v
-  stored-here h k = ap (λ l. getD l i 0) (s .after-is) ∙ getD-set-same before i r 0 h ∙ s .word-is k
-
-  pub stored-as : i < length before → getD after i 0 ≡ r
-  stored-as h = ap (λ l. getD l i 0) (s .after-is) ∙ getD-set-same before i r 0 h
-
-  pub stored-other : (j : ℕ) → (j ≡ i → ⊥) → getD after j 0 ≡ getD before j 0
-  stored-other j h = ap (λ l. getD l j 0) (s .after-is) ∙ getD-set-other before i j r 0 h
-
-  pub stored-rest : (m : ℕ) → i < m → drop m after ≡ drop m before
-  stored-rest m h = ap (drop m) (s .after-is) ∙ drop-set-lt m before i r h
-
 module _ (hs : Head → Sort) (sorts : List Sort) (n : ℕ) where
   module _ (ends codes depths : List ℕ) where
-    held-le : (ts : Terms) (at : ℕ) → Held hs sorts ends codes depths n ts at → at ≤ n
-    unfolding Held
-    held-le []ᵗ at h = omega arith
-    held-le (t ∷ᵗ ts) at h = let k = h .0 in omega arith
-
     -- behind the first k terms stand the others
     held-drop : (k : ℕ) (ts : Terms) (at : ℕ) → k ≤ countᵗ ts → Held hs sorts ends codes depths n ts at → Held hs sorts ends codes depths n (dropᵗ k ts) (at + nodesAll (takeᵗ k ts))
     unfolding Held dropᵗ takeᵗ nodesAll countᵗ
@@ -138,22 +114,28 @@ module _ (hs : Head → Sort) (sorts : List Sort) (ns : List Node) (i : ℕ) (nd
         let z : deepest (takeᵗ k (terms (drop (suc i) ns))) ≡ deepest (takeᵗ (nd .count) (terms (drop (suc i) ns))) = ap (λ x. deepest (takeᵗ x (terms (drop (suc i) ns)))) e in
         omega arith
 
-    module _ (f : Fits hs sorts (terms (drop (suc i) ns)) (hs (nd .head)) (suc i) (nd .count) r) (shallow : r .deep < maxDepth) (few : length ns ≤ 256) (small : r .sort < 2000) where
-      module _ {ends′ codes′ depths′ : List ℕ} {e₁ c₁ d₁ : ℕ} (se : Stored ends ends′ i (r .end) e₁) (sc : Stored codes codes′ i (r .sort) c₁) (sd : Stored depths depths′ i (r .deep + 1) d₁)
-          (he : i < length ends) (hc : i < length codes) (hd : i < length depths) where
+    module _ (f : Fits hs sorts (terms (drop (suc i) ns)) (hs (nd .head)) (suc i) (nd .count) r) (shallow : r .deep < maxDepth) where
+      module _ (he : i < length ends) (hc : i < length codes) (hd : i < length depths) where
+        -- the tables with the node
+        abbrev ends′ : List ℕ
+        ends′ = set ends i (r .end)
+
+        abbrev codes′ : List ℕ
+        codes′ = set codes i (r .sort)
+
+        abbrev depths′ : List ℕ
+        depths′ = set depths i (r .deep + 1)
+
         behind : Held hs sorts ends codes depths (length ns) (dropᵗ (nd .count) (terms (drop (suc i) ns))) (suc i + nodesAll (takeᵗ (nd .count) (terms (drop (suc i) ns))))
         behind = held-drop hs sorts (length ns) ends codes depths (nd .count) (terms (drop (suc i) ns)) (suc i) (f .enough) (h .held)
 
         end-here : getD ends′ i 0 ≡ suc i + nodesAll (takeᵗ (nd .count) (terms (drop (suc i) ns)))
-        end-here =
-            let l = held-le hs sorts (length ns) ends codes depths (dropᵗ (nd .count) (terms (drop (suc i) ns))) (suc i + nodesAll (takeᵗ (nd .count) (terms (drop (suc i) ns)))) behind in
-            let e = f .end-is in
-            stored-here se he (omega arith) ∙ e
+        end-here = getD-set-same ends i (r .end) 0 he ∙ f .end-is
 
         behind′ : Held hs sorts ends′ codes′ depths′ (length ns) (dropᵗ (nd .count) (terms (drop (suc i) ns))) (suc i + nodesAll (takeᵗ (nd .count) (terms (drop (suc i) ns))))
         behind′ =
             held-kept hs sorts (length ns) ends codes depths ends′ codes′ depths′ (dropᵗ (nd .count) (terms (drop (suc i) ns))) (suc i + nodesAll (takeᵗ (nd .count) (terms (drop (suc i) ns)))) behind
-            (λ j l. stored-other se j (λ e. omega arith)) (λ j l. stored-other sc j (λ e. omega arith)) (λ j l. stored-other sd j (λ e. omega arith))
+            (λ j l. getD-set-other ends i j (r .end) 0 (λ e. omega arith)) (λ j l. getD-set-other codes i j (r .sort) 0 (λ e. omega arith)) (λ j l. getD-set-other depths i j (r .deep + 1) 0 (λ e. omega arith))
 
         held-here : Held hs sorts ends′ codes′ depths′ (length ns) (terms (nd ∷ drop (suc i) ns)) i
         unfolding Held terms sortOf nodes depth
@@ -162,8 +144,8 @@ module _ (hs : Head → Sort) (sorts : List Sort) (ns : List Node) (i : ℕ) (nd
             let e : suc i + nodesAll (takeᵗ (nd .count) (terms (drop (suc i) ns))) ≡ i + suc (nodesAll (takeᵗ (nd .count) (terms (drop (suc i) ns)))) = omega arith in (
               inside,
               end-here ∙ e,
-              (f .rest, f .rest-is, subst (λ x. Code sorts x (f .rest)) (sym (stored-here sc hc (omega arith))) (f .code)),
-              stored-here sd hd (omega arith) ∙ (omega arith),
+              (f .rest, f .rest-is, subst (λ x. Code sorts x (f .rest)) (sym (getD-set-same codes i (r .sort) 0 hc)) (f .code)),
+              getD-set-same depths i (r .deep + 1) 0 hd ∙ (omega arith),
               omega arith,
               subst (λ x. Held hs sorts ends′ codes′ depths′ (length ns) (dropᵗ (nd .count) (terms (drop (suc i) ns))) x) e behind′,
             )
@@ -186,7 +168,7 @@ module _ (hs : Head → Sort) (sorts : List Sort) (ns : List Node) (i : ℕ) (nd
             (end-here ∙ sym first-here ∙ ap (λ l. i + nodes (firstTerm (terms l))) (sym d))
         ends-from j l m false e =
             let g = leb-false j i e in
-            stored-other se j (λ x. omega arith) ∙ h .ends-are j (omega arith) m
+            getD-set-other ends i j (r .end) 0 (λ x. omega arith) ∙ h .ends-are j (omega arith) m
 
         -- the tables hold the node too
         pub node-held : Held-from hs sorts ns ends′ codes′ depths′ i
@@ -233,7 +215,7 @@ module _ {p froms tos trees arities signatures : List ℕ} {own i : ℕ} {ends c
     long-codes = refl;
     long-depths = refl;
     rest = λ m l. refl;
-    holds = λ sorts counts numbers w few inside he hc′ hd h e. absurd (let z : _≡_ {A = ℕ} 0 1 = cc in omega arith);
+    holds = λ sorts counts numbers w inside he hc′ hd h e. absurd (let z : _≡_ {A = ℕ} 0 1 = cc in omega arith);
     fails = λ sorts counts numbers w inside h e. misfit-fails w inside h y;
   }
 
@@ -243,22 +225,19 @@ module _ {p froms tos trees arities signatures : List ℕ} {own i : ℕ} {ends c
     long-codes = refl;
     long-depths = refl;
     rest = λ n l. refl;
-    holds = λ sorts counts numbers w few inside he hc′ hd h e. absurd (let z : _≡_ {A = ℕ} 0 1 = cc in omega arith);
+    holds = λ sorts counts numbers w inside he hc′ hd h e. absurd (let z : _≡_ {A = ℕ} 0 1 = cc in omega arith);
     fails = λ sorts counts numbers w inside h e. deep-fails w inside h y m;
   }
 
-  pub read-held : {ends′ codes′ depths′ : List ℕ} {e₁ c₁ d₁ : ℕ} → r .fit ≡ true → r .deep < maxDepth → Stored ends ends′ i (r .end) e₁ → Stored codes codes′ i (r .sort) c₁ → Stored depths depths′ i (r .deep + 1) d₁
-      → NodeRead p froms tos trees arities signatures own i ends codes depths ends′ codes′ depths′ true
-  read-held y m se sc sd = record {
-    long = stored-length se;
-    long-codes = stored-length sc;
-    long-depths = stored-length sd;
-    rest = stored-rest se;
-    holds = λ sorts counts numbers w few inside he hc′ hd h e.
-        let f = fits-node w inside h y in
-        let l = nodes-length p in
-        node-held (headsBy sorts counts numbers own) sorts (nodesOf p) i (nodeAt p i) (nodes-drop p i inside) (node-inside w inside h) h r f m (omega arith)
-        (code-small (w .coded .table) (f .code)) se sc sd he hc′ hd;
+  pub read-held : r .fit ≡ true → r .deep < maxDepth
+      → NodeRead p froms tos trees arities signatures own i ends codes depths (set ends i (r .end)) (set codes i (r .sort)) (set depths i (r .deep + 1)) true
+  read-held y m = record {
+    long = length-set ends i (r .end);
+    long-codes = length-set codes i (r .sort);
+    long-depths = length-set depths i (r .deep + 1);
+    rest = λ n l. drop-set-lt n ends i (r .end) l;
+    holds = λ sorts counts numbers w inside he hc′ hd h e.
+        node-held (headsBy sorts counts numbers own) sorts (nodesOf p) i (nodeAt p i) (nodes-drop p i inside) (node-inside w inside h) h r (fits-node w inside h y) m he hc′ hd;
     fails = λ sorts counts numbers w inside h e. absurd (let z : _≡_ {A = ℕ} 0 1 = cc in omega arith);
   }
 
@@ -272,20 +251,20 @@ module _ {p froms tos trees arities signatures : List ℕ} {own i : ℕ} {ends c
   }
 
   -- a node that fits is what the tables hold of it
-  pub taken-held : {ends′ codes′ depths′ : List ℕ} {e c d e₁ c₁ d₁ : ℕ} {x : Arguments} → i < length p / 4 → Room p ends codes depths → Stored ends ends′ i e e₁ → Stored codes codes′ i c c₁ → Stored depths depths′ i d d₁
-      → x ≡ record { fit = true; end = e₁; sort = c₁; deep = d₁ } → NodeRead p froms tos trees arities signatures own i ends codes depths ends′ codes′ depths′ true
-      → NodeTaken p froms tos trees arities signatures own i ends codes depths ends′ codes′ depths′ x
-  taken-held {ends′} {codes′} {depths′} {e} {c} {d} {e₁} {c₁} {d₁} h room se sc sd ex n =
+  pub taken-held : {e c d : ℕ} {x : Arguments} → i < length p / 4 → Room p ends codes depths → x ≡ record { fit = true; end = e; sort = c; deep = d }
+      → NodeRead p froms tos trees arities signatures own i ends codes depths (set ends i e) (set codes i c) (set depths i d) true
+      → NodeTaken p froms tos trees arities signatures own i ends codes depths (set ends i e) (set codes i c) (set depths i d) x
+  taken-held {e} {c} {d} h room ex n =
       let a = room .few in
       let b = room .ends-long in
       let f = room .codes-long in
       let g = room .depths-long in
-      subst (λ y. NodeTaken p froms tos trees arities signatures own i ends codes depths ends′ codes′ depths′ y) (sym ex)
+      subst (λ y. NodeTaken p froms tos trees arities signatures own i ends codes depths (set ends i e) (set codes i c) (set depths i d) y) (sym ex)
       (record {
         read = n;
         held-as = λ y. record {
-          end-is = λ k. sym (stored-as se (omega arith));
-          sort-is = λ k. sym (stored-as sc (omega arith));
-          deep-is = λ k. sym (stored-as sd (omega arith));
+          end-is = λ k. sym (getD-set-same ends i e 0 (omega arith));
+          sort-is = λ k. sym (getD-set-same codes i c 0 (omega arith));
+          deep-is = λ k. sym (getD-set-same depths i d 0 (omega arith));
         };
       })

@@ -47,7 +47,7 @@ module _ (hs : Head → Sort) where
       going-short (t ∷ᵗ us) s end left sort deep g p h e = let q = g .held .0 in omega arith
 
       -- an argument does not fit
-      pub going-misfit : (us : Terms) (s : Sort) (end left sort deep r : ℕ) → Going ts us s₀ s at k end left sort deep → 0 < left → r ≡ 2000
+      pub going-misfit : (us : Terms) (s : Sort) (end left sort deep r : ℕ) → Going ts us s₀ s at k end left sort deep → 0 < left → 2000 ≤ r
           → ((t : Sort) → Code sorts (getD codes end 0) t → Off sorts s t r) → k ≤ countᵗ ts → (x : Sort) → sortAfter hs (takeᵗ k ts) s₀ ≡ some x → ⊥
       unfolding Held countᵗ takeᵗ
       going-misfit []ᵗ s end left sort deep r g p er f e x q = let v = g .needed e in omega arith
@@ -63,7 +63,7 @@ module _ (hs : Head → Sort) where
           go (off z b′ y c) b y′ = omega arith
 
       -- it fits: one argument on
-      pub going-next : (us : Terms) (s : Sort) (end left sort deep r end′ deep′ : ℕ) → Going ts us s₀ s at k end left sort deep → 0 < left → end < n → (r ≡ 2000 → ⊥)
+      pub going-next : (us : Terms) (s : Sort) (end left sort deep r end′ deep′ : ℕ) → Going ts us s₀ s at k end left sort deep → 0 < left → end < n → r < 2000
           → ((t : Sort) → Code sorts (getD codes end 0) t → Off sorts s t r) → end′ ≡ getD ends end 0 → deep′ ≡ max deep (getD depths end 0)
           → (us′ : Terms) × (s′ : Sort) × Going ts us′ s₀ s′ at k end′ (left - 1) r deep′
       unfolding Held countᵗ takeᵗ nodesAll deepest
@@ -72,7 +72,7 @@ module _ (hs : Head → Sort) where
       going-next (t ∷ᵗ us) s end (suc l) sort deep r end′ deep′ g p h ne f ee ed = let el : suc l - 1 ≡ l = omega arith in rw el (go (f (g .held .2 .0) (g .held .2 .2)))
         where
           go : Off sorts s (g .held .2 .0) r → (us′ : Terms) × (s′ : Sort) × Going ts us′ s₀ s′ at k end′ l r deep′
-          go (misfit z m) = absurd (ne z)
+          go (misfit z m) = absurd (omega arith)
           go (off z b es c) =
               let h = g .held in
               let ee′ : end′ ≡ end + nodes t = ee ∙ h .1 in
@@ -107,30 +107,36 @@ module _ {froms tos trees ends codes depths : List ℕ} {n at k head : ℕ} wher
   leads-start hs sorts ts s w h c = (ts, s, going-start hs sorts froms tos trees ends codes depths n ts s at k head h c)
 
   module _ {end left sort deep : ℕ} (l : Leads froms tos trees ends codes depths n at k head end left sort deep) where
-    leads-fit : left ≡ 0 → ArgumentsFit froms tos trees ends codes depths n at k head (record { fit = true; end = end; sort = sort; deep = deep })
-    leads-fit z = record {
+    leads-fit : left ≡ 0 → end < 65536 → sort < 65536 → ArgumentsFit froms tos trees ends codes depths n at k head (record { fit = true; end = end; sort = sort; deep = deep })
+    leads-fit z he hs = record {
       fits = λ hs sorts ts s w h c f. let (us, s′, g) = l hs sorts ts s w h c in going-end hs sorts froms tos trees ends codes depths n us s′ left (record { fit = true; end = end; sort = sort; deep = deep }) g z;
       misfit = λ hs sorts ts s w h c f. absurd (let q : _≡_ {A = ℕ} 0 1 = cc in omega arith);
+      end-small = λ f. he;
+      sort-small = λ f. hs;
     }
 
-    pub leads-end : left ≡ 0 → {r : Arguments} → r ≡ record { fit = true; end = end; sort = sort; deep = deep } → ArgumentsFit froms tos trees ends codes depths n at k head r
-    leads-end z e = subst (λ r. ArgumentsFit froms tos trees ends codes depths n at k head r) (sym e) (leads-fit z)
+    pub leads-end : left ≡ 0 → end < 65536 → sort < 65536 → {r : Arguments} → r ≡ record { fit = true; end = end; sort = sort; deep = deep } → ArgumentsFit froms tos trees ends codes depths n at k head r
+    leads-end z he hs e = subst (λ r. ArgumentsFit froms tos trees ends codes depths n at k head r) (sym e) (leads-fit z he hs)
 
     module _ (r : Arguments) (no : r .fit ≡ false) (p : 0 < left) where
       pub leads-short : n ≤ end → ArgumentsFit froms tos trees ends codes depths n at k head r
       leads-short e = record {
         fits = λ hs sorts ts s w h c f. absurd (let q : _≡_ {A = ℕ} 0 1 = cc in omega arith);
         misfit = λ hs sorts ts s w h c f m x q. let (us, s′, g) = l hs sorts ts s w h c in going-short hs sorts froms tos trees ends codes depths n us s′ end left sort deep g p e m;
+        end-small = λ f. absurd (let q : _≡_ {A = ℕ} 0 1 = cc in omega arith);
+        sort-small = λ f. absurd (let q : _≡_ {A = ℕ} 0 1 = cc in omega arith);
       }
 
-      pub leads-misfit : (argument sort′ : ℕ) → Applied froms tos trees sort argument sort′ → argument ≡ getD codes end 0 → sort′ ≡ 2000 → ArgumentsFit froms tos trees ends codes depths n at k head r
+      pub leads-misfit : (argument sort′ : ℕ) → Applied froms tos trees sort argument sort′ → argument ≡ getD codes end 0 → 2000 ≤ sort′ → ArgumentsFit froms tos trees ends codes depths n at k head r
       leads-misfit argument sort′ a ea e = record {
         fits = λ hs sorts ts s w h c f. absurd (let q : _≡_ {A = ℕ} 0 1 = cc in omega arith);
         misfit = λ hs sorts ts s w h c f m x q. let (us, s′, g) = l hs sorts ts s w h c in
             going-misfit hs sorts froms tos trees ends codes depths n us s′ end left sort deep sort′ g p e (λ t d. a sorts s′ t w (g .code) (rw ea d)) m x q;
+        end-small = λ f. absurd (let q : _≡_ {A = ℕ} 0 1 = cc in omega arith);
+        sort-small = λ f. absurd (let q : _≡_ {A = ℕ} 0 1 = cc in omega arith);
       }
 
-    pub leads-next : (argument sort′ end′ deep′ : ℕ) → 0 < left → end < n → Applied froms tos trees sort argument sort′ → argument ≡ getD codes end 0 → (sort′ ≡ 2000 → ⊥)
+    pub leads-next : (argument sort′ end′ deep′ : ℕ) → 0 < left → end < n → Applied froms tos trees sort argument sort′ → argument ≡ getD codes end 0 → sort′ < 2000
         → end′ ≡ getD ends end 0 → deep′ ≡ max deep (getD depths end 0) → Leads froms tos trees ends codes depths n at k head end′ (left - 1) sort′ deep′
     leads-next argument sort′ end′ deep′ p e a ea ne ee ed hs sorts ts s w h c =
         let (us, s′, g) = l hs sorts ts s w h c in

@@ -16,6 +16,14 @@ use Rattle.casefile.proofs.Cells.{cells-length, cells-at, cell-range}
 use Rattle.casefile.specs.Promises.{cellAt}
 use Rattle.bodies.specs.Bodies.{headsBy, BodyTables}
 
+-- a sort's number fits two bytes
+pub narrowed : {froms tos : List ℕ} {own j v r : ℕ} → ParameterSort froms tos own j v → (v < 65536 → r ≡ v) → ParameterSort froms tos own j r
+narrowed f e sorts t h k =
+    let g = f sorts t h k in
+    let few = t .few in
+    let same = e (omega arith) in
+    rw same g
+
 tag-two : (k : ℕ) → k ≤ 2 → (k ≡ 0 → ⊥) → (k ≡ 1 → ⊥) → k ≡ 2
 tag-two k h a b = omega arith
 

@@ -83,7 +83,7 @@ module _ {p froms tos trees arities signatures : List ℕ} {own : ℕ} where
           rest = n .rest (length p / 4) (omega arith) ∙ s .rest;
           holds = λ sorts counts numbers w f.
               let g : i ≡ suc (i - 1) = omega arith in
-              n .holds sorts counts numbers w b (omega arith) (omega arith) (omega arith) (omega arith)
+              n .holds sorts counts numbers w (omega arith) (omega arith) (omega arith) (omega arith)
               (subst (λ x. Held-from (headsBy sorts counts numbers own) sorts (nodesOf p) ends codes depths x) g (s .holds sorts counts numbers w f)) y;
         }
 

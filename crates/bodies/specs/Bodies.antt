@@ -36,12 +36,14 @@ pub record Fits (hs : Head → Sort) (sorts : List Sort) (ts : Terms) (s : Sort)
   pub code : Code sorts (r .sort) rest
   pub deep-is : r .deep ≡ deepest (takeᵗ k ts)
 
--- r says whether k arguments from node `at` on fit a head's sort, and what their result is
+-- r says whether k arguments from node `at` on fit a head's sort, and what their result is; its end and its sort fit two bytes
 pub record ArgumentsFit (froms tos trees ends codes depths : List ℕ) (n at k head : ℕ) (r : Arguments) : Type 0 where
   pub fits : (hs : Head → Sort) (sorts : List Sort) (ts : Terms) (s : Sort) → Coded sorts froms tos trees → Held hs sorts ends codes depths n ts at
       → Code sorts head s → r .fit ≡ true → Fits hs sorts ts s at k r
   pub misfit : (hs : Head → Sort) (sorts : List Sort) (ts : Terms) (s : Sort) → Coded sorts froms tos trees → Held hs sorts ends codes depths n ts at
       → Code sorts head s → r .fit ≡ false → k ≤ countᵗ ts → (x : Sort) → sortAfter hs (takeᵗ k ts) s ≡ some x → ⊥
+  pub end-small : r .fit ≡ true → r .end < 65536
+  pub sort-small : r .fit ≡ true → r .sort < 65536
 
 -- r is what the tables of n nodes hold of a node
 pub record HeldAs (ends codes depths : List ℕ) (n at : ℕ) (r : Arguments) : Type 0 where
@@ -91,7 +93,7 @@ pub record NodeRead (p froms tos trees arities signatures : List ℕ) (own i : �
   pub long-codes : length codes′ ≡ length codes
   pub long-depths : length depths′ ≡ length depths
   pub rest : (m : ℕ) → i < m → drop m ends′ ≡ drop m ends
-  pub holds : (sorts : List Sort) (counts numbers : List ℕ) → BodyTables sorts counts numbers p froms tos trees arities signatures own → length p / 4 ≤ maxNodes
+  pub holds : (sorts : List Sort) (counts numbers : List ℕ) → BodyTables sorts counts numbers p froms tos trees arities signatures own
       → i < length p / 4 → i < length ends → i < length codes → i < length depths → Held-from (headsBy sorts counts numbers own) sorts (nodesOf p) ends codes depths (suc i)
       → r ≡ true → Held-from (headsBy sorts counts numbers own) sorts (nodesOf p) ends′ codes′ depths′ i
   pub fails : (sorts : List Sort) (counts numbers : List ℕ) → BodyTables sorts counts numbers p froms tos trees arities signatures own → i < length p / 4

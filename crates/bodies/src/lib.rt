@@ -18,7 +18,6 @@ ghost use lib.Dec.{eqb};
 ghost use lib.ListN.{length, getD};
 ghost use Rattle.casefile.specs.Fields.{IsField};
 ghost use Rattle.sorts.specs.codes.Sorted.{ParameterSorts};
-ghost use Rattle.bodies.specs.Tables.{Stored};
 ghost use Rattle.bodies.specs.Bodies.{ArgumentsFit, HeldAs, HeadOf, Room, NodeTaken, Scanned, BodyDecided};
 
 // The result of the arguments of a node: whether they fit, the node behind them, the code of the sort that is left, their depth.
@@ -28,16 +27,6 @@ pub struct Arguments {
     pub end: usize,
     pub sort: usize,
     pub deep: usize,
-}
-
-// Stores a number at a place of a table that has the place, and gives it as it is stored.
-fn put(a: &mut [u16], i: usize, v: usize) -> usize
-    requires { ⌜ i < length (now a) ⌝ }
-    ensures { λ r. ⌜ Stored (now (a .entry)) (now (a .exit)) i v r ⌝ }
-{
-    let w = narrow(v);
-    a[i] = w;
-    w as usize
 }
 
 // Arguments that do not fit.
@@ -79,7 +68,7 @@ fn arguments_fit(
     head: usize,
     next: Arguments,
 ) -> Arguments
-    requires { ⌜ HeldAs (now ends) (now codes) (now depths) n at next ⌝ }
+    requires { ⌜ HeldAs (now ends) (now codes) (now depths) n at next × (at < 65536) × (head < 65536) ⌝ }
     ensures { λ r. ⌜ ArgumentsFit (now (froms .entry)) (now (tos .entry)) (now (trees .entry)) (now (ends .entry)) (now (codes .entry)) (now (depths .entry)) n at k head r ⌝ }
 {
     if k == 0 {
@@ -89,7 +78,7 @@ fn arguments_fit(
         return misfit();
     }
     let mut sort = apply(froms, tos, trees, head, next.sort);
-    if sort == NO_SORT {
+    if NO_SORT <= sort {
         return misfit();
     }
     let mut end = next.end;
@@ -100,7 +89,7 @@ fn arguments_fit(
             return misfit();
         }
         sort = apply(froms, tos, trees, sort, place_at(codes, end));
-        if sort == NO_SORT {
+        if NO_SORT <= sort {
             return misfit();
         }
         deep = larger(deep, place_at(depths, end));
@@ -141,7 +130,7 @@ fn head_code(
     number: usize,
 ) -> usize
     requires { ⌜ ParameterSorts (now froms) (now tos) own (now params) ⌝ }
-    ensures { λ r. ⌜ HeadOf (now (froms .entry)) (now (tos .entry)) (now (trees .entry)) (now (arities .entry)) (now (signatures .entry)) own tag number r ⌝ }
+    ensures { λ r. ⌜ HeadOf (now (froms .entry)) (now (tos .entry)) (now (trees .entry)) (now (arities .entry)) (now (signatures .entry)) own tag number r × (r < 65536) ⌝ }
 {
     if tag == 0 {
         return place_at(trees, place_at(arities, number));
@@ -152,7 +141,7 @@ fn head_code(
     if number < MAX_ARGUMENTS {
         return place_at(params, number);
     }
-    parameter(froms, tos, own, number)
+    narrow(parameter(froms, tos, own, number)) as usize
 }
 
 // Reads node i of a body, where the tables hold the nodes behind it, `next` the first of them, and fills the tables; it does
@@ -210,10 +199,11 @@ fn read_node(
     if MAX_DEPTH <= a.deep {
         return misfit();
     }
-    let end = put(ends, i, a.end);
-    let sort = put(codes, i, a.sort);
-    let deep = put(depths, i, a.deep + 1);
-    fitting(end, sort, deep)
+    let deep = a.deep + 1;
+    ends[i] = a.end as u16;
+    codes[i] = a.sort as u16;
+    depths[i] = deep as u16;
+    fitting(a.end, a.sort, deep)
 }
 
 // Reads the nodes of a body, the last one first, and fills the tables; false where one of them does not fit.

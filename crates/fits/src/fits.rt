@@ -1,8 +1,9 @@
 // The fit of types to sorts, as a table with a row of words for each type.
+use crate::masks::enter_sorts;
 use crate::masks::mask_at;
-use crate::masks::sorts_with;
 use crate::masks::union_of;
 use index::entries::place_at;
+use index::layout::ALL_SORTS;
 use index::layout::FIT_ARGUMENTS;
 use index::layout::FIT_MASKS;
 use index::layout::FIT_RESULTS;
@@ -86,8 +87,10 @@ pub fn fill_fits(file: &[u8], index: &[u16], types: usize, sorts: usize, fit: &m
     if fit.len() < types * FIT_MASKS {
         return;
     }
-    let froms = sorts_with(file, index, sorts, 0);
-    let tos = sorts_with(file, index, sorts, 2);
+    let mut froms = [0u64; ALL_SORTS];
+    enter_sorts(file, index, sorts, 0, &mut froms);
+    let mut tos = [0u64; ALL_SORTS];
+    enter_sorts(file, index, sorts, 2, &mut tos);
     let mut t: usize = 0;
     while t < types {
         let row = row_of(file, index, &froms, &tos, t, fit);

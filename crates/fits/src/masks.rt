@@ -1,6 +1,5 @@
 // Sets of listed sorts as words, with bit i for sort i + 1.
 use index::entries::place_at;
-use index::layout::ALL_SORTS;
 use index::layout::FIT_MASKS;
 use index::layout::MAX_SORTS;
 use index::layout::SortMasks;
@@ -8,7 +7,7 @@ use records::fields::word_at;
 ghost use mathlib.Core.Path.{_≡_};
 ghost use Prim.Native.Nat.{_<_, _≤_};
 ghost use Rattle.index.specs.layout.Layout.{maxSorts, fitMasks};
-ghost use Rattle.fits.specs.masks.Masks.{maskOf, SortsWith, Unites};
+ghost use Rattle.fits.specs.masks.Masks.{maskOf, Empty, SortsWith, Unites};
 
 // A word of the row of type t in a table of fits; 0 past its end.
 pub(crate) fn mask_at(fit: &[u64], t: usize, part: usize) -> u64
@@ -19,12 +18,17 @@ pub(crate) fn mask_at(fit: &[u64], t: usize, part: usize) -> u64
     if at < fit.len() { fit[at] } else { 0 }
 }
 
-// For each number of a sort, the listed sorts whose record has it at byte `at`, of a given number of sorts.
-pub(crate) fn sorts_with(file: &[u8], index: &[u16], sorts: usize, at: usize) -> SortMasks
+// Enters into an empty table, for each number of a sort, the listed sorts whose record has it at byte `at`, of a given number of sorts.
+pub(crate) fn enter_sorts(
+    file: &[u8],
+    index: &[u16],
+    sorts: usize,
+    at: usize,
+    masks: &mut SortMasks,
+)
     requires { ⌜ (sorts ≤ maxSorts) × (at ≤ 2) ⌝ }
-    ensures { λ r. ⌜ SortsWith (now (file .entry)) (now (index .entry)) sorts at r ⌝ }
+    ensures { λ _. ⌜ (Empty (now (masks .entry)) → SortsWith (now (file .entry)) (now (index .entry)) sorts at (now (masks .exit))) ⌝ }
 {
-    let mut masks = [0u64; ALL_SORTS];
     let mut i: usize = 0;
     while i < sorts {
         let number = word_at(file, place_at(index, i) + at);
@@ -33,7 +37,6 @@ pub(crate) fn sorts_with(file: &[u8], index: &[u16], sorts: usize, at: usize) ->
         }
         i = i + 1;
     }
-    masks
 }
 
 // The union of the words that a table has for the sorts of a word.

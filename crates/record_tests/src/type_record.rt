@@ -5,7 +5,8 @@ use index::layout::MAX_TYPES;
 use records::fields::byte_at;
 use records::fields::word_at;
 ghost use mathlib.Core.Path.{_≡_};
-ghost use Prim.Native.Nat.{ℕ};
+ghost use mathlib.Core.Bool.{true};
+ghost use Prim.Native.Nat.{ℕ, _%_, _≤_};
 ghost use lib.ListN.{length, drop};
 ghost use lib.Dec.{leb};
 ghost use Rattle.scheme.specs.Lists.{any};
@@ -50,6 +51,15 @@ fn members_ascend(p: &[u8]) -> bool
     true
 }
 
+// Whether one of the payload's numbers is n or more, where its members ascend: its result or its last number is. The payload has a
+// result, and no byte behind its last number.
+fn ends_later(p: &[u8], n: usize) -> bool
+    requires { ⌜ (2 ≤ length (now p)) × (length (now p) % 2 ≡ 0) ⌝ }
+    ensures { λ r. ⌜ (ascends (words (drop 2 (now (p .entry)))) ≡ true → r ≡ any (λ (t : ℕ). leb n t) (words (now (p .entry)))) ⌝ }
+{
+    n <= word_at(p, 0) || n <= word_at(p, p.len() - 2)
+}
+
 // The code of a state, a payload p of one byte, after n types and with a given number of states; 0 also where it repeats a type.
 fn state_code(n: usize, states: usize, p: &[u8]) -> usize
     ensures { λ r. ⌜ (length (now (p .entry)) ≡ 1 → CodesAlone n states (now (p .entry)) r) ⌝ }
@@ -82,13 +92,16 @@ fn own_code(n: usize, states: usize, p: &[u8]) -> usize
     if MAX_TYPES <= n {
         return 5;
     }
+    if members_ascend(p) {
+        if ends_later(p, n) {
+            return 6;
+        }
+        return 0;
+    }
     if names_later(p, n) {
         return 6;
     }
-    if !members_ascend(p) {
-        return 7;
-    }
-    0
+    7
 }
 
 // The code of the payload p of a type, whose hash is h, after n types, with a given number of states.

@@ -46,7 +46,7 @@ same-length-3 : tie.Need-same-length-3
 same-length-3 c = search needs
 
 returns : tie.Need-returns
-returns c = taken-misfit (c .misfit .ensures) (read-misfit (c .before .before .before .before .before .before .before .head-code .ensures _ _ (c .before .before .before .before .before .before .before .before .before .before .byte-in .ensures .value) (c .before .before .before .before .before .before .before .before .before .word-in .ensures .value)) (c .before .before .before .before .before .before .before .before .byte-in2 .ensures .value) (c .before .before .before .arguments-fit .ensures) (not-true _ (c .before .if1 .taken)))
+returns c = taken-misfit (c .misfit .ensures) (read-misfit (c .before .before .before .before .before .before .before .head-code .ensures .0 _ _ (c .before .before .before .before .before .before .before .before .before .before .byte-in .ensures .value) (c .before .before .before .before .before .before .before .before .before .word-in .ensures .value)) (c .before .before .before .before .before .before .before .before .byte-in2 .ensures .value) (c .before .before .before .arguments-fit .ensures) (not-true _ (c .before .if1 .taken)))
 
 misfit-requires-2 : tie.Need-misfit-requires-2
 misfit-requires-2 c κs = search needs
@@ -61,19 +61,37 @@ same-length-6 : tie.Need-same-length-6
 same-length-6 c = search needs
 
 returns-2 : tie.Need-returns-2
-returns-2 c = taken-misfit (c .misfit2 .ensures) (read-deep (c .before .before .before .before .before .before .before .before .before .head-code .ensures _ _ (c .before .before .before .before .before .before .before .before .before .before .before .before .byte-in .ensures .value) (c .before .before .before .before .before .before .before .before .before .before .before .word-in .ensures .value)) (c .before .before .before .before .before .before .before .before .before .before .byte-in2 .ensures .value) (c .before .before .before .before .before .arguments-fit .ensures) (not-false _ (c .before .before .before .if1 .left)) (c .before .if2 .taken))
+returns-2 c = taken-misfit (c .misfit2 .ensures) (read-deep (c .before .before .before .before .before .before .before .before .before .head-code .ensures .0 _ _ (c .before .before .before .before .before .before .before .before .before .before .before .before .byte-in .ensures .value) (c .before .before .before .before .before .before .before .before .before .before .before .word-in .ensures .value)) (c .before .before .before .before .before .before .before .before .before .before .byte-in2 .ensures .value) (c .before .before .before .before .before .arguments-fit .ensures) (not-false _ (c .before .before .before .if1 .left)) (c .before .if2 .taken))
 
-put-requires : tie.Need-put-requires
-put-requires c κs = (let q = c .before .before .before .before .before .before .before .before .before .before .before .before .before .before .before .before .before .before .before .before .before .before .before .pre .1 in omega (arith, c .before .before .before .before .before .before .before .before .before .before .before .before .before .before .before .before .before .before .before .before .before .before .before .pre .0, q .few, q .ends-long))
+add-deep : tie.Need-add-deep
+add-deep c = search needs
 
-put-requires-2 : tie.Need-put-requires-2
-put-requires-2 c κs = (let q = c .before .before .before .before .before .before .before .before .before .before .before .before .before .before .before .before .before .before .before .before .before .before .before .before .before .before .before .pre .1 in omega (arith, c .before .before .before .before .before .before .before .before .before .before .before .before .before .before .before .before .before .before .before .before .before .before .before .before .before .before .before .pre .0, q .few, q .codes-long))
+cast-ends : tie.Need-cast-ends
+cast-ends c = record { fits = c .before .before .before .before .before .before .arguments-fit .ensures .end-small (not-false _ (c .before .before .before .before .if1 .left)) }
 
-add-put : tie.Need-add-put
-add-put c = search needs
+mul-ends : tie.Need-mul-ends
+mul-ends c = let q = c .before .before .before .before .before .before .before .before .before .before .before .before .before .before .before .before .before .before .before .before .before .before .before .before .pre in omega (arith, q .0, q .1 .few)
 
-put-requires-3 : tie.Need-put-requires-3
-put-requires-3 c κs = (let q = c .before .before .before .before .before .before .before .before .before .before .before .before .before .before .before .before .before .before .before .before .before .before .before .before .before .before .before .before .before .before .before .before .pre .1 in omega (arith, c .before .before .before .before .before .before .before .before .before .before .before .before .before .before .before .before .before .before .before .before .before .before .before .before .before .before .before .before .before .before .before .before .pre .0, q .few, q .depths-long))
+slice-write-ends : tie.Need-slice-write-ends
+slice-write-ends c = let q = c .before .before .before .before .before .before .before .before .before .before .before .before .before .before .before .before .before .before .before .before .before .before .before .before .pre in omega (arith, q .0, q .1 .few, q .1 .ends-long)
+
+cast-codes : tie.Need-cast-codes
+cast-codes c = record { fits = c .before .before .before .before .before .before .before .arguments-fit .ensures .sort-small (not-false _ (c .before .before .before .before .before .if1 .left)) }
+
+mul-codes : tie.Need-mul-codes
+mul-codes c = let q = c .before .before .before .before .before .before .before .before .before .before .before .before .before .before .before .before .before .before .before .before .before .before .before .before .before .pre in omega (arith, q .0, q .1 .few)
+
+slice-write-codes : tie.Need-slice-write-codes
+slice-write-codes c = let q = c .before .before .before .before .before .before .before .before .before .before .before .before .before .before .before .before .before .before .before .before .before .before .before .before .before .pre in omega (arith, q .0, q .1 .few, q .1 .codes-long)
+
+cast-depths : tie.Need-cast-depths
+cast-depths c = search needs
+
+mul-depths : tie.Need-mul-depths
+mul-depths c = let q = c .before .before .before .before .before .before .before .before .before .before .before .before .before .before .before .before .before .before .before .before .before .before .before .before .before .pre in omega (arith, q .0, q .1 .few)
+
+slice-write-depths : tie.Need-slice-write-depths
+slice-write-depths c = let q = c .before .before .before .before .before .before .before .before .before .before .before .before .before .before .before .before .before .before .before .before .before .before .before .before .before .pre in omega (arith, q .0, q .1 .few, q .1 .depths-long)
 
 fitting-requires : tie.Need-fitting-requires
 fitting-requires c κs = search needs
@@ -88,7 +106,7 @@ same-length-9 : tie.Need-same-length-9
 same-length-9 c = search needs
 
 returns-3 : tie.Need-returns-3
-returns-3 c = taken-held (c .before .before .before .before .before .before .before .before .before .before .before .before .before .before .before .before .before .before .before .before .before .before .before .before .before .before .before .before .before .before .before .before .before .before .before .before .pre .0) (c .before .before .before .before .before .before .before .before .before .before .before .before .before .before .before .before .before .before .before .before .before .before .before .before .before .before .before .before .before .before .before .before .before .before .before .before .pre .1) (c .before .before .before .before .before .before .before .before .before .before .before .before .put .ensures) (c .before .before .before .before .before .before .before .before .put2 .ensures) (c .before .before .before .put3 .ensures) (c .fitting .ensures) (read-held (c .before .before .before .before .before .before .before .before .before .before .before .before .before .before .before .before .before .before .before .before .before .before .head-code .ensures _ _ (c .before .before .before .before .before .before .before .before .before .before .before .before .before .before .before .before .before .before .before .before .before .before .before .before .before .byte-in .ensures .value) (c .before .before .before .before .before .before .before .before .before .before .before .before .before .before .before .before .before .before .before .before .before .before .before .before .word-in .ensures .value)) (c .before .before .before .before .before .before .before .before .before .before .before .before .before .before .before .before .before .before .before .before .before .before .before .byte-in2 .ensures .value) (c .before .before .before .before .before .before .before .before .before .before .before .before .before .before .before .before .before .before .arguments-fit .ensures) (not-false _ (c .before .before .before .before .before .before .before .before .before .before .before .before .before .before .before .before .if1 .left)) (c .before .before .before .before .before .before .before .before .before .before .before .before .before .before .if2 .left) (c .before .before .before .before .before .before .before .before .before .before .before .before .put .ensures) (c .before .before .before .before .before .before .before .before .put2 .ensures) (c .before .before .before .put3 .ensures))
+returns-3 c = let q = c .before .before .before .before .before .before .before .before .before .before .before .before .before .before .before .before .before .before .before .before .before .before .before .before .before .before .pre in taken-held (q .0) (q .1) (c .fitting .ensures) (read-held (c .before .before .before .before .before .before .before .before .before .before .before .before .head-code .ensures .0 _ _ (c .before .before .before .before .before .before .before .before .before .before .before .before .before .before .before .byte-in .ensures .value) (c .before .before .before .before .before .before .before .before .before .before .before .before .before .before .word-in .ensures .value)) (c .before .before .before .before .before .before .before .before .before .before .before .before .before .byte-in2 .ensures .value) (c .before .before .before .before .before .before .before .before .arguments-fit .ensures) (not-false _ (c .before .before .before .before .before .before .if1 .left)) (c .before .before .before .before .if2 .left))
 
 pub read-node-spec : {M : Type 1} → statement M
 read-node-spec =
@@ -113,10 +131,16 @@ read-node-spec =
     same-length-5
     same-length-6
     returns-2
-    put-requires
-    put-requires-2
-    add-put
-    put-requires-3
+    add-deep
+    cast-ends
+    mul-ends
+    slice-write-ends
+    cast-codes
+    mul-codes
+    slice-write-codes
+    cast-depths
+    mul-depths
+    slice-write-depths
     fitting-requires
     same-length-7
     same-length-8

@@ -13,7 +13,7 @@ use lib.Seq.{getD-set-same, getD-set-other}
 use Rattle.scheme.proofs.Lists.{and-no}
 use Rattle.casefile.specs.Fields.{word}
 use Rattle.index.specs.layout.Layout.{maxSorts, allSorts}
-use Rattle.fits.specs.masks.Masks.{has, SortsWith}
+use Rattle.fits.specs.masks.Masks.{has, Empty, SortsWith}
 use Rattle.fits.proofs.masks.Bits.{oneBit, has-or, has-zero, has-one}
 
 and-yes : (a b : Bool) → b ≡ true → (a && b) ≡ a
@@ -41,11 +41,11 @@ module _ (file index : List ℕ) (at : ℕ) where
     pub long : length masks ≡ allSorts
     pub marks : (n i : ℕ) → n ≤ maxSorts → has (getD masks n 0) i ≡ (ltb i s && eqb (numberAt i) n)
 
-  pub marked-none : MarkedTo (replicate allSorts 0) 0
-  marked-none = record {
+  pub marked-none : (masks : List ℕ) → Empty masks → MarkedTo masks 0
+  marked-none masks empty = rw empty (record {
     long = length-replicate {A = ℕ} allSorts 0;
     marks = λ n i l. rw (getD-replicate {A = ℕ} allSorts n 0 0 (omega arith), le-ltb i 0 (omega arith)) (has-zero i);
-  }
+  })
 
   module _ (masks : List ℕ) (s place number : ℕ) (marked : MarkedTo masks s) (ep : place ≡ getD index s 0) (en : number ≡ word file (place + at)) where
     here : number ≡ numberAt s

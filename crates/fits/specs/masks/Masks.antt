@@ -5,9 +5,9 @@ use mathlib.Core.Path.{_≡_}
 use mathlib.Core.Bool.{Bool, false}
 use mathlib.Core.List.{List}
 use lib.Dec.{eqb}
-use lib.ListN.{getD}
+use lib.ListN.{getD, replicate}
 use Rattle.casefile.specs.Fields.{word}
-use Rattle.index.specs.layout.Layout.{maxSorts, fitMasks}
+use Rattle.index.specs.layout.Layout.{maxSorts, allSorts, fitMasks}
 
 -- bit i of a number is set
 unfoldable pub has : ℕ → ℕ → Bool
@@ -22,6 +22,10 @@ hasSort m (suc i) = has m i
 -- a word of the row of type t; 0 past the end of the table
 abbrev pub maskOf : List ℕ → ℕ → ℕ → ℕ
 maskOf fit t part = getD fit (t * fitMasks + part) 0
+
+-- a table with no sort in its entries
+abbrev pub Empty : List ℕ → Type 0
+Empty masks = masks ≡ replicate allSorts 0
 
 -- entry n of a table has those of a given number of listed sorts whose record has number n at byte `at`
 abbrev pub SortsWith : List ℕ → List ℕ → ℕ → ℕ → List ℕ → Type 0

@@ -29,11 +29,11 @@ mul-if3 c = omega arith
 returns-3 : tie.Need-returns-3 Inv-loop μ-loop
 returns-3 c = record { filled = λ rs li l. absurd (omega arith); short = λ l. refl }
 
-sorts-with-requires : tie.Need-sorts-with-requires Inv-loop μ-loop
-sorts-with-requires c κs = search needs
+enter-sorts-requires : tie.Need-enter-sorts-requires Inv-loop μ-loop
+enter-sorts-requires c κs = search needs
 
-sorts-with-requires-2 : tie.Need-sorts-with-requires-2 Inv-loop μ-loop
-sorts-with-requires-2 c κs = search needs
+enter-sorts-requires-2 : tie.Need-enter-sorts-requires-2 Inv-loop μ-loop
+enter-sorts-requires-2 c κs = search needs
 
 loop-holds : tie.Need-loop-holds Inv-loop μ-loop
 loop-holds c = (omega arith, refl, λ rs li u i hu hi. absurd (omega arith))
@@ -84,7 +84,7 @@ loop-again c =
       omega arith,
       stored-long (l .fit) (l .t) _ _ _ ∙ l .inv .1,
       λ rs li. fitted-more (l .fit) (l .t) _ _ _ (omega arith) _ rs (l .inv .2 rs li)
-          (c .row-of .ensures _ _ rs li (w .before .sorts-with .ensures) (w .sorts-with2 .ensures) (omega arith) (l .inv .2 rs li)),
+          (c .row-of .ensures _ _ rs li (w .before .before .enter-sorts .ensures refl) (w .enter-sorts2 .ensures refl) (omega arith) (l .inv .2 rs li)),
     )
 
 same-length : tie.Need-same-length Inv-loop μ-loop
@@ -103,8 +103,8 @@ fill-fits-spec =
     returns-2
     mul-if3
     returns-3
-    sorts-with-requires
-    sorts-with-requires-2
+    enter-sorts-requires
+    enter-sorts-requires-2
     loop-holds
     row-of-requires
     mul-at
