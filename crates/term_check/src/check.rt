@@ -8,7 +8,7 @@ use crate::heads::listed;
 use crate::heads::look;
 use crate::heads::targets_for;
 use crate::heads::wanted;
-use crate::hints::head_hint;
+use crate::hints::bound_hint;
 use crate::hints::hint_in;
 use crate::hints::node_hint;
 use crate::masks::has_bit;
@@ -66,7 +66,7 @@ pub fn check_term(t: &[u16], r: &[u32], w: &mut [u32], at: usize, goal: usize) -
         if targets == NO_TARGETS {
             return false;
         }
-        return check_targets(&*t, &*r, w, at + 1, node.count, targets);
+        return all_targets(&*t, &*r, w, at + 1, node.count, targets);
     }
     if node.tag == 1 {
         return check_bound(&*t, &*r, w, at, goal, node);
@@ -83,14 +83,7 @@ pub fn check_term(t: &[u16], r: &[u32], w: &mut [u32], at: usize, goal: usize) -
 
 // Whether the `count` arguments from node `at` on have their targets, four bits each. Where the last one is a constructor, its own
 // arguments take its place.
-fn check_targets(
-    t: &[u16],
-    r: &[u32],
-    w: &mut [u32],
-    at: usize,
-    count: usize,
-    targets: usize,
-) -> bool
+fn all_targets(t: &[u16], r: &[u32], w: &mut [u32], at: usize, count: usize, targets: usize) -> bool
     ensures { λ b. ⌜ (length (now (w .exit)) ≡ length (now (w .entry))) × ChecksTargets (caseOf (now (t .entry)) (now (r .entry))) (answersOf (now (r .entry)) (now (w .entry))) (usersOf (now (r .entry)) (now (w .entry))) at count targets (answersOf (now (r .entry)) (now (w .exit))) (usersOf (now (r .entry)) (now (w .exit))) b ⌝ }
 {
     let base = number_in(r, TEST_BASE);
@@ -110,7 +103,7 @@ fn check_targets(
             here = here + 1;
             left = node.count;
         } else {
-            if !check_target(&*t, &*r, w, here, rest % 16) {
+            if !one_target(&*t, &*r, w, here, rest % 16) {
                 return false;
             }
             here = node.next;
@@ -122,7 +115,7 @@ fn check_targets(
 }
 
 // Whether the argument at a node has its target. Of a parameter that stands alone it is known.
-fn check_target(t: &[u16], r: &[u32], w: &mut [u32], at: usize, goal: usize) -> bool
+fn one_target(t: &[u16], r: &[u32], w: &mut [u32], at: usize, goal: usize) -> bool
     ensures { λ b. ⌜ (length (now (w .exit)) ≡ length (now (w .entry))) × ChecksTerm (caseOf (now (t .entry)) (now (r .entry))) (answersOf (now (r .entry)) (now (w .entry))) (usersOf (now (r .entry)) (now (w .entry))) at goal (answersOf (now (r .entry)) (now (w .exit))) (usersOf (now (r .entry)) (now (w .exit))) b ⌝ }
 {
     let node = node_of(t, number_in(r, TEST_BASE), at);
@@ -136,24 +129,21 @@ fn check_target(t: &[u16], r: &[u32], w: &mut [u32], at: usize, goal: usize) -> 
     check_term(&*t, &*r, w, at, goal)
 }
 
-// Whether a nonterminal's term has a goal: one of its kept bindings leads to it, and the arguments have what its type asks for. Where it
-// has arguments, the binding is tried first that served last for this nonterminal.
+// Whether a nonterminal's term has a goal: one of its kept bindings leads to it, and the arguments have what its type asks for. The
+// binding that served last is tried first.
 fn check_bound(t: &[u16], r: &[u32], w: &mut [u32], at: usize, goal: usize, node: Node) -> bool
     requires { ⌜ at < maxNodes ⌝ }
     ensures { λ b. ⌜ (length (now (w .exit)) ≡ length (now (w .entry))) × (node ≡ nodeAt (now (t .entry)) (baseIn (now (r .entry))) at → node .tag ≡ 1 → ChecksTerm (caseOf (now (t .entry)) (now (r .entry))) (answersOf (now (r .entry)) (now (w .entry))) (usersOf (now (r .entry)) (now (w .entry))) at goal (answersOf (now (r .entry)) (now (w .exit))) (usersOf (now (r .entry)) (now (w .exit))) b) ⌝ }
 {
-    let mut c = NONE;
-    if node.count != 0 {
-        c = head_hint(r, w, node.number, goal);
-    }
-    if try_binding(&*t, &*r, w, at, goal, node, c) {
+    let c = bound_hint(r, w, node, goal);
+    if try_one(&*t, &*r, w, at, goal, node, c) {
         return true;
     }
     check_listed(&*t, &*r, w, at, goal, node)
 }
 
 // Whether binding c serves: it is kept, it leads to the goal, and the arguments have what its type asks for. That it serves is noted.
-fn try_binding(
+fn try_one(
     t: &[u16],
     r: &[u32],
     w: &mut [u32],
@@ -232,11 +222,11 @@ fn check_args(t: &[u16], r: &[u32], w: &mut [u32], at: usize, count: usize, ty: 
     if count == 0 {
         return true;
     }
-    check_all_args(&*t, &*r, w, at, count, ty)
+    all_args(&*t, &*r, w, at, count, ty)
 }
 
 // The same, one argument after another.
-fn check_all_args(t: &[u16], r: &[u32], w: &mut [u32], at: usize, count: usize, ty: usize) -> bool
+fn all_args(t: &[u16], r: &[u32], w: &mut [u32], at: usize, count: usize, ty: usize) -> bool
     ensures { λ b. ⌜ (length (now (w .exit)) ≡ length (now (w .entry))) × ChecksArgs (caseOf (now (t .entry)) (now (r .entry))) (answersOf (now (r .entry)) (now (w .entry))) (usersOf (now (r .entry)) (now (w .entry))) at count ty (answersOf (now (r .entry)) (now (w .exit))) (usersOf (now (r .entry)) (now (w .exit))) b ⌝ }
 {
     let base = number_in(r, TEST_BASE);
@@ -248,7 +238,7 @@ fn check_all_args(t: &[u16], r: &[u32], w: &mut [u32], at: usize, count: usize, 
         if next <= here {
             return false;
         }
-        if !check_members(&*t, &*r, w, here, rest) {
+        if !all_members(&*t, &*r, w, here, rest) {
             return false;
         }
         here = next;
@@ -259,7 +249,7 @@ fn check_all_args(t: &[u16], r: &[u32], w: &mut [u32], at: usize, count: usize, 
 }
 
 // Whether the argument at a node has all members of an arrow. What is found is remembered.
-fn check_members(t: &[u16], r: &[u32], w: &mut [u32], at: usize, ty: usize) -> bool
+fn all_members(t: &[u16], r: &[u32], w: &mut [u32], at: usize, ty: usize) -> bool
     ensures { λ b. ⌜ (length (now (w .exit)) ≡ length (now (w .entry))) × ChecksMembers (caseOf (now (t .entry)) (now (r .entry))) (answersOf (now (r .entry)) (now (w .entry))) (usersOf (now (r .entry)) (now (w .entry))) at ty (answersOf (now (r .entry)) (now (w .exit))) (usersOf (now (r .entry)) (now (w .exit))) b ⌝ }
 {
     let states = states_of(t, ty) as u32;
@@ -284,7 +274,8 @@ fn check_members(t: &[u16], r: &[u32], w: &mut [u32], at: usize, ty: usize) -> b
     check_each(&*t, &*r, w, at, ty)
 }
 
-// Whether the term at a node has all goals of a set of states: first what is found at once, then the others.
+// Whether the term at a node has all goals of a set of states: first what is found at once, then the others, one by one. What is found
+// is remembered.
 fn check_states(t: &[u16], r: &[u32], w: &mut [u32], at: usize, asked: u32) -> bool
     ensures { λ b. ⌜ (length (now (w .exit)) ≡ length (now (w .entry))) × ChecksAll (caseOf (now (t .entry)) (now (r .entry))) (answersOf (now (r .entry)) (now (w .entry))) (usersOf (now (r .entry)) (now (w .entry))) at asked (answersOf (now (r .entry)) (now (w .exit))) (usersOf (now (r .entry)) (now (w .exit))) b ⌝ }
 {
@@ -294,15 +285,8 @@ fn check_states(t: &[u16], r: &[u32], w: &mut [u32], at: usize, asked: u32) -> b
         learn_in(r, w, at, 0, known, found.had);
         return false;
     }
-    check_left(&*t, &*r, w, at, asked, found.had)
-}
-
-// Whether the term at a node has those of a set of states that were not found, one by one. What is found is remembered.
-fn check_left(t: &[u16], r: &[u32], w: &mut [u32], at: usize, asked: u32, found: u32) -> bool
-    ensures { λ b. ⌜ (length (now (w .exit)) ≡ length (now (w .entry))) × ((memo users : List ℕ) → Finds (caseOf (now (t .entry)) (now (r .entry))) memo users at (answersOf (now (r .entry)) (now (w .entry))) (usersOf (now (r .entry)) (now (w .entry))) found → ChecksAll (caseOf (now (t .entry)) (now (r .entry))) memo users at asked (answersOf (now (r .entry)) (now (w .exit))) (usersOf (now (r .entry)) (now (w .exit))) b) ⌝ }
-{
-    let mut had = found;
-    let mut left = left_of(asked, found);
+    let mut had = found.had;
+    let mut left = left_of(asked, found.had);
     while left != 0 {
         let q = lowest(left);
         if !check_term(&*t, &*r, w, at, q) {
@@ -381,7 +365,7 @@ fn find_given(t: &[u16], r: &[u32], w: &mut [u32], at: usize, asked: u32, node: 
         j = j + 1;
         let q = wanted(t, left, ty, node.count);
         if q != NONE {
-            if check_again(&*t, &*r, w, at + 1, node.count, ty) {
+            if args_again(&*t, &*r, w, at + 1, node.count, ty) {
                 had = with_bit(had, q);
                 left = without_bit(left, q);
             } else {
@@ -393,7 +377,7 @@ fn find_given(t: &[u16], r: &[u32], w: &mut [u32], at: usize, asked: u32, node: 
 }
 
 // Whether the `count` arguments from node `at` on have what a type asks for, where they were perhaps asked for the same before.
-fn check_again(t: &[u16], r: &[u32], w: &mut [u32], at: usize, count: usize, ty: usize) -> bool
+fn args_again(t: &[u16], r: &[u32], w: &mut [u32], at: usize, count: usize, ty: usize) -> bool
     ensures { λ b. ⌜ (length (now (w .exit)) ≡ length (now (w .entry))) × ChecksArgs (caseOf (now (t .entry)) (now (r .entry))) (answersOf (now (r .entry)) (now (w .entry))) (usersOf (now (r .entry)) (now (w .entry))) at count ty (answersOf (now (r .entry)) (now (w .exit))) (usersOf (now (r .entry)) (now (w .exit))) b ⌝ }
 {
     if args_known(t, r, w, at, count, ty) {
@@ -423,35 +407,12 @@ fn check_each(t: &[u16], r: &[u32], w: &mut [u32], at: usize, ty: usize) -> bool
         }
         if !has_bit(known.had, goal) {
             let bit = with_bit(0, goal % WORD);
-            if !check_member(&*t, &*r, w, at, goal) {
+            if !check_term(&*t, &*r, w, at, goal) {
                 learn_in(r, w, at, goal, bit, 0);
                 return false;
             }
             learn_in(r, w, at, goal, bit, bit);
         }
     }
-    true
-}
-
-// Whether the term at a node has a goal: of a nonterminal's term the binding is tried first that served last.
-fn check_member(t: &[u16], r: &[u32], w: &mut [u32], at: usize, goal: usize) -> bool
-    ensures { λ b. ⌜ (length (now (w .exit)) ≡ length (now (w .entry))) × ChecksTerm (caseOf (now (t .entry)) (now (r .entry))) (answersOf (now (r .entry)) (now (w .entry))) (usersOf (now (r .entry)) (now (w .entry))) at goal (answersOf (now (r .entry)) (now (w .exit))) (usersOf (now (r .entry)) (now (w .exit))) b ⌝ }
-{
-    if MAX_NODES <= at {
-        return false;
-    }
-    let node = node_of(t, number_in(r, TEST_BASE), at);
-    if node.tag != 1 {
-        return check_term(&*t, &*r, w, at, goal);
-    }
-    let c = head_hint(r, w, node.number, goal);
-    let ty = candidate(t, r, node.number, node.count, goal, c);
-    if ty == NONE {
-        return check_term(&*t, &*r, w, at, goal);
-    }
-    if !check_args(&*t, &*r, w, at + 1, node.count, ty) {
-        return check_term(&*t, &*r, w, at, goal);
-    }
-    note_in(r, w, c);
     true
 }

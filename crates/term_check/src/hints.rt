@@ -12,6 +12,7 @@ use index::layout::PLACE_LIMIT;
 use index::layout::ROW_LIMIT;
 use index::layout::TEST_BASE;
 use index::layout::TEST_USERS;
+use tables::reading::Node;
 ghost use mathlib.Core.Path.{_≡_};
 ghost use Prim.Native.Nat.{_<_};
 ghost use lib.ListN.{length};
@@ -41,12 +42,18 @@ pub fn node_hint(r: &[u32], w: &[u32], at: usize, goal: usize) -> usize {
     number_in(w, node_place(r, at, goal))
 }
 
-// The binding that served last for a nonterminal and a goal, at any node.
-pub fn head_hint(r: &[u32], w: &[u32], number: usize, goal: usize) -> usize {
+// The binding that served last for the nonterminal of a node and a goal, at any node; NONE for a state where it stands alone, which is
+// looked up as fast without a hint.
+pub fn bound_hint(r: &[u32], w: &[u32], node: Node, goal: usize) -> usize {
     if number_in(r, TEST_USERS) < HINTS {
         return NONE;
     }
-    number_in(w, head_place(number, goal))
+    if goal < MAX_STATES {
+        if node.count == 0 {
+            return NONE;
+        }
+    }
+    number_in(w, head_place(node.number, goal))
 }
 
 // Enters the binding that served, where there is a table of hints.
