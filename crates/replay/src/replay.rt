@@ -4,11 +4,11 @@ use crate::letters::Step;
 use crate::letters::follow;
 use index::entries::place_at;
 use index::layout::ALL_CELLS;
+use index::layout::BLOCK;
 use index::layout::CONSTRUCTOR;
 use index::layout::Counts;
 use index::layout::Index;
 use index::layout::LONG_CELLS;
-use index::layout::LONG_PATH;
 use index::layout::MAX_ARITY;
 use index::layout::MAX_CONSTRUCTORS;
 use index::layout::MAX_STATES;
@@ -16,9 +16,7 @@ use index::layout::NO_TARGET;
 use index::layout::PATH_AT;
 use index::layout::RULE;
 use index::layout::SHORT_CELLS;
-use index::layout::SHORT_PATH;
 use index::layout::TINY_CELLS;
-use index::layout::TINY_PATH;
 use index::layout::TRANSITION;
 use index::layout::Transitions;
 use index::lookup::entry;
@@ -26,8 +24,9 @@ use records::fields::byte_at;
 use transitions::rows::row_of;
 use transitions::table::moves;
 ghost use mathlib.Core.Path.{_≡_};
-ghost use mathlib.Core.Bool.{true, false};
-ghost use Rattle.replay.specs.replay.Replays.{stoppedAt, Arrives, Runs, ReplaysPath};
+ghost use mathlib.Core.Bool.{true};
+ghost use lib.ListN.{length};
+ghost use Rattle.replay.specs.replay.Replays.{stoppedAt, Arrives, Runs, ReplaysPath, Attempts};
 
 // The answer to a path.
 pub enum Replayed {
@@ -143,77 +142,57 @@ struct Attempt {
     answer: Replayed,
 }
 
-// A path has more letters than there are cells for.
-fn too_long() -> Attempt
-    ensures { λ a. ⌜ a .done ≡ false ⌝ }
-{
-    Attempt {
-        done: false,
-        answer: Replayed::Refused {
-            number: 0,
-            place: 0,
-        },
-    }
-}
-
-// The answer to the path of a file, by its tables, with cells for few letters.
-fn tiny_path(file: &[u8], index: &Index, counts: &Counts) -> Attempt
-    ensures { λ a. ⌜ (a .done ≡ true → ReplaysPath (now (file .entry)) (now (index .entry)) (now (counts .entry)) (a .answer)) ⌝ }
+// The answer to the path of a file, by its tables, where there is a block of cells for the start symbol and one for each letter.
+fn replay_with(file: &[u8], index: &Index, counts: &Counts, cells: &mut [u64]) -> Attempt
+    ensures { λ a. ⌜ Attempts (now (file .entry)) (now (index .entry)) (now (counts .entry)) (length (now (cells .entry))) (a .done) (a .answer) ⌝ }
 {
     let path = entry(file, index, PATH_AT);
-    if TINY_PATH < path.len() {
-        return too_long();
+    if cells.len() / BLOCK <= path.len() {
+        return Attempt {
+            done: false,
+            answer: Replayed::Refused {
+                number: 0,
+                place: 0,
+            },
+        };
     }
     let table = moves(file, index, place_at(counts, TRANSITION));
     let rules = place_at(counts, RULE);
     let constructors = place_at(counts, CONSTRUCTOR);
-    let mut cells = [0u64; TINY_CELLS];
-    let answer = run(file, index, rules, constructors, table, path, &mut cells);
+    let answer = run(file, index, rules, constructors, table, path, cells);
     Attempt { done: true, answer }
+}
+
+// The same with cells for few letters.
+fn tiny_path(file: &[u8], index: &Index, counts: &Counts) -> Attempt
+    ensures { λ a. ⌜ (a .done ≡ true → ReplaysPath (now (file .entry)) (now (index .entry)) (now (counts .entry)) (a .answer)) ⌝ }
+{
+    let mut cells = [0u64; TINY_CELLS];
+    replay_with(file, index, counts, &mut cells)
 }
 
 // The same with cells for more letters.
 fn short_path(file: &[u8], index: &Index, counts: &Counts) -> Attempt
     ensures { λ a. ⌜ (a .done ≡ true → ReplaysPath (now (file .entry)) (now (index .entry)) (now (counts .entry)) (a .answer)) ⌝ }
 {
-    let path = entry(file, index, PATH_AT);
-    if SHORT_PATH < path.len() {
-        return too_long();
-    }
-    let table = moves(file, index, place_at(counts, TRANSITION));
-    let rules = place_at(counts, RULE);
-    let constructors = place_at(counts, CONSTRUCTOR);
     let mut cells = [0u64; SHORT_CELLS];
-    let answer = run(file, index, rules, constructors, table, path, &mut cells);
-    Attempt { done: true, answer }
+    replay_with(file, index, counts, &mut cells)
 }
 
 // The same with cells for many letters.
 fn long_path(file: &[u8], index: &Index, counts: &Counts) -> Attempt
     ensures { λ a. ⌜ (a .done ≡ true → ReplaysPath (now (file .entry)) (now (index .entry)) (now (counts .entry)) (a .answer)) ⌝ }
 {
-    let path = entry(file, index, PATH_AT);
-    if LONG_PATH < path.len() {
-        return too_long();
-    }
-    let table = moves(file, index, place_at(counts, TRANSITION));
-    let rules = place_at(counts, RULE);
-    let constructors = place_at(counts, CONSTRUCTOR);
     let mut cells = [0u64; LONG_CELLS];
-    let answer = run(file, index, rules, constructors, table, path, &mut cells);
-    Attempt { done: true, answer }
+    replay_with(file, index, counts, &mut cells)
 }
 
 // The answer to the path of a file, with cells for all letters that it may have.
 fn any_path(file: &[u8], index: &Index, counts: &Counts) -> Replayed
     ensures { λ r. ⌜ ReplaysPath (now (file .entry)) (now (index .entry)) (now (counts .entry)) r ⌝ }
 {
-    let table = moves(file, index, place_at(counts, TRANSITION));
-    let path = entry(file, index, PATH_AT);
-    let rules = place_at(counts, RULE);
-    let constructors = place_at(counts, CONSTRUCTOR);
     let mut cells = [0u64; ALL_CELLS];
-    run(file, index, rules, constructors, table, path, &mut cells)
+    replay_with(file, index, counts, &mut cells).answer
 }
 
 // The answer to the path of a file, with the first of four sets of cells, from one on, that is enough for its letters.

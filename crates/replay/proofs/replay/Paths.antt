@@ -1,7 +1,8 @@
 -- The path of a file, by its tables.
-use Prim.Native.Nat.{ℕ, _+_, _*_, _<_, _≤_}
+use Prim.Native.Nat.{ℕ, _+_, _*_, _/_, _<_, _≤_}
 use native.Mathlib.Omega.{arith}
-use mathlib.Core.Path.{_≡_, sym, ap, subst, _∙_}
+use mathlib.Core.Path.{_≡_, refl, sym, ap, subst, _∙_}
+use mathlib.Core.Bool.{Bool, true, false, true≢false}
 use mathlib.Core.List.{List, []}
 use borrow.Author.Tests.{ltb-false}
 use lib.Dec.{ltb}
@@ -21,7 +22,7 @@ use Rattle.index.proofs.lookup.Found.{entry-there}
 use Rattle.transitions.specs.table.Moves
 use Rattle.index.proofs.Wholes.{whole-bodies}
 use Rattle.casefile.specs.PathCases.{replayed}
-use Rattle.replay.specs.replay.Replays.{Runs, ReplaysPath}
+use Rattle.replay.specs.replay.Replays.{Runs, ReplaysPath, Attempts}
 use Rattle.replay.specs.declared.replay.Replayed.{Replayed}
 
 -- "at most" 4,096 letters
@@ -62,3 +63,26 @@ module _ {file index counts : List ℕ} {n rules constructors : ℕ} (en : n ≡
             })
             (room short) short ∙ ap (replayed (automatonOf rs) (planOf rs)) e;
       }
+
+  -- there are cells for all letters
+  pub attempt-done : length path < length cells / 8 → Attempts file index counts (length cells) true r
+  attempt-done h = record { answered = λ y. replay-answer (λ few. omega arith); enough = λ y. absurd (true≢false y) }
+
+-- there are not
+pub attempt-not : {file index counts : List ℕ} {cells : ℕ} (path : List ℕ) → path ≡ entryOf file index pathAt → (r : Replayed) → cells / 8 ≤ length path → Attempts file index counts cells false r
+attempt-not {file} {index} {counts} {cells} path ep r h = record { answered = λ y. absurd (true≢false (sym y)); enough = λ y. subst (λ (p : List ℕ). cells / 8 ≤ length p) ep h }
+
+-- with cells for all letters that a path may have the attempt is done
+pub answer-all : {file index counts : List ℕ} {cells : ℕ} {done : Bool} (r : Replayed) → Attempts file index counts cells done r → maxLetters < cells / 8 → ReplaysPath file index counts r
+unfolding number
+answer-all {done = true} r a h = a .answered refl
+answer-all {file = file} {index = index} {counts = counts} {done = false} r a h =
+    record {
+      answer = λ lens rs flags known ok whole some.
+          let there : Indexed file index Kind.path (getD counts 9 0) rs = known .entries Kind.path in
+          let e = entry-there there 0 (let c = there .counted in omega arith) in
+          let short = path-short ok (let l = count-payloads Kind.path rs in omega arith) in
+          let long = a .enough refl in
+          let same = ap (length {A = ℕ}) e in
+          absurd (omega arith);
+    }

@@ -1,7 +1,8 @@
 -- What our own crates promise each other; nothing here has to be believed.
 -- What the functions that replay a path promise: the answer of the definitions.
-use Prim.Native.Nat.{ℕ, _+_, _*_, _<_, _≤_}
+use Prim.Native.Nat.{ℕ, _+_, _*_, _/_, _<_, _≤_}
 use mathlib.Core.Path.{_≡_}
+use mathlib.Core.Bool.{Bool, true, false}
 use mathlib.Core.List.{List, []}
 use mathlib.Core.Option.{none}
 use lib.ListN.{length, getD}
@@ -12,8 +13,9 @@ use Rattle.casefile.specs.Kinds.{Kind, payloads, count}
 use Rattle.casefile.specs.Tables.{planOf, automatonOf}
 use Rattle.casefile.specs.Refusals.{refuseWhole}
 use Rattle.casefile.specs.Promises.{Passed}
-use Rattle.index.specs.layout.Layout.{maxLetters}
+use Rattle.index.specs.layout.Layout.{maxLetters, pathAt}
 use Rattle.index.specs.entries.Known.{Known}
+use Rattle.index.specs.lookup.Lookup.{entryOf}
 use Rattle.replay.specs.letters.Letters.{Replaying, Holding}
 use Rattle.replay.specs.declared.letters.Held.{Held}
 use Rattle.replay.specs.declared.letters.Step.{Step}
@@ -47,3 +49,8 @@ pub record Runs (file index : List ℕ) (rules constructors : ℕ) (table : List
 pub record ReplaysPath (file index counts : List ℕ) (r : Replayed) : Type 0 where
   pub answer : (lens : List ℕ) (rs : List Record) (flags : ℕ) → Known file index lens counts rs → Passed rs → refuseWhole rs flags ≡ none → 0 < count Kind.path rs
       → pathAs r ≡ replayed (automatonOf rs) (planOf rs) (getD (payloads Kind.path rs) 0 [])
+
+-- an attempt with so many cells: where it is done, r is the answer; where it is not, the path has more letters than there are blocks behind the first
+pub record Attempts (file index counts : List ℕ) (cells : ℕ) (done : Bool) (r : Replayed) : Type 0 where
+  pub answered : done ≡ true → ReplaysPath file index counts r
+  pub enough : done ≡ false → cells / 8 ≤ length (entryOf file index pathAt)
