@@ -2,7 +2,6 @@
 use Prim.Native.Nat.{_-_, _≤_}
 use native.Mathlib.Omega.{arith}
 use borrow.Author.Needs.{needs}
-use Rattle.tables.specs.reading.Cells.{groupOf}
 use Rattle.binding_cases.proofs.Starting.{NoneTo, none-yet, none-more, start-found, start-behind, start-none}
 use Rattle.binding_cases.proofs.start_kept.Statement.{statement}
 use Rattle.binding_cases.proofs.start_kept.Tie as tie

@@ -7,7 +7,7 @@ use mathlib.Core.Option.{none}
 use borrow.Author.Tests.{lt-ltb, le-ltb}
 use lib.ListN.{length, getD}
 use Rattle.casefile.specs.Records.{Record, recordsOf, listed}
-use Rattle.casefile.specs.Kinds.{Kind, payloads, count}
+use Rattle.casefile.specs.Kinds.{Kind, payloads}
 use Rattle.casefile.specs.Refusals.{tooLong, refuseWhole}
 use Rattle.casefile.specs.Cases.{pathCase, unlessRefused, acceptedCase, caseFrom, caseOf}
 use Rattle.casefile.proofs.TypeTable.{count-payloads}

@@ -5,7 +5,7 @@ use native.Mathlib.Decide.{decLt}
 use mathlib.Core.Path.{_≡_, sym, ap, subst, _∙_}
 use mathlib.Core.List.{List}
 use lib.Count.{trailingZeros}
-use lib.ListN.{length, getD}
+use lib.ListN.{getD}
 use Rattle.marks.specs.Marks.{bitOf, In, Puts}
 use Rattle.marks.specs.briefs.Briefs.{Marked, MarksIn, FindsMarked}
 use Rattle.marks.proofs.Bits.{zero-bit, shift-bit, zeros-below}

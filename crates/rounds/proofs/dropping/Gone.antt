@@ -26,12 +26,12 @@ set-past [] i h = refl
 set-past (x ∷ xs) zero h = absurd (omega arith)
 set-past (x ∷ xs) (suc i) h = ap (x ∷_) (set-past xs i (le-of-suc-le-suc h))
 
--- a search for the next number goes on
-pub finds-less : {words : List ℕ} {at b end r : ℕ} → FindsNext words at (b + 1) end r → b < end → end - r < end - b
-finds-less {b = b} {end = end} {r = r} n h = go (decLt r end)
+-- a search that goes on behind b finds a number there or none
+pub search-less : {b end r : ℕ} → (r < end → b + 1 ≤ r) → b < end → end - r < end - b
+search-less {b} {end} {r} f h = go (decLt r end)
   where
     go : Dec (r < end) → end - r < end - b
-    go (yes l) = let f = n .found l .0 in omega arith
+    go (yes l) = let k = f l in omega arith
     go (no l) = omega arith
 
 pub columns-fit : (n : ℕ) → n % rowLimit * ((n % rowLimit + 31) / 32) ≤ 131008

@@ -9,12 +9,11 @@ use lib.Bits.{bitOr}
 use lib.ListN.{length, getD, set, length-set}
 use lib.Seq.{getD-set-same}
 use Rattle.index.specs.layout.Layout.{wordBits, maxBindingWords}
-use Rattle.marks.specs.Marks.{bitOf, In}
-use Rattle.marks.specs.briefs.Briefs.{Marked}
+use Rattle.marks.specs.Marks.{bitOf}
 use Rattle.marks.proofs.Bits.{bit-small, zero-bit, or-bit}
 use Rattle.marks.proofs.Sets.{stored}
 use Rattle.term_check.specs.masks.Masks.{Lowest, TakesOut}
-use Rattle.rounds.specs.tested.Tested.{Grows, Todo}
+use Rattle.rounds.specs.tested.Tested.{Grows}
 use Rattle.rounds.specs.dropping.Dropping.{JoinsWord, JoinsWords, Joins}
 
 or-first : (k a b : ℕ) → bitOf k a ≡ 1 → bitOf k (bitOr a b) ≡ 1

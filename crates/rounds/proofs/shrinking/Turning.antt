@@ -1,7 +1,7 @@
 -- One turn over the marked bindings: those that are passed are tested, and all that is not marked rests on its notes as before.
 use Prim.Native.Nat.{ℕ, _+_, _-_, _*_, _/_, _%_, _<_, _≤_}
 use native.Mathlib.Omega.{arith}
-use native.Mathlib.Decide.{decLt, ℕ-discrete}
+use native.Mathlib.Decide.{ℕ-discrete}
 use mathlib.Core.Path.{_≡_, refl, sym, subst, _∙_}
 use mathlib.Core.Bool.{true}
 use mathlib.Core.List.{List}
@@ -24,14 +24,6 @@ use Rattle.rounds.proofs.tested.Placing.{moved}
 
 pub rests-more : (rs : List Record) (kept users users′ : List ℕ) → Grows users users′ → (b : ℕ) → Rests rs kept users b → Rests rs kept users′ b
 rests-more rs kept users users′ g b r flags h = r flags (λ c l k n. h c l k (marked-more users users′ g (c * wordsFor rs) (total rs * wordsFor rs + c) b n))
-
--- a search for the next one that is marked goes on
-pub marked-less : {words : List ℕ} {at brief b end r : ℕ} → FindsMarked words at brief (b + 1) end r → b < end → end - r < end - b
-marked-less {b = b} {end = end} {r = r} n h = go (decLt r end)
-  where
-    go : Dec (r < end) → end - r < end - b
-    go (yes l) = let f = n .found l in omega arith
-    go (no l) = omega arith
 
 pub in-or-not : (words : List ℕ) (at n : ℕ) → Dec (In words at n)
 in-or-not words at n = ℕ-discrete (bitOf (n % wordBits) (getD words (at + n / wordBits) 0)) 1

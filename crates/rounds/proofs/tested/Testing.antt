@@ -19,7 +19,7 @@ use Rattle.casefile.specs.Records.{Record}
 use Rattle.casefile.specs.Kinds.{Kind, payloads, count}
 use Rattle.casefile.specs.Tables.{nodesOf, bodyOf, planOf}
 use Rattle.casefile.proofs.TypeTable.{count-payloads}
-use Rattle.index.specs.layout.Layout.{maxStates, testOwn, testBase, testBinding, testStamp, testWords, testBindings, testAnswers, testCells}
+use Rattle.index.specs.layout.Layout.{testOwn, testBase, testBinding, testStamp, testWords, testBindings, testAnswers, testCells}
 use Rattle.rules.specs.reading.RuleBodies.{ruleOf, firstNode}
 use Rattle.marks.specs.briefs.Briefs.{Marked}
 use Rattle.answers.specs.Answers.{Under}

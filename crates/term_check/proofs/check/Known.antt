@@ -11,7 +11,7 @@ use Rattle.answers.specs.declared.Outlook.{Outlook}
 use Rattle.tables.specs.reading.Cells.{statesOf, arrowsOf, nodeAt, resultOf}
 use Rattle.term_check.specs.notes.Notes.{baseIn, stampIn, wideIn}
 use Rattle.term_check.specs.masks.Masks.{Leaves}
-use Rattle.term_check.specs.Worlds.{Case, World, Ready, ArgsYes, ChecksArgs}
+use Rattle.term_check.specs.Worlds.{Case, ChecksArgs}
 use Rattle.term_check.specs.heads.Heads.{ArgsKnown}
 use Rattle.term_check.proofs.heads.Looking.{seen-memo}
 use Rattle.term_check.proofs.check.Keeping.{keeps-all}

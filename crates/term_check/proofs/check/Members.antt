@@ -14,7 +14,7 @@ use Rattle.casefile.proofs.Repeats.{getD-mem}
 use Rattle.index.specs.layout.Layout.{maxStates, wordBits}
 use Rattle.marks.specs.Marks.{bitOf}
 use Rattle.marks.proofs.Bits.{bit-small, zero-bit, and-bit, some-bit, high-bit}
-use Rattle.answers.specs.Answers.{Says, Learns}
+use Rattle.answers.specs.Answers.{Learns}
 use Rattle.answers.specs.declared.Outlook.{Outlook}
 use Rattle.tables.specs.reading.Cells.{manyOf, memberOf, statesOf, arrowsOf}
 use Rattle.tables.specs.Facts.{Goal, of-state, At}

@@ -1,7 +1,7 @@
 -- The states of a set that a parameter's term has by the members given for it, one after another.
 use Prim.Native.Nat.{ℕ, suc, _<_, _≤_}
 use native.Mathlib.Omega.{arith}
-use mathlib.Core.Path.{_≡_, refl, sym, ap, subst, _∙_}
+use mathlib.Core.Path.{_≡_, refl, sym, ap, subst}
 use mathlib.Core.Logic.{_⊎_, inl, inr}
 use mathlib.Core.Bool.{Bool, true, false}
 use mathlib.Core.List.{List}
@@ -14,7 +14,7 @@ use Rattle.tables.specs.Frames.{Adds}
 use Rattle.term_check.specs.masks.Masks.{TakesOut}
 use Rattle.term_check.specs.notes.Notes.{ownIn, baseIn}
 use Rattle.term_check.specs.heads.Heads.{Wanted}
-use Rattle.term_check.specs.Worlds.{Case, World, Ready, Finds, Settles, ChecksTerm, ChecksArgs}
+use Rattle.term_check.specs.Worlds.{Case, Finds, Settles, ChecksTerm, ChecksArgs}
 use Rattle.term_check.proofs.check.States.{finds-none, finds-on, finds-more}
 use Rattle.term_check.proofs.check.Given.{Tried, given-start, given-end, tried-on, member-misses, member-fails, member-has}
 

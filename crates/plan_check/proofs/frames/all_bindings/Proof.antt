@@ -3,7 +3,7 @@ use Prim.Native.Nat.{ℕ}
 use native.Mathlib.Omega.{arith}
 use mathlib.Core.Path.{_≡_}
 use lib.ListN.{length}
-use Rattle.index.specs.layout.Layout.{maxTypes, maxBindings, maxNodes, maxGoals, hintCells, indexSize, rowsSize}
+use Rattle.index.specs.layout.Layout.{maxTypes, maxBindings, maxNodes, hintCells, indexSize, rowsSize}
 use Rattle.plan_check.proofs.Lending.{zeros, readOf, writeOf, frame-judges}
 use borrow.Author.Needs.{needs}
 use Rattle.plan_check.proofs.frames.all_bindings.Statement.{statement}

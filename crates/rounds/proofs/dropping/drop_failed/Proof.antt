@@ -8,7 +8,7 @@ use Rattle.marks.specs.Marks.{In}
 use Rattle.term_check.specs.Worlds.{usersOf}
 use Rattle.rounds.specs.tested.Tested.{Placed}
 use Rattle.rounds.proofs.tested.Placing.{placed-none, placed-more}
-use Rattle.rounds.proofs.dropping.Gone.{finds-less, Dropped, dropped-none, dropped-more, dropped-all}
+use Rattle.rounds.proofs.dropping.Gone.{search-less, Dropped, dropped-none, dropped-more, dropped-all}
 use Rattle.rounds.proofs.dropping.LentParts.{drops-from}
 use borrow.Author.Needs.{needs}
 use Rattle.rounds.proofs.dropping.drop_failed.Statement.{statement}
@@ -36,7 +36,7 @@ next-beyond-requires : tie.Need-next-beyond-requires Inv-loop μ-loop
 next-beyond-requires c κs = search needs
 
 loop-less : tie.Need-loop-less Inv-loop μ-loop
-loop-less c = finds-less (c .next-beyond .ensures) (c .before .before .before .before .before .before .before .before .before .before .before .if1 .taken)
+loop-less c = search-less (λ l. c .next-beyond .ensures .found l .0) (c .before .before .before .before .before .before .before .before .before .before .before .if1 .taken)
 
 loop-again : tie.Need-loop-again Inv-loop μ-loop
 loop-again c =

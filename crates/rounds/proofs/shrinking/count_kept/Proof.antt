@@ -1,7 +1,6 @@
 -- `count_kept` meets its contract. The invariant: the first i flags are counted.
 use Prim.Native.Nat.{_-_, _≤_}
 use native.Mathlib.Omega.{arith}
-use borrow.Author.Needs.{needs}
 use Rattle.rounds.proofs.shrinking.Counting.{flag-small, Counted, counted-none, counted-more, counted-all, counted-not}
 use Rattle.rounds.proofs.shrinking.count_kept.Statement.{statement}
 use Rattle.rounds.proofs.shrinking.count_kept.Tie as tie

@@ -9,7 +9,8 @@ use Rattle.term_check.proofs.parts.Parting.{same-lengths}
 use Rattle.rounds.specs.tested.Tested.{Same}
 use Rattle.rounds.proofs.tested.Placing.{same-none, same-more}
 use Rattle.rounds.proofs.tested.Retesting.{retests-from}
-use Rattle.rounds.proofs.shrinking.Turning.{marked-less, Turning, turn-none, turn-more, turn-all}
+use Rattle.rounds.proofs.dropping.Gone.{search-less}
+use Rattle.rounds.proofs.shrinking.Turning.{Turning, turn-none, turn-more, turn-all}
 use borrow.Author.Needs.{needs}
 use Rattle.rounds.proofs.shrinking.turn.Statement.{statement}
 use Rattle.rounds.proofs.shrinking.turn.Tie as tie
@@ -36,7 +37,7 @@ next-marked-requires-2 : tie.Need-next-marked-requires-2 Inv-loop μ-loop
 next-marked-requires-2 c κs = search needs
 
 loop-less : tie.Need-loop-less Inv-loop μ-loop
-loop-less c = marked-less (c .next-marked2 .ensures) (c .before .before .before .before .before .before .before .before .before .before .before .loop-test .taken)
+loop-less c = search-less (λ l. let f = c .next-marked2 .ensures .found l in omega arith) (c .before .before .before .before .before .before .before .before .before .before .before .loop-test .taken)
 
 loop-again : tie.Need-loop-again Inv-loop μ-loop
 loop-again c =
