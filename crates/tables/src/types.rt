@@ -35,7 +35,10 @@ use records::fields::word_at;
 ghost use mathlib.Core.Path.{_≡_};
 ghost use Prim.Native.Nat.{_<_, _≤_};
 ghost use Rattle.index.specs.layout.Layout.{maxTypes, maxMembers};
-ghost use Rattle.tables.specs.types.Rows.{rowOf, goalOf, Room, FillsStates, CountsMembers, NearWith, AddsMember, FillsMembers, FillsArrow, FillsType, FillsTypes, FillsBindings};
+ghost use Rattle.tables.specs.types.Rows.{rowOf, goalOf, Room, FillsStates, CountsMembers, NearAmong, AddsMember, FillsMembers, FillsArrow, FillsType, FillsTypes, FillsBindings};
+
+// Of fewer members than these it is not said in which word they stand: they are looked up one by one.
+const FEW_MEMBERS: usize = 4;
 
 // The goal that type m is.
 fn goal_of(t: &[u16], m: usize) -> usize
@@ -72,26 +75,16 @@ fn members_in(len: usize) -> usize
     (len - 2) / 2
 }
 
-// What there is among members: the states as bits, and how many arrows; the word in which all of them stand as goals, and their bits
-// there.
+// What there is among members: the states as bits, and how many arrows.
 struct Among {
     states: u32,
     arrows: usize,
-    near: usize,
-    mask: u32,
 }
 
-// The word in which members stand, and one more; NONE for more than one word.
-fn near_with(near: usize, mask: u32, member: usize) -> usize
-    ensures { λ r. ⌜ NearWith near mask member r ⌝ }
-{
-    if mask == 0 {
-        return member / WORD;
-    }
-    if member / WORD == near {
-        return near;
-    }
-    NONE
+// The word in which members stand as goals, and their bits there.
+struct Near {
+    word: usize,
+    mask: u32,
 }
 
 // What there is among members, and one more.
@@ -99,22 +92,45 @@ fn with_member(among: Among, member: usize) -> Among
     requires { ⌜ among .arrows < maxMembers ⌝ }
     ensures { λ r. ⌜ AddsMember among member r ⌝ }
 {
-    let near = near_with(among.near, among.mask, member);
-    let mask = with_bit(among.mask, member);
     if member < MAX_STATES {
         return Among {
             states: with_bit(among.states, member),
             arrows: among.arrows,
-            near,
-            mask,
         };
     }
     Among {
         states: among.states,
         arrows: among.arrows + 1,
-        near,
-        mask,
     }
+}
+
+// The word in which all members of type m, an arrow, stand as goals, and their bits there; NONE for few members, or more than one word.
+fn near_members(t: &[u16], m: usize, many: usize) -> Near
+    requires { ⌜ (many ≤ maxMembers) × (m < maxTypes) ⌝ }
+    ensures { λ r. ⌜ NearAmong (now (t .entry)) (rowOf m) many (r .word) (r .mask) ⌝ }
+{
+    if many < FEW_MEMBERS {
+        return Near {
+            word: NONE,
+            mask: 0,
+        };
+    }
+    let row = row_at(MAX_STATES + m);
+    let word = place_at(t, row + MEMBERS) / WORD;
+    let mut mask: u32 = 0;
+    let mut j: usize = 0;
+    while j < many {
+        let member = place_at(t, row + (MEMBERS + j));
+        if member / WORD != word {
+            return Near {
+                word: NONE,
+                mask: 0,
+            };
+        }
+        mask = with_bit(mask, member);
+        j = j + 1;
+    }
+    Near { word, mask }
 }
 
 // Enters the members of type m, an arrow whose payload begins at a place and whose row is there, and returns what there is among them.
@@ -126,8 +142,6 @@ fn fill_members(file: &[u8], start: usize, many: usize, m: usize, t: &mut [u16])
     let mut among = Among {
         states: 0,
         arrows: 0,
-        near: 0,
-        mask: 0,
     };
     let mut j: usize = 0;
     while j < many {
@@ -154,9 +168,10 @@ fn fill_arrow(file: &[u8], start: usize, len: usize, m: usize, t: &mut [u16])
     t[row + MEMBER_STATES] = among.states as u16;
     t[row + ARROWS] = among.arrows as u16;
     t[row + MANY] = many as u16;
-    t[row + NEAR] = among.near as u16;
-    t[row + LOW] = (among.mask % 65536) as u16;
-    t[row + HIGH] = (among.mask / 65536) as u16;
+    let near = near_members(t, m, many);
+    t[row + NEAR] = near.word as u16;
+    t[row + LOW] = (near.mask % 65536) as u16;
+    t[row + HIGH] = (near.mask / 65536) as u16;
 }
 
 // Enters the row of type m, where the table has it.

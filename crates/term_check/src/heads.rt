@@ -36,13 +36,8 @@ use tables::reading::targets_of;
 ghost use mathlib.Core.Path.{_≡_};
 ghost use Prim.Native.Nat.{_/_, _^_, _≤_, _<_};
 ghost use mathlib.Core.Bool.{true};
-ghost use Rattle.index.specs.layout.Layout.{maxStates, noNumber};
-ghost use Rattle.tables.specs.reading.Cells.{offOf};
 ghost use Rattle.term_check.specs.Worlds.{caseOf, answersOf};
 ghost use Rattle.term_check.specs.heads.Heads.{IsCandidate, IsListed, Matches, IsTargets, Alone, Seen, AllHad, ArgsKnown, Wanted};
-
-// Fewer members than these are looked up one by one.
-const FEW_MEMBERS: usize = 4;
 
 // The type of binding c, which is in the set of a goal, where it is one of a nonterminal whose type with arrows off is the goal; else
 // NONE.
@@ -196,13 +191,10 @@ pub fn look(t: &[u16], r: &[u32], w: &[u32], at: usize) -> Outlook
     outlook_in(r, w, at, 0)
 }
 
-// Whether the term at a node is known to have all members of an arrow; that is not seen where they are few, or do not stand in one cell.
+// Whether the term at a node is known to have all members of an arrow; that is not seen where the table has no word in which they stand.
 pub fn all_had(t: &[u16], r: &[u32], w: &[u32], at: usize, ty: usize) -> bool
     ensures { λ s. ⌜ AllHad (caseOf (now (t .entry)) (now (r .entry))) (answersOf (now (r .entry)) (now (w .entry))) at ty s ⌝ }
 {
-    if many_of(t, ty) < FEW_MEMBERS {
-        return false;
-    }
     let near = near_of(t, ty);
     if near == NONE {
         return false;

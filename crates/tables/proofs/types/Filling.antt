@@ -18,7 +18,7 @@ use Rattle.tables.specs.Facts.{StateRow}
 use Rattle.tables.specs.Frames.{Within, Adds}
 use Rattle.tables.specs.declared.types.Among.{Among}
 use Rattle.tables.specs.reading.Cells.{rowAt, cellOf, endOf, memberOf, maskOf, symbolOf, ownOf, pairAt}
-use Rattle.tables.specs.types.Rows.{rowOf, goalOf, memberIn, Room, FillsStates, CountsMembers, FillsMembers, StatesAmong, ArrowsAmong, NearAmong, NearWith, AddsMember, ArrowSays, Low, FillsArrow, TypeSays, FillsType, FillsTypes, FillsBindings}
+use Rattle.tables.specs.types.Rows.{rowOf, goalOf, memberIn, Room, FillsStates, CountsMembers, FillsMembers, StatesAmong, ArrowsAmong, NearAmong, AddsMember, ArrowSays, Low, FillsArrow, TypeSays, FillsType, FillsTypes, FillsBindings}
 use Rattle.tables.proofs.Frames.{Put, within-none, within-then, within-wider, store-long, store-here, store-other, within-store, within-set, stores, row-apart, column-apart, other-row}
 
 -- The states.
@@ -71,15 +71,12 @@ module _ {before : List ℕ} {q : ℕ} {t : List ℕ} (so : StatesTo before q t)
   pub states-all : maxStates ≤ q → FillsStates before t
   states-all h = record { within = so .within; rows = λ l p k. so .rows l p (omega arith) }
 
--- The states among members, how many are arrows, and where all stand: none yet, and one member more.
+-- The states among members, and how many are arrows: none yet, and one member more.
 among-none : {t : List ℕ} {g : ℕ} → StatesAmong t g 0 0
 among-none = record { small = omega arith; in-set = λ j h. absurd (omega arith); only = λ q e. absurd (let z = zero-bit q in omega arith) }
 
 arrows-none : {t : List ℕ} {g : ℕ} → ArrowsAmong t g 0 0
 arrows-none = record { few = omega arith; none = λ e j h. absurd (omega arith) }
-
-near-none : {t : List ℕ} {g : ℕ} → NearAmong t g 0 0 0
-near-none = record { small = omega arith; fits = omega arith; none = λ e. refl; word = λ n j h. absurd (omega arith); bit = λ j h. absurd (omega arith) }
 
 module _ {t : List ℕ} {g j r : ℕ} (so : StatesAmong t g j r) (x : ℕ) (ex : memberOf t g j ≡ x) where
   among-put : x < maxStates → (r′ : ℕ) → Adds r x r′ → StatesAmong t g (j + 1) r′
@@ -110,29 +107,6 @@ module _ {t : List ℕ} {g j r : ℕ} (so : ArrowsAmong t g j r) where
       small : r ≡ 0 → (i : ℕ) → i < j + 1 → Dec (i ≡ j) → memberOf t g i < maxStates
       small e i k (yes z) = subst (λ y. y < maxStates) (ap (memberOf t g) (sym z)) l
       small e i k (no z) = let y : (i ≡ j → ⊥) = z in so .none e i (omega arith)
-
--- one member more, by the word in which it stands and its bit there; the mask is 0 where there is none before it
-module _ {t : List ℕ} {g j near mask x near′ mask′ : ℕ} (small : x < 65536) (is : NearWith near mask x near′) (bits : Adds mask x mask′) (ex : memberOf t g j ≡ x) where
-  add-near : NearAmong t g j near mask → NearAmong t g (j + 1) near′ mask′
-  add-near so =
-      record {
-        small = is .small small;
-        fits = bits .fits (so .fits);
-        none = λ e. absurd (let z : bitOf (x % wordBits) 0 ≡ 1 = subst (λ w. bitOf (x % wordBits) w ≡ 1) e (bits .turned) in let y = zero-bit (x % wordBits) in omega arith);
-        word = λ n i k. stand n i k (ℕ-discrete i j);
-        bit = λ i k. there i k (ℕ-discrete i j);
-      }
-    where
-      stand : (near′ ≡ noNumber → ⊥) → (i : ℕ) → i < j + 1 → Dec (i ≡ j) → memberOf t g i / wordBits ≡ near′
-      stand n i k (yes z) = ap (λ y. y / wordBits) (ap (memberOf t g) z ∙ ex) ∙ is .here n
-      stand n i k (no z) =
-          let y : (i ≡ j → ⊥) = z in
-          let e : near ≡ near′ = is .same n (λ w. let none = so .none w in omega arith) in
-          so .word (λ w. n (sym e ∙ w)) i (omega arith) ∙ e
-
-      there : (i : ℕ) → i < j + 1 → Dec (i ≡ j) → bitOf (memberOf t g i % wordBits) mask′ ≡ 1
-      there i k (yes z) = subst (λ y. bitOf (y % wordBits) mask′ ≡ 1) (sym ex ∙ ap (memberOf t g) (sym z)) (bits .turned)
-      there i k (no z) = let y : (i ≡ j → ⊥) = z in bits .grows (memberOf t g i % wordBits) (so .bit i (omega arith))
 
 -- one member more, by what it is
 module _ {t : List ℕ} {g j x : ℕ} {among after : Among} (is : AddsMember among x after) (ex : memberOf t g j ≡ x) where
@@ -171,9 +145,8 @@ near-kept {t} {after} {g} {many} {many′} {near} {near′} {mask} {mask′} sam
     record {
       small = omega arith;
       fits = omega arith;
-      none = λ e. sym em ∙ s .none (ek ∙ e);
       word = λ n j h. ap (λ x. x / wordBits) (same j (omega arith)) ∙ s .word (λ e. n (sym en ∙ e)) j (omega arith) ∙ en;
-      bit = λ j h. subst (λ x. bitOf (x % wordBits) mask′ ≡ 1) (sym (same j (omega arith))) (subst (λ x. bitOf (memberOf t g j % wordBits) x ≡ 1) ek (s .bit j (omega arith)));
+      bit = λ n j h. subst (λ x. bitOf (x % wordBits) mask′ ≡ 1) (sym (same j (omega arith))) (subst (λ x. bitOf (memberOf t g j % wordBits) x ≡ 1) ek (s .bit (λ e. n (sym en ∙ e)) j (omega arith)));
     }
 
 -- The members of an arrow.
@@ -187,14 +160,13 @@ pub record MembersTo (file : List ℕ) (start many m : ℕ) (before : List ℕ) 
   pub count : among .arrows ≤ j
   pub states-so : StatesAmong t (rowOf m) j (among .states)
   pub arrows-so : ArrowsAmong t (rowOf m) j (among .arrows)
-  pub near-so : NearAmong t (rowOf m) j (among .near) (among .mask)
 
-pub members-none : {file : List ℕ} {start many m : ℕ} {before : List ℕ} → many ≤ maxMembers → m < maxTypes → Room (rowOf m) before → MembersTo file start many m before 0 before (record { states = 0; arrows = 0; near = 0; mask = 0 })
-members-none few types room = record { upTo = omega arith; few = few; types = types; room = room; within = within-none; member = λ i h. absurd (omega arith); count = omega arith; states-so = among-none; arrows-so = arrows-none; near-so = near-none }
+pub members-none : {file : List ℕ} {start many m : ℕ} {before : List ℕ} → many ≤ maxMembers → m < maxTypes → Room (rowOf m) before → MembersTo file start many m before 0 before (record { states = 0; arrows = 0 })
+members-none few types room = record { upTo = omega arith; few = few; types = types; room = room; within = within-none; member = λ i h. absurd (omega arith); count = omega arith; states-so = among-none; arrows-so = arrows-none }
 
 module _ {file : List ℕ} {start many m : ℕ} {before : List ℕ} {j : ℕ} {t : List ℕ} {among : Among} (so : MembersTo file start many m before j t among) where
-  pub members-more : j < many → (row w goal : ℕ) → row ≡ rowAt (rowOf m) → w ≡ memberIn file start j → goal ≡ goalOf t w → goal < 65536 → {among′ : Among} → AddsMember among goal among′ → MembersTo file start many m before (j + 1) (set t (row + (membersCell + j)) goal) among′
-  members-more h row w goal er ew eg small is =
+  pub members-more : j < many → (row w goal : ℕ) → row ≡ rowAt (rowOf m) → w ≡ memberIn file start j → goal ≡ goalOf t w → {among′ : Among} → AddsMember among goal among′ → MembersTo file start many m before (j + 1) (set t (row + (membersCell + j)) goal) among′
+  members-more h row w goal er ew eg is =
       record {
         upTo = omega arith;
         few = so .few;
@@ -205,7 +177,6 @@ module _ {file : List ℕ} {start many m : ℕ} {before : List ℕ} {j : ℕ} {t
         count = omega (arith, is .few, so .count);
         states-so = add-states is (new j refl) (states-same old refl refl (so .states-so));
         arrows-so = add-arrows is (new j refl) (arrows-same old refl refl (so .arrows-so));
-        near-so = add-near small (is .near) (is .mask) (new j refl) (near-kept old refl refl refl (so .near-so));
       }
     where
       after : List ℕ
@@ -237,8 +208,42 @@ module _ {file : List ℕ} {start many m : ℕ} {before : List ℕ} {j : ℕ} {t
         member = λ i k. so .member i (omega arith);
         states-so = states-same (λ i k. refl) e refl (so .states-so);
         arrows-so = arrows-same (λ i k. refl) e refl (so .arrows-so);
-        near-so = near-kept (λ i k. refl) e refl refl (so .near-so);
       }
+
+-- Where the members of an arrow stand: nothing said of it, and the word and the bits of the first j.
+pub near-unsaid : {t : List ℕ} {g many : ℕ} → NearAmong t g many noNumber 0
+near-unsaid = record { small = omega arith; fits = omega arith; word = λ n. absurd (n refl); bit = λ n. absurd (n refl) }
+
+pub record NearTo (t : List ℕ) (m many j near mask : ℕ) : Type 0 where
+  pub upTo : j ≤ many
+  pub few : many ≤ maxMembers
+  pub so : NearAmong t (rowOf m) j near mask
+
+pub near-none : {t : List ℕ} {m many near : ℕ} → many ≤ maxMembers → near < 65536 → NearTo t m many 0 near 0
+near-none few small = record { upTo = omega arith; few = few; so = record { small = small; fits = omega arith; word = λ n i k. absurd (omega arith); bit = λ n i k. absurd (omega arith) } }
+
+module _ {t : List ℕ} {m many j near mask : ℕ} (to : NearTo t m many j near mask) where
+  pub near-more : j < many → (row x : ℕ) → row ≡ rowAt (rowOf m) → x ≡ getD t (row + (membersCell + j)) 0 → x / wordBits ≡ near → {mask′ : ℕ} → Adds mask x mask′ → NearTo t m many (j + 1) near mask′
+  near-more h row x er ex en {mask′} adds =
+      record {
+        upTo = omega arith;
+        few = to .few;
+        so = record { small = to .so .small; fits = adds .fits (to .so .fits); word = λ n i k. stand n i k (ℕ-discrete i j); bit = λ n i k. there n i k (ℕ-discrete i j) };
+      }
+    where
+      here : (i : ℕ) → i ≡ j → memberOf t (rowOf m) i ≡ x
+      here i z = let e : rowAt (rowOf m) + (membersCell + i % maxMembers) ≡ row + (membersCell + j) = omega (arith, to .few) in ap (λ y. getD t y 0) e ∙ sym ex
+
+      stand : (near ≡ noNumber → ⊥) → (i : ℕ) → i < j + 1 → Dec (i ≡ j) → memberOf t (rowOf m) i / wordBits ≡ near
+      stand n i k (yes z) = ap (λ y. y / wordBits) (here i z) ∙ en
+      stand n i k (no z) = let y : (i ≡ j → ⊥) = z in to .so .word n i (omega arith)
+
+      there : (near ≡ noNumber → ⊥) → (i : ℕ) → i < j + 1 → Dec (i ≡ j) → bitOf (memberOf t (rowOf m) i % wordBits) mask′ ≡ 1
+      there n i k (yes z) = subst (λ y. bitOf (y % wordBits) mask′ ≡ 1) (sym (here i z)) (adds .turned)
+      there n i k (no z) = let y : (i ≡ j → ⊥) = z in adds .grows (memberOf t (rowOf m) i % wordBits) (to .so .bit n i (omega arith))
+
+  pub near-all : many ≤ j → NearAmong t (rowOf m) many near mask
+  near-all h = let u = to .upTo in near-kept (λ i k. refl) (omega arith) refl refl (to .so)
 
 -- The bindings.
 pub record BindingsTo (file index : List ℕ) (bindings : ℕ) (before : List ℕ) (b : ℕ) (t : List ℕ) : Type 0 where
@@ -314,28 +319,32 @@ module _ {file index : List ℕ} {bindings : ℕ} {before : List ℕ} {b : ℕ} 
   pub bindings-all : bindings ≤ b → FillsBindings file index bindings before t
   bindings-all h = record { within = so .within; symbol = λ few l i k. so .symbol l i (omega arith); own = λ few l i k. so .own l i (omega arith) }
 
--- The row of an arrow.
+-- The row of an arrow: its first five cells, and then where its members stand.
+abbrev five : List ℕ → (row result end states arrows many : ℕ) → List ℕ
+five d row result end states arrows many = set (set (set (set (set d (row + 0) result) (row + 1) end) (row + 2) states) (row + 3) arrows) (row + 4) many
+
 module _ {file : List ℕ} {start len m : ℕ} {t : List ℕ} (types : m < maxTypes) (room : Room (rowOf m) t) where
   pub arrow-filled : (row w result end many : ℕ) → row ≡ rowAt (rowOf m) → w ≡ word file start → result ≡ goalOf t w → result < 65536 → end ≡ endOf t result → end < 65536 → CountsMembers len many → {d : List ℕ} {among : Among} → FillsMembers file start many m t d among
-      → FillsArrow file start len m t (set (set (set (set (set (set (set (set d (row + 0) result) (row + 1) end) (row + 2) (among .states)) (row + 3) (among .arrows)) (row + 4) many) (row + nearCell) (among .near)) (row + lowCell) (among .mask % 65536)) (row + highCell) (among .mask / 65536))
-  arrow-filled row w result end many er ew eg small ee small′ counts {d} {among} ms =
+      → {near mask : ℕ} → NearAmong (five d row result end (among .states) (among .arrows) many) (rowOf m) many near mask
+      → FillsArrow file start len m t (set (set (set (five d row result end (among .states) (among .arrows) many) (row + nearCell) near) (row + lowCell) (mask % 65536)) (row + highCell) (mask / 65536))
+  arrow-filled row w result end many er ew eg small ee small′ counts {d} {among} ms {near} {mask} ns =
       record {
         within = step;
-        goal-same = past (rowAt g + goalCell) (λ k l z. omega arith) (λ k l z. omega arith) ∙ ms .within .outside (rowAt g + goalCell) (λ x y. omega arith);
+        goal-same = past goalCell (omega arith) (λ i l z. omega arith) ∙ ms .within .outside (rowAt g + goalCell) (λ x y. omega arith);
         says = λ low.
             let lengths = room-of in
             record {
-              result = λ l. behind 0 (omega arith) ∙ other 0 (omega arith) ∙ other-two 0 (omega arith) ∙ store-other pb (rowAt g + 0) (λ z. omega arith) ∙ store-here pa small (omega arith) ∙ eg ∙ ap (goalOf t) ew ∙ sym (old (rowOf (word file start)) goalCell (omega arith) (omega arith));
+              result = λ l. first 0 (omega arith) ∙ other 0 (omega arith) ∙ other-two 0 (omega arith) ∙ store-other pb (rowAt g + 0) (λ z. omega arith) ∙ store-here pa small (omega arith) ∙ eg ∙ ap (goalOf t) ew ∙ sym (old (rowOf (word file start)) goalCell (omega arith) (omega arith));
               end = λ l.
                   let lw : w < m = omega arith in
                   let lg = low w lw in
                   let er′ : result ≡ goalOf last (word file start) = eg ∙ ap (goalOf t) ew ∙ sym (old (rowOf (word file start)) goalCell (omega arith) (omega arith)) in
-                  behind 1 (omega arith) ∙ other 1 (omega arith) ∙ other-two 1 (omega arith) ∙ store-here pb small′ (omega arith) ∙ ee ∙ sym (old result 1 (omega arith) (omega arith)) ∙ ap (endOf last) er′;
-              many = λ x y. behind 4 (omega arith) ∙ store-here pf (omega (arith, counts .few)) (omega arith) ∙ counts .many x y;
+                  first 1 (omega arith) ∙ other 1 (omega arith) ∙ other-two 1 (omega arith) ∙ store-here pb small′ (omega arith) ∙ ee ∙ sym (old result 1 (omega arith) (omega arith)) ∙ ap (endOf last) er′;
+              many = λ x y. first 4 (omega arith) ∙ store-here pf (omega (arith, counts .few)) (omega arith) ∙ counts .many x y;
               member = λ x y j k l. let q = counts .many x y in kept j ∙ ms .member j (omega arith) l ∙ sym (old (rowOf (memberIn file start j)) goalCell (omega arith) (omega arith));
-              states = λ x y. states-same (λ j k. kept j) (counts .many x y) (sym (behind 2 (omega arith) ∙ other 2 (omega arith) ∙ store-other pe (rowAt g + 2) (λ z. omega arith) ∙ store-here pc (ms .states-so .small) (omega arith))) (ms .states-so);
-              arrows = λ x y. arrows-same (λ j k. kept j) (counts .many x y) (sym (behind 3 (omega arith) ∙ other 3 (omega arith) ∙ store-here pe few-arrows (omega arith))) (ms .arrows-so);
-              near = λ x y. near-kept (λ j k. kept j) (counts .many x y) (sym near-there) (sym mask-there) (ms .near-so);
+              states = λ x y. states-same (λ j k. kept j) (counts .many x y) (sym (first 2 (omega arith) ∙ other 2 (omega arith) ∙ store-other pe (rowAt g + 2) (λ z. omega arith) ∙ store-here pc (ms .states-so .small) (omega arith))) (ms .states-so);
+              arrows = λ x y. arrows-same (λ j k. kept j) (counts .many x y) (sym (first 3 (omega arith) ∙ other 3 (omega arith) ∙ store-here pe few-arrows (omega arith))) (ms .arrows-so);
+              near = λ x y. near-kept (λ j k. behind (membersCell + j % maxMembers) (λ i l z. omega arith)) (counts .many x y) (sym near-there) (sym mask-there) ns;
             };
       }
     where
@@ -345,11 +354,11 @@ module _ {file : List ℕ} {start len m : ℕ} {t : List ℕ} (types : m < maxTy
       few-arrows : among .arrows < 65536
       few-arrows = omega (arith, counts .few, ms .arrows-so .few)
 
-      low-half : among .mask % 65536 < 65536
+      low-half : mask % 65536 < 65536
       low-half = omega arith
 
-      high-half : among .mask / 65536 < 65536
-      high-half = omega (arith, ms .near-so .fits)
+      high-half : mask / 65536 < 65536
+      high-half = omega (arith, ns .fits)
 
       a : List ℕ
       a = set d (row + 0) result
@@ -367,13 +376,13 @@ module _ {file : List ℕ} {start len m : ℕ} {t : List ℕ} (types : m < maxTy
       f = set e (row + 4) many
 
       n : List ℕ
-      n = set f (row + nearCell) (among .near)
+      n = set f (row + nearCell) near
 
       o : List ℕ
-      o = set n (row + lowCell) (among .mask % 65536)
+      o = set n (row + lowCell) (mask % 65536)
 
       last : List ℕ
-      last = set o (row + highCell) (among .mask / 65536)
+      last = set o (row + highCell) (mask / 65536)
 
       pa : Put d (rowAt g + 0) result a
       pa = record { is = stores d (row + 0) result small ∙ ap (λ x. stored d (x + 0) result) er }
@@ -390,14 +399,14 @@ module _ {file : List ℕ} {start len m : ℕ} {t : List ℕ} (types : m < maxTy
       pf : Put e (rowAt g + 4) many f
       pf = record { is = stores e (row + 4) many (omega (arith, counts .few)) ∙ ap (λ x. stored e (x + 4) many) er }
 
-      pn : Put f (rowAt g + nearCell) (among .near) n
-      pn = record { is = stores f (row + nearCell) (among .near) (ms .near-so .small) ∙ ap (λ x. stored f (x + nearCell) (among .near)) er }
+      pn : Put f (rowAt g + nearCell) near n
+      pn = record { is = stores f (row + nearCell) near (ns .small) ∙ ap (λ x. stored f (x + nearCell) near) er }
 
-      po : Put n (rowAt g + lowCell) (among .mask % 65536) o
-      po = record { is = stores n (row + lowCell) (among .mask % 65536) low-half ∙ ap (λ x. stored n (x + lowCell) (among .mask % 65536)) er }
+      po : Put n (rowAt g + lowCell) (mask % 65536) o
+      po = record { is = stores n (row + lowCell) (mask % 65536) low-half ∙ ap (λ x. stored n (x + lowCell) (mask % 65536)) er }
 
-      pl : Put o (rowAt g + highCell) (among .mask / 65536) last
-      pl = record { is = stores o (row + highCell) (among .mask / 65536) high-half ∙ ap (λ x. stored o (x + highCell) (among .mask / 65536)) er }
+      pl : Put o (rowAt g + highCell) (mask / 65536) last
+      pl = record { is = stores o (row + highCell) (mask / 65536) high-half ∙ ap (λ x. stored o (x + highCell) (mask / 65536)) er }
 
       step : Within (rowAt g) (rowAt g + rowCells) t last
       step =
@@ -426,23 +435,26 @@ module _ {file : List ℕ} {start len m : ℕ} {t : List ℕ} (types : m < maxTy
           let lo = store-long po in
           (omega arith, omega arith, omega arith)
 
-      near-there : cellOf last g nearCell ≡ among .near
-      near-there = let l = room-behind .0 in store-other pl (rowAt g + nearCell) (λ z. omega arith) ∙ store-other po (rowAt g + nearCell) (λ z. omega arith) ∙ store-here pn (ms .near-so .small) (omega arith)
+      near-there : cellOf last g nearCell ≡ near
+      near-there = let l = room-behind .0 in store-other pl (rowAt g + nearCell) (λ z. omega arith) ∙ store-other po (rowAt g + nearCell) (λ z. omega arith) ∙ store-here pn (ns .small) (omega arith)
 
-      mask-there : maskOf last g ≡ among .mask
+      mask-there : maskOf last g ≡ mask
       mask-there =
           let (l, l′, l″) = room-behind in
-          let x : cellOf last g lowCell ≡ among .mask % 65536 = store-other pl (rowAt g + lowCell) (λ z. omega arith) ∙ store-here po low-half (omega arith) in
-          let y : cellOf last g highCell ≡ among .mask / 65536 = store-here pl high-half (omega arith) in
+          let x : cellOf last g lowCell ≡ mask % 65536 = store-other pl (rowAt g + lowCell) (λ z. omega arith) ∙ store-here po low-half (omega arith) in
+          let y : cellOf last g highCell ≡ mask / 65536 = store-here pl high-half (omega arith) in
           omega arith
 
       -- earlier rows
       old : (i k : ℕ) → i < g → k < rowCells → cellOf last i k ≡ cellOf t i k
       old i k h l = other-row step i k (omega (arith, types)) (omega (arith, types)) l (λ z. omega arith)
 
-      -- the first five cells, those before the last one of these, those before the last three, the members
-      behind : (k : ℕ) → k < 5 → cellOf last g k ≡ cellOf f g k
-      behind k l = store-other pl (rowAt g + k) (λ z. omega arith) ∙ store-other po (rowAt g + k) (λ z. omega arith) ∙ store-other pn (rowAt g + k) (λ z. omega arith)
+      -- the cells that the last three stores leave, the first five, those before the last one of these, those before the last three, those that no store changes, the members
+      behind : (k : ℕ) → ((i : ℕ) → i < 3 → k ≡ nearCell + i → ⊥) → cellOf last g k ≡ cellOf f g k
+      behind k ne = store-other pl (rowAt g + k) (λ z. ne 2 (omega arith) (omega arith)) ∙ store-other po (rowAt g + k) (λ z. ne 1 (omega arith) (omega arith)) ∙ store-other pn (rowAt g + k) (λ z. ne 0 (omega arith) (omega arith))
+
+      first : (k : ℕ) → k < 5 → cellOf last g k ≡ cellOf f g k
+      first k l = behind k (λ i h z. omega arith)
 
       other : (k : ℕ) → k < 4 → cellOf f g k ≡ cellOf e g k
       other k l = store-other pf (rowAt g + k) (λ z. omega arith)
@@ -450,13 +462,13 @@ module _ {file : List ℕ} {start len m : ℕ} {t : List ℕ} (types : m < maxTy
       other-two : (k : ℕ) → k < 2 → cellOf e g k ≡ cellOf b g k
       other-two k l = store-other pe (rowAt g + k) (λ z. omega arith) ∙ store-other pc (rowAt g + k) (λ z. omega arith)
 
-      past : (i : ℕ) → ((k : ℕ) → k < 5 → i ≡ rowAt g + k → ⊥) → ((k : ℕ) → k < 3 → i ≡ rowAt g + (nearCell + k) → ⊥) → getD last i 0 ≡ getD d i 0
-      past i ne ne′ =
-          store-other pl i (ne′ 2 (omega arith)) ∙ store-other po i (ne′ 1 (omega arith)) ∙ store-other pn i (ne′ 0 (omega arith)) ∙ store-other pf i (ne 4 (omega arith)) ∙ store-other pe i (ne 3 (omega arith))
-          ∙ store-other pc i (ne 2 (omega arith)) ∙ store-other pb i (ne 1 (omega arith)) ∙ store-other pa i (ne 0 (omega arith))
+      past : (k : ℕ) → 5 ≤ k → ((i : ℕ) → i < 3 → k ≡ nearCell + i → ⊥) → cellOf last g k ≡ cellOf d g k
+      past k l ne =
+          behind k ne ∙ store-other pf (rowAt g + k) (λ z. omega arith) ∙ store-other pe (rowAt g + k) (λ z. omega arith) ∙ store-other pc (rowAt g + k) (λ z. omega arith) ∙ store-other pb (rowAt g + k) (λ z. omega arith)
+          ∙ store-other pa (rowAt g + k) (λ z. omega arith)
 
       kept : (j : ℕ) → memberOf last g j ≡ memberOf d g j
-      kept j = past (rowAt g + (membersCell + j % maxMembers)) (λ k l z. omega arith) (λ k l z. omega arith)
+      kept j = past (membersCell + j % maxMembers) (omega arith) (λ i l z. omega arith)
 
 -- The row of a type.
 pub type-far : {file index : List ℕ} {m : ℕ} {t : List ℕ} (row : ℕ) → row ≡ rowAt (rowOf m) → length t < row + rowCells → FillsType file index m t t

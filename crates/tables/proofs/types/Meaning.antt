@@ -138,7 +138,7 @@ module _ {file index : List ℕ} {n : ℕ} {rs : List Record} (w : Listed file i
                   let (j, k, f) = mem-place (members a) (arrow b σ) (state 0) m in
                   let l = s .arrows two short .none z j (omega arith) in
                   state-not-arrow (memberOf t (rowOf i) j) b σ (sym (goal-state (member j k) l) ∙ f);
-              near = λ n j k. (s .near two short .word n j (omega arith), s .near two short .bit j (omega arith));
+              near = λ n j k. (s .near two short .word n j (omega arith), s .near two short .bit n j (omega arith));
             }
 
     done-next : Done rs t i

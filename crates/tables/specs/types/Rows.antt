@@ -48,27 +48,18 @@ pub record ArrowsAmong (t : List ℕ) (g many r : ℕ) : Type 0 where
   pub few : r ≤ many
   pub none : r ≡ 0 → (j : ℕ) → j < many → memberOf t g j < maxStates
 
--- the word in which all of the first members of a goal stand, where it is a number, and the bits of them all
+-- the word in which all of the first members of a goal stand, and their bits there, where it is a number
 pub record NearAmong (t : List ℕ) (g many near mask : ℕ) : Type 0 where
   pub small : near < 65536
   pub fits : mask < 4294967296
-  pub none : mask ≡ 0 → many ≡ 0
   pub word : (near ≡ noNumber → ⊥) → (j : ℕ) → j < many → memberOf t g j / wordBits ≡ near
-  pub bit : (j : ℕ) → j < many → bitOf (memberOf t g j % wordBits) mask ≡ 1
-
--- the word in which members stand, with one member more; the mask says whether there are any before it
-pub record NearWith (near mask x r : ℕ) : Type 0 where
-  pub small : x < 65536 → r < 65536
-  pub here : (r ≡ noNumber → ⊥) → x / wordBits ≡ r
-  pub same : (r ≡ noNumber → ⊥) → (mask ≡ 0 → ⊥) → near ≡ r
+  pub bit : (near ≡ noNumber → ⊥) → (j : ℕ) → j < many → bitOf (memberOf t g j % wordBits) mask ≡ 1
 
 -- what there is among members, with one member more
 pub record AddsMember (among : Among) (x : ℕ) (after : Among) : Type 0 where
   pub few : after .arrows ≤ among .arrows + 1
   pub state : x < maxStates → Adds (among .states) x (after .states) × (after .arrows ≡ among .arrows)
   pub arrow : maxStates ≤ x → (after .states ≡ among .states) × (after .arrows ≡ among .arrows + 1)
-  pub near : NearWith (among .near) (among .mask) x (after .near)
-  pub mask : Adds (among .mask) x (after .mask)
 
 -- the members of type m, and what there is among them
 pub record FillsMembers (file : List ℕ) (start many m : ℕ) (before after : List ℕ) (among : Among) : Type 0 where
@@ -76,7 +67,6 @@ pub record FillsMembers (file : List ℕ) (start many m : ℕ) (before after : L
   pub member : (j : ℕ) → j < many → memberIn file start j < m → memberOf after (rowOf m) j ≡ goalOf before (memberIn file start j)
   pub states-so : StatesAmong after (rowOf m) many (among .states)
   pub arrows-so : ArrowsAmong after (rowOf m) many (among .arrows)
-  pub near-so : NearAmong after (rowOf m) many (among .near) (among .mask)
 
 -- the row of an arrow, type m, whose payload begins at a place and has a length: its parts are those of earlier rows, where they are earlier
 pub record ArrowSays (file : List ℕ) (start len m : ℕ) (t : List ℕ) : Type 0 where

@@ -87,47 +87,50 @@ mul-t-5 c = search needs
 slice-write-t-5 : tie.Need-slice-write-t-5
 slice-write-t-5 c = simp length-set (omega (arith, c .before .before .before .before .before .before .before .before .before .before .before .before .before .before .before .pre .2, c .before .before .before .before .before .before .before .before .before .before .before .before .row-at .ensures .0, c .before .before .before .before .fill-members .ensures .within .long))
 
+near-members-requires : tie.Need-near-members-requires
+near-members-requires c κs = search needs
+
 cast-t-6 : tie.Need-cast-t-6
-cast-t-6 c = omega (arith, c .before .before .before .before .before .fill-members .ensures .near-so .small)
+cast-t-6 c = search needs
 
 add-t-6 : tie.Need-add-t-6
-add-t-6 c = omega (arith, c .before .before .before .before .before .before .before .before .before .before .before .before .before .row-at .ensures .1)
+add-t-6 c = search needs
 
 mul-t-6 : tie.Need-mul-t-6
-mul-t-6 c = omega (arith, c .before .before .before .before .before .before .before .before .before .before .before .before .before .row-at .ensures .1)
+mul-t-6 c = search needs
 
 slice-write-t-6 : tie.Need-slice-write-t-6
-slice-write-t-6 c = simp length-set (omega (arith, c .before .before .before .before .before .before .before .before .before .before .before .before .before .before .before .before .pre .2, c .before .before .before .before .before .before .before .before .before .before .before .before .before .row-at .ensures .0, c .before .before .before .before .before .fill-members .ensures .within .long))
+slice-write-t-6 c = simp length-set (omega (arith, c .before .before .before .before .before .before .before .before .before .before .before .before .before .before .before .before .before .before .pre .2, c .before .before .before .before .before .before .before .before .before .before .before .before .before .before .before .row-at .ensures .0, c .before .before .before .before .before .before .before .fill-members .ensures .within .long))
 
 cast-t-7 : tie.Need-cast-t-7
-cast-t-7 c = omega arith
+cast-t-7 c = search needs
 
 add-t-7 : tie.Need-add-t-7
-add-t-7 c = omega (arith, c .before .before .before .before .before .before .before .before .before .before .before .before .before .before .row-at .ensures .1)
+add-t-7 c = search needs
 
 mul-t-7 : tie.Need-mul-t-7
-mul-t-7 c = omega (arith, c .before .before .before .before .before .before .before .before .before .before .before .before .before .before .row-at .ensures .1)
+mul-t-7 c = search needs
 
 slice-write-t-7 : tie.Need-slice-write-t-7
-slice-write-t-7 c = simp length-set (omega (arith, c .before .before .before .before .before .before .before .before .before .before .before .before .before .before .before .before .before .pre .2, c .before .before .before .before .before .before .before .before .before .before .before .before .before .before .row-at .ensures .0, c .before .before .before .before .before .before .fill-members .ensures .within .long))
+slice-write-t-7 c = simp length-set (omega (arith, c .before .before .before .before .before .before .before .before .before .before .before .before .before .before .before .before .before .before .before .pre .2, c .before .before .before .before .before .before .before .before .before .before .before .before .before .before .before .before .row-at .ensures .0, c .before .before .before .before .before .before .before .before .fill-members .ensures .within .long))
 
 cast-t-8 : tie.Need-cast-t-8
-cast-t-8 c = omega (arith, c .before .before .before .before .before .before .before .fill-members .ensures .near-so .fits)
+cast-t-8 c = search needs
 
 add-t-8 : tie.Need-add-t-8
-add-t-8 c = omega (arith, c .before .before .before .before .before .before .before .before .before .before .before .before .before .before .before .row-at .ensures .1)
+add-t-8 c = search needs
 
 mul-t-8 : tie.Need-mul-t-8
-mul-t-8 c = omega (arith, c .before .before .before .before .before .before .before .before .before .before .before .before .before .before .before .row-at .ensures .1)
+mul-t-8 c = search needs
 
 slice-write-t-8 : tie.Need-slice-write-t-8
-slice-write-t-8 c = simp length-set (omega (arith, c .before .before .before .before .before .before .before .before .before .before .before .before .before .before .before .before .before .before .pre .2, c .before .before .before .before .before .before .before .before .before .before .before .before .before .before .before .row-at .ensures .0, c .before .before .before .before .before .before .before .fill-members .ensures .within .long))
+slice-write-t-8 c = simp length-set (omega (arith, c .before .before .before .before .before .before .before .before .before .before .before .before .before .before .before .before .before .before .before .before .pre .2, c .before .before .before .before .before .before .before .before .before .before .before .before .before .before .before .before .before .row-at .ensures .0, c .before .before .before .before .before .before .before .before .before .fill-members .ensures .within .long))
 
 same-length : tie.Need-same-length
-same-length c = simp length-set (c .before .before .before .before .before .before .before .fill-members .ensures .within .long)
+same-length c = simp length-set (c .before .before .before .before .before .before .before .before .before .fill-members .ensures .within .long)
 
 returns : tie.Need-returns
-returns c = arrow-filled (c .before .before .before .before .before .before .before .before .before .before .before .before .before .before .before .before .before .before .pre .1) (c .before .before .before .before .before .before .before .before .before .before .before .before .before .before .before .before .before .before .pre .2) _ _ _ _ _ (c .before .before .before .before .before .before .before .before .before .before .before .before .before .before .before .row-at .ensures .0) (c .before .before .before .before .before .before .before .before .before .before .before .before .before .word-at .ensures .value) (c .before .before .before .before .before .before .before .before .before .before .before .before .goal-of .ensures .0) (c .before .before .before .before .before .before .before .before .before .before .before .before .goal-of .ensures .1) (c .before .before .before .before .before .before .before .before .before .before .end-of .ensures .0) (c .before .before .before .before .before .before .before .before .before .before .end-of .ensures .1) (c .before .before .before .before .before .before .before .before .before .members-in .ensures) (c .before .before .before .before .before .before .before .fill-members .ensures)
+returns c = arrow-filled (c .before .before .before .before .before .before .before .before .before .before .before .before .before .before .before .before .before .before .before .before .pre .1) (c .before .before .before .before .before .before .before .before .before .before .before .before .before .before .before .before .before .before .before .before .pre .2) _ _ _ _ _ (c .before .before .before .before .before .before .before .before .before .before .before .before .before .before .before .before .before .row-at .ensures .0) (c .before .before .before .before .before .before .before .before .before .before .before .before .before .before .before .word-at .ensures .value) (c .before .before .before .before .before .before .before .before .before .before .before .before .before .before .goal-of .ensures .0) (c .before .before .before .before .before .before .before .before .before .before .before .before .before .before .goal-of .ensures .1) (c .before .before .before .before .before .before .before .before .before .before .before .before .end-of .ensures .0) (c .before .before .before .before .before .before .before .before .before .before .before .before .end-of .ensures .1) (c .before .before .before .before .before .before .before .before .before .before .before .members-in .ensures) (c .before .before .before .before .before .before .before .before .before .fill-members .ensures) (c .before .before .before .near-members .ensures)
 
 pub fill-arrow-spec : {M : Type 1} → statement M
 fill-arrow-spec =
@@ -160,6 +163,7 @@ fill-arrow-spec =
     add-t-5
     mul-t-5
     slice-write-t-5
+    near-members-requires
     cast-t-6
     add-t-6
     mul-t-6

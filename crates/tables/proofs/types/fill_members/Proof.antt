@@ -61,7 +61,7 @@ loop-less : tie.Need-loop-less Inv-loop μ-loop
 loop-less c = omega (arith, c .before .before .before .before .loop-test .taken)
 
 loop-again : tie.Need-loop-again Inv-loop μ-loop
-loop-again c = members-more (c .before .before .before .before .before .loop .inv) (c .before .before .before .before .loop-test .taken) _ _ _ (c .before .before .before .before .before .before .row-at .ensures .0) (c .before .before .word-at .ensures .value) (c .before .goal-of .ensures .0) (c .before .goal-of .ensures .1) (c .with-member .ensures)
+loop-again c = members-more (c .before .before .before .before .before .loop .inv) (c .before .before .before .before .loop-test .taken) _ _ _ (c .before .before .before .before .before .before .row-at .ensures .0) (c .before .before .word-at .ensures .value) (c .before .goal-of .ensures .0) (c .with-member .ensures)
 
 same-length : tie.Need-same-length Inv-loop μ-loop
 same-length c = c .before .loop .inv .within .long

@@ -5,17 +5,11 @@ use Rattle.term_check.proofs.heads.Looking.{had-unseen, had-seen}
 use Rattle.term_check.proofs.heads.all_had.Statement.{statement}
 use Rattle.term_check.proofs.heads.all_had.Tie as tie
 
-many-of-requires : tie.Need-many-of-requires
-many-of-requires c κs = search needs
-
-returns : tie.Need-returns
-returns c = had-unseen _ _ _ _ refl
-
 near-of-requires : tie.Need-near-of-requires
 near-of-requires c κs = search needs
 
-returns-2 : tie.Need-returns-2
-returns-2 c = had-unseen _ _ _ _ refl
+returns : tie.Need-returns
+returns c = had-unseen _ _ _ _ refl
 
 mul-outlook-in : tie.Need-mul-outlook-in
 mul-outlook-in c = search needs
@@ -29,19 +23,17 @@ mask-of-requires c κs = search needs
 left-of-requires : tie.Need-left-of-requires
 left-of-requires c κs = search needs
 
-returns-3 : tie.Need-returns-3
-returns-3 c = had-seen _ _ _ _ _ _ _ _ (c .before .before .before .before .near-of .ensures .0) (c .before .before .before .if2 .left) (c .before .mask-of .ensures) (c .before .before .outlook-in .ensures) (c .left-of .ensures)
+returns-2 : tie.Need-returns-2
+returns-2 c = had-seen _ _ _ _ _ _ _ _ (c .before .before .before .before .near-of .ensures .0) (c .before .before .before .if1 .left) (c .before .mask-of .ensures) (c .before .before .outlook-in .ensures) (c .left-of .ensures)
 
 pub all-had-spec : {M : Type 1} → statement M
 all-had-spec =
     tie.close
     (tie.spec
-    many-of-requires
-    returns
     near-of-requires
-    returns-2
+    returns
     mul-outlook-in
     outlook-in-requires
     mask-of-requires
     left-of-requires
-    returns-3)
+    returns-2)
