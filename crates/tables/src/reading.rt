@@ -94,7 +94,7 @@ pub fn member_of(t: &[u16], goal: usize, j: usize) -> usize
     )
 }
 
-// The word in which all members of a goal stand as goals; NONE where they stand in more than one.
+// The word in which all members of a goal stand as goals; NONE where they stand in more than one, or are few.
 pub fn near_of(t: &[u16], goal: usize) -> usize
     ensures { λ r. ⌜ (r ≡ nearOf (now (t .entry)) goal) × (r < 65536) ⌝ }
 {

@@ -19,7 +19,7 @@ use Rattle.tables.specs.Frames.{Within, Adds}
 use Rattle.tables.specs.declared.types.Among.{Among}
 use Rattle.tables.specs.reading.Cells.{rowAt, cellOf, endOf, memberOf, maskOf, symbolOf, ownOf, pairAt}
 use Rattle.tables.specs.types.Rows.{rowOf, goalOf, memberIn, Room, FillsStates, CountsMembers, FillsMembers, StatesAmong, ArrowsAmong, NearAmong, AddsMember, ArrowSays, Low, FillsArrow, TypeSays, FillsType, FillsTypes, FillsBindings}
-use Rattle.tables.proofs.Frames.{Put, within-none, within-then, within-wider, store-long, store-here, store-other, within-store, within-set, stores, row-apart, column-apart, other-row}
+use Rattle.tables.proofs.Frames.{Put, within-none, within-then, within-wider, store-long, store-here, store-other, within-store, within-set, stores, other-row}
 
 -- The states.
 pub record StatesTo (before : List ℕ) (q : ℕ) (t : List ℕ) : Type 0 where
