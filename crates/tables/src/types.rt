@@ -38,7 +38,7 @@ ghost use Rattle.index.specs.layout.Layout.{maxTypes, maxMembers};
 ghost use Rattle.tables.specs.types.Rows.{rowOf, goalOf, Room, FillsStates, CountsMembers, NearAmong, AddsMember, FillsMembers, FillsArrow, FillsType, FillsTypes, FillsBindings};
 
 // Of fewer members than these it is not said in which word they stand: they are looked up one by one.
-const FEW_MEMBERS: usize = 4;
+const FEW_MEMBERS: usize = 8;
 
 // The goal that type m is.
 fn goal_of(t: &[u16], m: usize) -> usize

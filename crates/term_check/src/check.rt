@@ -336,7 +336,7 @@ fn find_bound(t: &[u16], r: &[u32], w: &mut [u32], at: usize, asked: u32, node: 
         if ty == NONE {
             return had;
         }
-        if !check_args(&*t, &*r, w, at + 1, node.count, ty) {
+        if !args_again(&*t, &*r, w, at + 1, node.count, ty) {
             return had;
         }
         note_in(r, w, c);

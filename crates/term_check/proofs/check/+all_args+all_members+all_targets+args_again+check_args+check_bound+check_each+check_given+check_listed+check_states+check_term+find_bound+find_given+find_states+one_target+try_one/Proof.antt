@@ -359,7 +359,7 @@ check-term-claims t =
 
 abbrev find-bound-claims : ℕ → find-bound-lts.Claims
 find-bound-claims t =
-    (lowest-reads.Asked, lowest-reads.Learnt, node-hint-reads.Asked, node-hint-reads.Learnt, candidate-reads.Asked, candidate-reads.Learnt, check-args-below t, check-args.Post, note-in-reads.Asked, note-in-reads.Learnt, with-bit-reads.Asked, with-bit-reads.Learnt, without-bit-reads.Asked, without-bit-reads.Learnt)
+    (lowest-reads.Asked, lowest-reads.Learnt, node-hint-reads.Asked, node-hint-reads.Learnt, candidate-reads.Asked, candidate-reads.Learnt, args-again-below t, args-again.Post, note-in-reads.Asked, note-in-reads.Learnt, with-bit-reads.Asked, with-bit-reads.Learnt, without-bit-reads.Asked, without-bit-reads.Learnt)
 
 abbrev find-given-claims : ℕ → find-given-lts.Claims
 find-given-claims t =
@@ -985,17 +985,17 @@ find-bound-same-length t c = c .before .before .before .before .before .before .
 find-bound-returns : (t : ℕ) → find-bound-lts.Need-returns (find-bound-claims t) (find-bound-at t) find-bound.Post find-bound-Inv-loop find-bound-μ-loop
 find-bound-returns t c = c .before .before .before .before .before .before .loop .inv
 
-find-bound-add-check-args : (t : ℕ) → find-bound-lts.Need-add-check-args (find-bound-claims t) (find-bound-at t) find-bound.Post find-bound-Inv-loop find-bound-μ-loop
-find-bound-add-check-args t c = let h = c .before .before .before .before .before .before .before .before .before .before .before .pre .1 in omega arith
+find-bound-add-args-again : (t : ℕ) → find-bound-lts.Need-add-args-again (find-bound-claims t) (find-bound-at t) find-bound.Post find-bound-Inv-loop find-bound-μ-loop
+find-bound-add-args-again t c = let h = c .before .before .before .before .before .before .before .before .before .before .before .pre .1 in omega arith
 
-find-bound-check-args-requires : (t : ℕ) → find-bound-lts.Need-check-args-requires (find-bound-claims t) (find-bound-at t) find-bound.Post find-bound-Inv-loop find-bound-μ-loop
-find-bound-check-args-requires t c κs = let p = c .before .before .before .before .before .before .before .before .before .before .before .pre .0 in let h = c .before .before .before .before .before .before .before .before .before .before .before .pre .1 in (omega arith, Prim.tt)
+find-bound-args-again-requires : (t : ℕ) → find-bound-lts.Need-args-again-requires (find-bound-claims t) (find-bound-at t) find-bound.Post find-bound-Inv-loop find-bound-μ-loop
+find-bound-args-again-requires t c κs = let p = c .before .before .before .before .before .before .before .before .before .before .before .pre .0 in let h = c .before .before .before .before .before .before .before .before .before .before .before .pre .1 in (omega arith, Prim.tt)
 
 find-bound-same-length-2 : (t : ℕ) → find-bound-lts.Need-same-length-2 (find-bound-claims t) (find-bound-at t) find-bound.Post find-bound-Inv-loop find-bound-μ-loop
-find-bound-same-length-2 t c = c .before .before .before .check-args .ensures .0 ∙ c .before .before .before .before .before .before .before .before .before .before .before .loop .inv .0
+find-bound-same-length-2 t c = c .before .before .before .args-again .ensures .0 ∙ c .before .before .before .before .before .before .before .before .before .before .before .loop .inv .0
 
 find-bound-returns-2 : (t : ℕ) → find-bound-lts.Need-returns-2 (find-bound-claims t) (find-bound-at t) find-bound.Post find-bound-Inv-loop find-bound-μ-loop
-find-bound-returns-2 t c = (c .before .before .before .check-args .ensures .0 ∙ c .before .before .before .before .before .before .before .before .before .before .before .loop .inv .0, λ ea et. finds-on _ _ _ _ (c .before .before .before .before .before .before .before .before .before .before .before .loop .inv .1 ea et) (c .before .before .before .check-args .ensures .1 .keeps))
+find-bound-returns-2 t c = (c .before .before .before .args-again .ensures .0 ∙ c .before .before .before .before .before .before .before .before .before .before .before .loop .inv .0, λ ea et. finds-on _ _ _ _ (c .before .before .before .before .before .before .before .before .before .before .before .loop .inv .1 ea et) (c .before .before .before .args-again .ensures .1 .keeps))
 
 find-bound-note-in-requires : (t : ℕ) → find-bound-lts.Need-note-in-requires (find-bound-claims t) (find-bound-at t) find-bound.Post find-bound-Inv-loop find-bound-μ-loop
 find-bound-note-in-requires t c κs = search needs
@@ -1010,7 +1010,7 @@ find-bound-loop-less : (t : ℕ) → find-bound-lts.Need-loop-less (find-bound-c
 find-bound-loop-less t c = c .without-bit .ensures .less (c .before .before .before .before .before .before .before .before .before .before .before .before .before .before .before .lowest .ensures .within (c .before .before .before .before .before .before .before .before .before .before .before .before .before .before .before .before .loop-test .taken)) (c .before .before .before .before .before .before .before .before .before .before .before .before .before .before .before .lowest .ensures .has (c .before .before .before .before .before .before .before .before .before .before .before .before .before .before .before .before .loop-test .taken))
 
 find-bound-loop-again : (t : ℕ) → find-bound-lts.Need-loop-again (find-bound-claims t) (find-bound-at t) find-bound.Post find-bound-Inv-loop find-bound-μ-loop
-find-bound-loop-again t c = (c .before .before .before .before .note-in .ensures .0 ∙ c .before .before .before .before .before .before .before .before .before .check-args .ensures .0 ∙ c .before .before .before .before .before .before .before .before .before .before .before .before .before .before .before .before .before .loop .inv .0, λ ea et. let told = tries-moved _ _ _ _ _ _ _ _ _ _ _ _ (c .before .before .before .before .note-in .ensures .1) refl (try-serves _ _ _ _ _ _ _ _ (c .before .before .before .before .before .before .before .before .before .before .before .before .candidate .ensures) (c .before .before .before .before .before .before .before .before .before .before .before .if1 .left) ((c .before .before .before .before .before .before .before .before .before .before .before .before .before .before .before .before .before .before .before .before .before .args .at) + 1) (omega arith) _ _ _ (c .before .before .before .before .before .before .before .before .before .check-args .ensures .1) (not-false _ (c .before .before .before .before .before .before .if2 .left)) _ (c .before .before .before .before .note-in .ensures .2)) ea et in finds-more _ _ _ _ (c .before .before .before .before .before .before .before .before .before .before .before .before .before .before .before .before .before .loop .inv .1 ea et) (told .keeps) _ _ (c .before .before .before .before .before .before .before .before .before .before .before .before .before .before .before .lowest .ensures .within (c .before .before .before .before .before .before .before .before .before .before .before .before .before .before .before .before .loop-test .taken)) (c .before .with-bit .ensures) (told .yes refl))
+find-bound-loop-again t c = (c .before .before .before .before .note-in .ensures .0 ∙ c .before .before .before .before .before .before .before .before .before .args-again .ensures .0 ∙ c .before .before .before .before .before .before .before .before .before .before .before .before .before .before .before .before .before .loop .inv .0, λ ea et. let told = tries-moved _ _ _ _ _ _ _ _ _ _ _ _ (c .before .before .before .before .note-in .ensures .1) refl (try-serves _ _ _ _ _ _ _ _ (c .before .before .before .before .before .before .before .before .before .before .before .before .candidate .ensures) (c .before .before .before .before .before .before .before .before .before .before .before .if1 .left) ((c .before .before .before .before .before .before .before .before .before .before .before .before .before .before .before .before .before .before .before .before .before .args .at) + 1) (omega arith) _ _ _ (c .before .before .before .before .before .before .before .before .before .args-again .ensures .1) (not-false _ (c .before .before .before .before .before .before .if2 .left)) _ (c .before .before .before .before .note-in .ensures .2)) ea et in finds-more _ _ _ _ (c .before .before .before .before .before .before .before .before .before .before .before .before .before .before .before .before .before .loop .inv .1 ea et) (told .keeps) _ _ (c .before .before .before .before .before .before .before .before .before .before .before .before .before .before .before .lowest .ensures .within (c .before .before .before .before .before .before .before .before .before .before .before .before .before .before .before .before .loop-test .taken)) (c .before .with-bit .ensures) (told .yes refl))
 
 find-bound-same-length-3 : (t : ℕ) → find-bound-lts.Need-same-length-3 (find-bound-claims t) (find-bound-at t) find-bound.Post find-bound-Inv-loop find-bound-μ-loop
 find-bound-same-length-3 t c = c .before .loop .inv .0
@@ -1402,8 +1402,8 @@ pub +all-args+all-members+all-targets+args-again+check-args+check-bound+check-ea
     (find-bound-candidate-requires t)
     (find-bound-same-length t)
     (find-bound-returns t)
-    (find-bound-add-check-args t)
-    (find-bound-check-args-requires t)
+    (find-bound-add-args-again t)
+    (find-bound-args-again-requires t)
     (find-bound-same-length-2 t)
     (find-bound-returns-2 t)
     (find-bound-note-in-requires t)
