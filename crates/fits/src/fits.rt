@@ -1,7 +1,7 @@
 // The fit of types to sorts, as a table with a row of words for each type.
 use crate::masks::enter_sorts;
 use crate::masks::mask_at;
-use crate::masks::union_of;
+use crate::masks::unions_of;
 use index::entries::place_at;
 use index::layout::ALL_SORTS;
 use index::layout::FIT_ARGUMENTS;
@@ -65,12 +65,11 @@ fn row_of(
         };
     }
     let sorts = arrow_sorts(file, place, len, fit);
-    let results = union_of(tos, sorts);
-    let arguments = union_of(froms, sorts);
+    let unions = unions_of(tos, froms, sorts);
     Row {
         sorts,
-        results,
-        arguments,
+        results: unions.results,
+        arguments: unions.arguments,
     }
 }
 

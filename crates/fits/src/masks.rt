@@ -39,16 +39,24 @@ pub(crate) fn enter_sorts(
     }
 }
 
-// The union of the words that a table has for the sorts of a word.
-pub(crate) fn union_of(masks: &SortMasks, word: u64) -> u64
-    ensures { λ r. ⌜ Unites (now (masks .entry)) word r ⌝ }
+// The unions of the words that two tables have for the sorts of a word: of the table by results, and of that by arguments.
+pub(crate) struct Unions {
+    pub results: u64,
+    pub arguments: u64,
+}
+
+// Both unions, with one look at each sort of the word.
+pub(crate) fn unions_of(tos: &SortMasks, froms: &SortMasks, word: u64) -> Unions
+    ensures { λ r. ⌜ Unites (now (tos .entry)) word (r .results) × Unites (now (froms .entry)) word (r .arguments) ⌝ }
 {
-    let mut out: u64 = 0;
+    let mut results: u64 = 0;
+    let mut arguments: u64 = 0;
     let mut left = word;
     while left != 0 {
         let i = u64::trailing_zeros(left) as usize;
-        out = out | masks[i + 1];
+        results = results | tos[i + 1];
+        arguments = arguments | froms[i + 1];
         left = left & (left - 1);
     }
-    out
+    Unions { results, arguments }
 }

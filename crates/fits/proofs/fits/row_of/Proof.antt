@@ -13,11 +13,11 @@ place-at-requires c κs = search needs
 length-at-requires : tie.Need-length-at-requires
 length-at-requires c κs = search needs
 
-element-copy-out-t16 : tie.Need-element-copy-out-t16
-element-copy-out-t16 c = search needs
+element-copy-out-t15 : tie.Need-element-copy-out-t15
+element-copy-out-t15 c = search needs
 
-element-copy-out-t19 : tie.Need-element-copy-out-t19
-element-copy-out-t19 c = search needs
+element-copy-out-t18 : tie.Need-element-copy-out-t18
+element-copy-out-t18 c = search needs
 
 returns : tie.Need-returns
 returns c =
@@ -28,18 +28,16 @@ returns c =
 arrow-sorts-requires : tie.Need-arrow-sorts-requires
 arrow-sorts-requires c κs = search needs
 
-union-of-requires : tie.Need-union-of-requires
-union-of-requires c κs = search needs
-
-union-of-requires-2 : tie.Need-union-of-requires-2
-union-of-requires-2 c κs = search needs
+unions-of-requires : tie.Need-unions-of-requires
+unions-of-requires c κs = search needs
 
 returns-2 : tie.Need-returns-2
 returns-2 c =
-    let w = c .before .before .before .before in
+    let w = c .before .before .before in
     let a = w .before .before .before .before .before .args in
-    row-arrow _ _ (a .froms .now) (a .tos .now) _ _ _ (a .fit .now) (w .before .place-at .ensures .value) (w .length-at .ensures) (c .before .before .before .if1 .left) _ _ _
-    (c .before .before .arrow-sorts .ensures) (c .before .union-of .ensures) (c .union-of2 .ensures)
+    let u = c .unions-of .ensures in
+    row-arrow _ _ (a .froms .now) (a .tos .now) _ _ _ (a .fit .now) (w .before .place-at .ensures .value) (w .length-at .ensures) (c .before .before .if1 .left) _ _ _
+    (c .before .arrow-sorts .ensures) (u .0) (u .1)
 
 pub row-of-spec : {M : Type 1} → statement M
 row-of-spec =
@@ -48,10 +46,9 @@ row-of-spec =
     add-place-at
     place-at-requires
     length-at-requires
-    element-copy-out-t16
-    element-copy-out-t19
+    element-copy-out-t15
+    element-copy-out-t18
     returns
     arrow-sorts-requires
-    union-of-requires
-    union-of-requires-2
+    unions-of-requires
     returns-2)
