@@ -1,6 +1,6 @@
 -- What is known of the records of a file that is not refused: each passed its tests after those before it.
 -- `entry` below gives, for number i of a kind, the records before it, under which it passed 4 to 7.
-use Prim.Native.Nat.{ℕ, _+_, _<_}
+use Prim.Native.Nat.{ℕ, _+_, _<_, _≤_}
 use native.Mathlib.Omega.{arith}
 use native.Mathlib.Decide.{decLt}
 use mathlib.Core.Path.{_≡_, refl, sym, ap, subst, _∙_}
@@ -19,6 +19,13 @@ use Rattle.casefile.specs.Kinds.{Kind, sort, constructor, nonterminal, r
 use Rattle.casefile.specs.Refusals.{Refusal, Test, refuse_at_when_, first, tooLong, wrongLength, tooMany, tooLarge, outOfRange, misplaced, refuseAs, refuseKind, lastKind, refuseRecord, refuseWhole}
 use Rattle.casefile.specs.Cases.{Case, refusedCase, bindingCase, pathCase, unlessRefused, acceptedCase, caseFrom, caseOf}
 use Rattle.casefile.specs.Promises.{Passed, nothing, also}
+
+-- the records before are among all
+pub count-fewer : (k : Kind) (xs ys : List Record) → count k xs ≤ count k (xs ++ ys)
+unfolding count ofKind
+count-fewer k xs ys =
+    let e = ap length (select-append (λ (r : Record). eqb (r .kind) (number k)) xs ys) ∙ length-append (ofKind k xs) (ofKind k ys) in
+    omega arith
 
 -- no test in a list was met
 pub first-none : (n p : ℕ) (b : Bool) (ts : List Test) → first ((refuse n at p when b) ∷ ts) ≡ none → (b ≡ false) × (first ts ≡ none)

@@ -56,11 +56,13 @@ noBinding = record { nonterminal = 0; type = state 0 }
 abbrev pub bindingAt : List Record → ℕ → Binding
 bindingAt rs b = getD (bindingsOf rs) b noBinding
 
--- the nonterminal and the type of each binding, and the bindings of each nonterminal
+-- the nonterminal and the type of each binding, and the bindings of each nonterminal: they stand between its entry and the next, and no
+-- other does
 pub record BindingsAre (rs : List Record) (t : List ℕ) : Type 0 where
   pub symbol : (b : ℕ) → b < count Kind.binding rs → symbolOf t b ≡ bindingAt rs b .nonterminal
   pub own : (b : ℕ) → b < count Kind.binding rs → Goal rs (ownOf t b) (bindingAt rs b .type)
   pub grouped : (b : ℕ) → b < count Kind.binding rs → (groupOf t (bindingAt rs b .nonterminal) ≤ b) × (b < groupOf t (suc (bindingAt rs b .nonterminal)))
+  pub between : (f b : ℕ) → f < count Kind.nonterminal rs → groupOf t f ≤ b → b < groupOf t (suc f) → (b < count Kind.binding rs) × (bindingAt rs b .nonterminal ≡ f)
 
 -- the transition of a state and a constructor
 pub record TransitionIs (rs : List Record) (t : List ℕ) (c q : ℕ) (qs : List ℕ) : Type 0 where
@@ -100,14 +102,15 @@ headBy zero k = con k
 headBy (suc zero) k = nt k
 headBy (suc (suc tag)) k = par k
 
--- a node of the table is the head of a term
-pub record NodeIs (t : List ℕ) (base i : ℕ) (h : Head) (ts : Terms) : Type 0 where
+-- a node of the table is the head of a term; a nonterminal is one of a given number
+pub record NodeIs (symbols : ℕ) (t : List ℕ) (base i : ℕ) (h : Head) (ts : Terms) : Type 0 where
   pub inside : i < maxNodes
   pub head : headBy (nodeAt t base i .tag) (nodeAt t base i .number) ≡ h
   pub arguments : nodeAt t base i .count ≡ countᵗ ts
   pub few : countᵗ ts < 256
   pub behind : nodeAt t base i .next ≡ i + nodes (node h ts)
+  pub known : (k : ℕ) → h ≡ nt k → k < symbols
 
 -- the nodes of a body
-abbrev pub NodesAre : List ℕ → ℕ → List Node → Type 0
-NodesAre t base ns = (i : ℕ) (h : Head) (ts : Terms) → At ns i (node h ts) → NodeIs t base i h ts
+abbrev pub NodesAre : ℕ → List ℕ → ℕ → List Node → Type 0
+NodesAre symbols t base ns = (i : ℕ) (h : Head) (ts : Terms) → At ns i (node h ts) → NodeIs symbols t base i h ts

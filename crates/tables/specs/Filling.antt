@@ -42,7 +42,7 @@ pub record TableIs (rs : List Record) (t : List ℕ) : Type 0 where
   pub types : TypesAre rs t
   pub bindings : BindingsAre rs t
   pub automaton : AutomatonIs rs t
-  pub bodies : (f : ℕ) → f < count Kind.rule rs → NodesAre t (nodesFrom rs + firstNode rs f * nodeCells) (nodesOf (ruleOf rs f))
+  pub bodies : (f : ℕ) → f < count Kind.rule rs → NodesAre (count Kind.nonterminal rs) t (nodesFrom rs + firstNode rs f * nodeCells) (nodesOf (ruleOf rs f))
 
 -- the table after it was filled, and where its nodes begin
 pub record FillsTable (file index counts ends firsts before t : List ℕ) (r : ℕ) : Type 0 where

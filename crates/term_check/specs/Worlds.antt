@@ -64,6 +64,10 @@ pub record World : Type 0 where
 abbrev pub total : World → ℕ
 total w = count Kind.binding (w .rs)
 
+-- how many nonterminals
+abbrev pub symbols : World → ℕ
+symbols w = count Kind.nonterminal (w .rs)
+
 -- a term has a type where the bindings with a flag are kept, by the definitions
 abbrev pub Has : World → List ℕ → Term → Ty → Type 0
 Has w flags t σ = T (has same (headTypes (automatonOf (w .rs)) (chosen flags (bindingsOf (w .rs))) (domains (w .τ))) t σ)
@@ -74,7 +78,7 @@ pub record Setting (x : Case) (w : World) : Type 0 where
   pub bindings : BindingsAre (w .rs) (x .t)
   pub automaton : AutomatonIs (w .rs) (x .t)
   pub candidates : CandidatesAre (w .rs) (w .kept) (x .sets) (wordsIn (x .test))
-  pub nodes : NodesAre (x .t) (baseIn (x .test)) (w .ns)
+  pub nodes : NodesAre (symbols w) (x .t) (baseIn (x .test)) (w .ns)
   pub own : Goal (w .rs) (ownIn (x .test)) (w .τ)
   pub all-bindings : totalIn (x .test) ≡ total w
   pub few-bindings : total w ≤ maxBindings

@@ -4,7 +4,7 @@ use crate::heads::alone;
 use crate::heads::args_known;
 use crate::heads::candidate;
 use crate::heads::goes_down;
-use crate::heads::listed;
+use crate::heads::leading;
 use crate::heads::look;
 use crate::heads::targets_for;
 use crate::heads::wanted;
@@ -103,7 +103,7 @@ fn all_targets(t: &[u16], r: &[u32], w: &mut [u32], at: usize, count: usize, tar
             here = here + 1;
             left = node.count;
         } else {
-            if !one_target(&*t, &*r, w, here, rest % 16) {
+            if !one_target(&*t, &*r, w, here, rest % 16, node) {
                 return false;
             }
             here = node.next;
@@ -115,16 +115,17 @@ fn all_targets(t: &[u16], r: &[u32], w: &mut [u32], at: usize, count: usize, tar
 }
 
 // Whether the argument at a node has its target. Of a parameter that stands alone it is known.
-fn one_target(t: &[u16], r: &[u32], w: &mut [u32], at: usize, goal: usize) -> bool
-    ensures { λ b. ⌜ (length (now (w .exit)) ≡ length (now (w .entry))) × ChecksTerm (caseOf (now (t .entry)) (now (r .entry))) (answersOf (now (r .entry)) (now (w .entry))) (usersOf (now (r .entry)) (now (w .entry))) at goal (answersOf (now (r .entry)) (now (w .exit))) (usersOf (now (r .entry)) (now (w .exit))) b ⌝ }
+fn one_target(t: &[u16], r: &[u32], w: &mut [u32], at: usize, goal: usize, node: Node) -> bool
+    ensures { λ b. ⌜ (length (now (w .exit)) ≡ length (now (w .entry))) × (node ≡ nodeAt (now (t .entry)) (baseIn (now (r .entry))) at → ChecksTerm (caseOf (now (t .entry)) (now (r .entry))) (answersOf (now (r .entry)) (now (w .entry))) (usersOf (now (r .entry)) (now (w .entry))) at goal (answersOf (now (r .entry)) (now (w .exit))) (usersOf (now (r .entry)) (now (w .exit))) b) ⌝ }
 {
-    let node = node_of(t, number_in(r, TEST_BASE), at);
-    let known = alone(&*t, &*r, node, goal);
-    if known == 1 {
-        return false;
-    }
-    if known == 2 {
-        return true;
+    if node.tag == 2 {
+        let known = alone(&*t, &*r, node, goal);
+        if known == 1 {
+            return false;
+        }
+        if known == 2 {
+            return true;
+        }
     }
     check_term(&*t, &*r, w, at, goal)
 }
@@ -180,7 +181,7 @@ fn check_listed(t: &[u16], r: &[u32], w: &mut [u32], at: usize, goal: usize, nod
         if high <= c {
             return false;
         }
-        let ty = listed(t, r, node.number, node.count, goal, c);
+        let ty = leading(t, node.count, goal, c);
         if ty != NONE {
             if check_args(&*t, &*r, w, at + 1, node.count, ty) {
                 note_in(r, w, c);

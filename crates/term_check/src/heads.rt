@@ -37,19 +37,12 @@ ghost use mathlib.Core.Path.{_≡_};
 ghost use Prim.Native.Nat.{_/_, _^_, _≤_, _<_};
 ghost use mathlib.Core.Bool.{true};
 ghost use Rattle.term_check.specs.Worlds.{caseOf, answersOf};
-ghost use Rattle.term_check.specs.heads.Heads.{IsCandidate, IsListed, Matches, IsTargets, Alone, Seen, AllHad, ArgsKnown, Wanted};
+ghost use Rattle.term_check.specs.heads.Heads.{IsCandidate, IsLeading, Matches, IsTargets, Alone, Seen, AllHad, ArgsKnown, Wanted};
 
-// The type of binding c, which is in the set of a goal, where it is one of a nonterminal whose type with arrows off is the goal; else
-// NONE.
-pub fn listed(t: &[u16], r: &[u32], number: usize, count: usize, goal: usize, c: usize) -> usize
-    ensures { λ s. ⌜ IsListed (caseOf (now (t .entry)) (now (r .entry))) number count goal c s ⌝ }
+// The type of binding c where it is the goal with arrows off; else NONE.
+pub fn leading(t: &[u16], count: usize, goal: usize, c: usize) -> usize
+    ensures { λ s. ⌜ IsLeading (now (t .entry)) count goal c s ⌝ }
 {
-    if number_in(r, TEST_BINDINGS) <= c {
-        return NONE;
-    }
-    if symbol_of(t, c) != number {
-        return NONE;
-    }
     let ty = own_of(t, c);
     if off(t, ty, count) != goal {
         return NONE;
@@ -68,7 +61,10 @@ pub fn candidate(t: &[u16], r: &[u32], number: usize, count: usize, goal: usize,
     if !is_in(r, TEST_CELLS + goal % ROW_LIMIT * words, c) {
         return NONE;
     }
-    listed(t, r, number, count, goal, c)
+    if symbol_of(t, c) != number {
+        return NONE;
+    }
+    leading(t, count, goal, c)
 }
 
 // Whether a goal takes targets, so many that are packed in a number, one after another to a state.
@@ -140,13 +136,11 @@ pub fn targets_for(t: &[u16], c: usize, count: usize, goal: usize) -> usize
     targets
 }
 
-// What is known of a parameter that stands alone and a state: 2 that it has it, 1 that it lacks it; 0 of another term or goal.
+// What is known of a parameter that stands alone and a state: 2 that it has it, 1 that it lacks it; 0 of another term or goal. The node
+// has no constructor and no nonterminal in front.
 pub fn alone(t: &[u16], r: &[u32], node: Node, goal: usize) -> usize
     ensures { λ s. ⌜ Alone (caseOf (now (t .entry)) (now (r .entry))) node goal s ⌝ }
 {
-    if node.tag != 2 {
-        return 0;
-    }
     if node.count != 0 {
         return 0;
     }

@@ -122,7 +122,7 @@ module _ (t firsts : List ℕ) (sizes : Sizes) (before test memo users : List �
             bindings = frame .table .bindings;
             automaton = frame .table .automaton;
             candidates = subst (CandidatesAre rs kept sets) (sym words-for) are;
-            nodes = subst (λ k. NodesAre t k (nodesOf (ruleOf rs f))) (sym (base-in ∙ base-for)) (frame .table .bodies f ruled);
+            nodes = subst (λ k. NodesAre (count Kind.nonterminal rs) t k (nodesOf (ruleOf rs f))) (sym (base-in ∙ base-for)) (frame .table .bodies f ruled);
             own = subst (λ k. Goal rs k τ) (sym own-in) is-own;
             all-bindings = all-for;
             few-bindings = frame .few-bindings;

@@ -14,17 +14,18 @@ use Rattle.index.specs.layout.Layout.{maxNodes, placeLimit, nodeCells, numberCe
 use Rattle.tables.specs.Facts.{headBy, NodesAre}
 use Rattle.tables.specs.reading.Cells.{nodePlace, nodeAt}
 use Rattle.tables.specs.nodes.Bodies.{headCell, tagAt, NodeSays, BodySays}
-use Rattle.tables.proofs.nodes.Places.{at-inside, at-head, term-at, head-by}
+use Rattle.tables.proofs.nodes.Places.{at-inside, at-head, term-at, head-by, head-bound}
 
 -- a body whose payload p begins at a place of the file
 module _ (file : List ℕ) (start : ℕ) (p : List ℕ) (there : (w at : ℕ) → at + w ≤ length p → field w file (start + at) ≡ field w p at) (bytes : Bytes p) (short : length p / 4 ≤ maxNodes) (tags : (i : ℕ) → i < length p / 4 → field 1 p (i * 4) ≤ 2)
+    (symbols : ℕ) (names : (i : ℕ) → i < length p / 4 → field 1 p (i * 4) ≡ 1 → field 2 p (i * 4 + 1) < symbols)
     (ends : List ℕ) (first : ℕ) (ends-are : (i : ℕ) → i < length p / 4 → getD ends (first + i) 0 ≡ i + nodes (firstTerm (terms (drop i (nodesOf p)))))
     (base : ℕ) (near : base < placeLimit) (t : List ℕ) (says : BodySays file start (length p / 4) ends first base t) where
   tag-is : (i : ℕ) → i < length p / 4 → tagAt file start i ≡ field 1 p (i * 4)
   tag-is i h = there 1 (i * 4) (omega arith)
 
   -- THE NODES OF A BODY
-  pub nodes-are : NodesAre t base (nodesOf p)
+  pub nodes-are : NodesAre symbols t base (nodesOf p)
   unfolding nodeAt
   nodes-are i h ts at =
       record {
@@ -33,6 +34,9 @@ module _ (file : List ℕ) (start : ℕ) (p : List ℕ) (there : (w at : ℕ) �
         arguments = count ∙ at-head p i h ts at .1;
         few = subst (λ x. x < 256) (at-head p i h ts at .1) (field-lt 1 p (i * 4 + 3) bytes);
         behind = behind;
+        known = λ k e.
+            let (tag-one, is) = head-bound p i k (tags i i-inside) (at-head p i h ts at .0 ∙ e) in
+            subst (λ x. x < symbols) is (names i i-inside tag-one);
       }
     where
       i-inside : i < length p / 4

@@ -67,3 +67,17 @@ head-by p i h = go (field 1 p (i * 4)) h
     go (suc zero) l = refl
     go (suc (suc zero)) l = refl
     go (suc (suc (suc n))) l = absurd (omega arith)
+
+-- a nonterminal in front, by the tag and the number
+pub head-bound : (p : List ℕ) (i k : ℕ) → field 1 p (i * 4) ≤ 2 → headOf (cellAt p i) ≡ nt k → (field 1 p (i * 4) ≡ 1) × (field 2 p (i * 4 + 1) ≡ k)
+unfolding headOf
+head-bound p i k h = go (field 1 p (i * 4)) h
+  where
+    n : ℕ
+    n = field 2 p (i * 4 + 1)
+
+    go : (tag : ℕ) → tag ≤ 2 → getD (con n ∷ nt n ∷ []) tag (par n) ≡ nt k → (tag ≡ 1) × (n ≡ k)
+    go zero l e = let z : _≡_ {A = ℕ} 0 1 = cc in absurd (omega arith)
+    go (suc zero) l e = (refl, cc)
+    go (suc (suc zero)) l e = let z : _≡_ {A = ℕ} 0 1 = cc in absurd (omega arith)
+    go (suc (suc (suc m))) l e = absurd (omega arith)

@@ -15,6 +15,7 @@ use Rattle.records.specs.cursor.Reading.{partOf}
 use Rattle.records.proofs.cursor.Reading.{part-out}
 use Rattle.index.specs.layout.Layout.{maxStates, maxTypes, maxBindings, maxConstructors, maxNonterminals, rowsSize, groupsAt, pairsAt, pairCells, rowsAt, rowCells, rowLimit, nodeCells}
 use Rattle.index.specs.entries.Index.{Indexed}
+use Rattle.index.proofs.Wholes.{names-known}
 use Rattle.intake.proofs.plan.Contents.{payload-bytes}
 use Rattle.rules.specs.reading.RuleBodies.{nodesIn, ruleOf, firstNode}
 use Rattle.rules.proofs.reading.AllRules.{nodes-more, nodes-some}
@@ -202,7 +203,7 @@ module _ {file index counts ends firsts : List ℕ} (rs : List Record) (given : 
       let n = binding-there .counted in
       let k = nonterminal-there .counted in
       let few = few-nonterminals in
-      bindings-kept rs e f binding-kept (λ g h. ns .below (groupsAt + g % rowLimit) (omega arith)) (λ g h. let l = symbol-below (given .passed) binding-there few-bindings g (omega arith) in omega arith) bindings-there
+      bindings-kept rs e f (omega arith) binding-kept (λ g h. ns .below (groupsAt + g % rowLimit) (omega arith)) (λ g h. let l = symbol-below (given .passed) binding-there few-bindings g (omega arith) in omega arith) bindings-there
 
   -- the automaton
   automaton-last : AutomatonIs rs f
@@ -252,7 +253,7 @@ module _ {file index counts ends firsts : List ℕ} (rs : List Record) (given : 
             omega arith;
       }
 
-  bodies-last : (g : ℕ) → g < count Kind.rule rs → NodesAre f (nodesFrom rs + firstNode rs g * nodeCells) (nodesOf (ruleOf rs g))
+  bodies-last : (g : ℕ) → g < count Kind.rule rs → NodesAre (count Kind.nonterminal rs) f (nodesFrom rs + firstNode rs g * nodeCells) (nodesOf (ruleOf rs g))
   unfolding nodes-of
   bodies-last g h =
       let n = rule-there .counted in
@@ -264,7 +265,7 @@ module _ {file index counts ends firsts : List ℕ} (rs : List Record) (given : 
       let fn = given .few-nodes in
       let w = nodes-some (payloads Kind.rule rs) g in
       let whole = given .bodies g h in
-      nodes-are file (startOf index g) (ruleOf rs g) (λ k i m. rule-there .field-there g l k i m) (payload-bytes rule-there (given .bytes) g) (whole .short) (whole .tags) ends (firstNode rs g) (λ i k. given .ends-are g i h k)
+      nodes-are file (startOf index g) (ruleOf rs g) (λ k i m. rule-there .field-there g l k i m) (payload-bytes rule-there (given .bytes) g) (whole .short) (whole .tags) (count Kind.nonterminal rs) (names-known (given .passed) g h) ends (firstNode rs g) (λ i k. given .ends-are g i h k)
       (nodesFrom rs + firstNode rs g * nodeCells) (omega arith) f
       (subst (λ k. BodySays file (startOf index g) (length (ruleOf rs g) / 4) ends (firstNode rs g) (k + firstNode rs g * nodeCells) f) ea
       (subst (λ k. BodySays file (startOf index g) (length (ruleOf rs g) / 4) ends k (at + k * nodeCells) f) (first-is g l) (ns .says few-rules (omega arith) nodes-of bodied g l)))

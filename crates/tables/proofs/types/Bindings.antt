@@ -17,7 +17,7 @@ use Rattle.casefile.specs.Kinds.{Kind, number, ofKind, payloads, count}
 use Rattle.casefile.specs.Refusals.{wrongLength, outOfRange}
 use Rattle.casefile.specs.Tables.{typesOf, bindingsOf}
 use Rattle.casefile.specs.Promises.{Passed}
-use Rattle.casefile.proofs.Passed.{entry}
+use Rattle.casefile.proofs.Passed.{count-fewer, entry}
 use Rattle.casefile.proofs.TypeTable.{count-payloads}
 use Rattle.index.specs.layout.Layout.{maxBindings, rowsSize, pairsAt, pairCells, bindingsAt}
 use Rattle.index.specs.entries.Index.{Indexed}
@@ -27,13 +27,6 @@ use Rattle.tables.specs.reading.Cells.{ownOf, groupOf}
 use Rattle.tables.specs.types.Rows.{goalOf, FillsBindings}
 use Rattle.tables.proofs.types.Records.{typeAt}
 use Rattle.tables.proofs.types.Meaning.{Done}
-
--- the records before are among all
-fewer : (k : Kind) (xs ys : List Record) → count k xs ≤ count k (xs ++ ys)
-unfolding count ofKind
-fewer k xs ys =
-    let e = ap length (select-append (λ (r : Record). eqb (r .kind) (number k)) xs ys) ∙ length-append (ofKind k xs) (ofKind k ys) in
-    omega arith
 
 -- a binding's payload, and the numbers of its nonterminal and its type
 pub binding-there : {rs : List Record} → Passed rs → (j : ℕ) → j < length (payloads Kind.binding rs)
@@ -46,8 +39,8 @@ binding-there {rs} ok j h =
     let named = or-false (leb (count Kind.nonterminal (e .earlier)) (word p 0)) (leb (count Kind.type (e .earlier)) (word p 2)) (e .passed-tests .ranges) in
     let symbol = leb-false (count Kind.nonterminal (e .earlier)) (word p 0) (named .0) in
     let below = leb-false (count Kind.type (e .earlier)) (word p 2) (named .1) in
-    let symbols = subst (λ l. count Kind.nonterminal (e .earlier) ≤ count Kind.nonterminal l) (e .together) (fewer Kind.nonterminal (e .earlier) (e .later)) in
-    let more = subst (λ l. count Kind.type (e .earlier) ≤ count Kind.type l) (e .together) (fewer Kind.type (e .earlier) (e .later)) in
+    let symbols = subst (λ l. count Kind.nonterminal (e .earlier) ≤ count Kind.nonterminal l) (e .together) (count-fewer Kind.nonterminal (e .earlier) (e .later)) in
+    let more = subst (λ l. count Kind.type (e .earlier) ≤ count Kind.type l) (e .together) (count-fewer Kind.type (e .earlier) (e .later)) in
     subst (λ l. (length l ≡ 4) × (word l 0 < count Kind.nonterminal rs) × (word l 2 < count Kind.type rs)) (sym (e .here)) (four, omega arith, omega arith)
 
 made : List Ty → List ℕ → Binding
@@ -90,6 +83,16 @@ module _ {file index : List ℕ} {n : ℕ} {rs : List Record} (ok : Passed rs) (
             let x = same f (omega arith) in
             let y = same (suc f) (omega arith) in
             (first b h f l e x (decLt b (getD groups f 0)), second b h f l e y (decLt b (getD groups (suc f) 0)));
+        between = λ f b l low below.
+            let x = same f (omega arith) in
+            let y = same (suc f) (omega arith) in
+            let n = gs .within (suc f) (omega arith) in
+            let c = ix .counted in
+            let h : b < count Kind.binding rs = omega arith in
+            let e = binding-made rs b (listed b h) .0 in
+            let u = gs .below (suc f) b (omega arith) (omega arith) in
+            let v = gs .from-on f b (omega arith) (omega arith) (omega arith) in
+            (h, omega arith);
       }
     where
       inside : (b : ℕ) → b < count Kind.binding rs → b < n

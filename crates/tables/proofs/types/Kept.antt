@@ -52,9 +52,9 @@ module _ (rs : List Record) (t after : List ℕ) (same : (g k : ℕ) → g < cou
       }
 
 -- the bindings of a table whose groups and cells of bindings are the same
-pub bindings-kept : (rs : List Record) (t after : List ℕ) → ((b k : ℕ) → k < pairCells → getD after (pairAt b + k) 0 ≡ getD t (pairAt b + k) 0)
+pub bindings-kept : (rs : List Record) (t after : List ℕ) → count Kind.nonterminal rs < rowsSize → ((b k : ℕ) → k < pairCells → getD after (pairAt b + k) 0 ≡ getD t (pairAt b + k) 0)
     → ((f : ℕ) → f < rowsSize → groupOf after f ≡ groupOf t f) → ((b : ℕ) → b < count Kind.binding rs → suc (bindingAt rs b .nonterminal) < rowsSize) → BindingsAre rs t → BindingsAre rs after
-bindings-kept rs t after same group few x =
+bindings-kept rs t after known same group few x =
     record {
       symbol = λ b h. same b symbolCell (omega arith) ∙ x .symbol b h;
       own = λ b h. subst (λ y. Goal rs y (bindingAt rs b .type)) (sym (same b ownCell (omega arith))) (x .own b h);
@@ -64,4 +64,8 @@ bindings-kept rs t after same group few x =
           let e = group (bindingAt rs b .nonterminal) (omega arith) in
           let f = group (suc (bindingAt rs b .nonterminal)) s in
           (omega arith, omega arith);
+      between = λ f b l low below.
+          let e = group f (omega arith) in
+          let g = group (suc f) (omega arith) in
+          x .between f b l (omega arith) (omega arith);
     }

@@ -15,12 +15,12 @@ use Rattle.tables.specs.reading.Cells.{groupOf, nodeAt}
 use Rattle.tables.specs.declared.reading.Node.{Node}
 use Rattle.tables.specs.Facts.{Goal, At, AllAt, headBy, bindingAt, off}
 use Rattle.term_check.specs.notes.Notes.{baseIn, wordsIn, Notes}
-use Rattle.term_check.specs.heads.Heads.{Fails, Tries, IsCandidate}
-use Rattle.term_check.specs.Worlds.{Case, World, Has, Setting, Ready, Includes, Keeps, ChecksTerm, ChecksArgs}
+use Rattle.term_check.specs.heads.Heads.{Fails, Tries, IsLeading, IsCandidate}
+use Rattle.term_check.specs.Worlds.{Case, World, Has, Setting, Ready, Includes, Keeps, ChecksTerm, ChecksArgs, symbols}
 use Rattle.term_check.proofs.Goals.{goal-below}
 use Rattle.term_check.proofs.Rules.{bound-has, bound-had}
 use Rattle.term_check.proofs.Places.{behind-head}
-use Rattle.term_check.proofs.heads.Candidates.{in-set}
+use Rattle.term_check.proofs.heads.Candidates.{in-set, candidate-is}
 use Rattle.term_check.proofs.check.Keeping.{includes-less, keeps-all, keeps-on, keeps-note, ready-on}
 
 -- the head of the term at a node, by the node's tag and number
@@ -36,6 +36,12 @@ head-bound : (tag number : ℕ) → tag ≡ 1 → headBy tag number ≡ nt numbe
 unfolding headBy
 head-bound tag number e = ap (λ k. headBy k number) e
 
+-- a nonterminal in front is one of the file's
+symbol-known : (x : Case) (w : World) → Setting x w → (a : Node) (at : ℕ) → a ≡ nodeAt (x .t) (baseIn (x .test)) at → a .tag ≡ 1 → (u : Term) → At (w .ns) at u → a .number < symbols w
+symbol-known x w s a at e et (node h ts) here =
+    let n = s .nodes at h ts here in
+    n .known (a .number) (sym (n .head) ∙ ap (λ (b : Node). headBy (b .tag) (b .number)) (sym e) ∙ head-bound (a .tag) (a .number) et)
+
 -- One binding, tried.
 module _ (x : Case) (memo users : List ℕ) (at goal : ℕ) (a : Node) (c ty : ℕ) (is : IsCandidate x (a .number) (a .count) goal c ty) where
   pub try-misses : ty ≡ noNumber → Tries x memo users at goal a c memo users false
@@ -48,7 +54,7 @@ module _ (x : Case) (memo users : List ℕ) (at goal : ℕ) (a : Node) (c ty : �
         record {
           keeps = told .keeps;
           yes = λ y. absurd (true≢false (sym y));
-          no = λ y w r σ g ts al n few leads args. told .no e w r ts (subst (λ k. AllAt (w .ns) k ts) (sym is-first) al) n (bindingAt (w .rs) c .type) σ (is .leads ne w (r .setting) σ g .1) (leads .rest) args;
+          no = λ y w r σ g ts al n few leads args. told .no e w r ts (subst (λ k. AllAt (w .ns) k ts) (sym is-first) al) n (bindingAt (w .rs) c .type) σ (is .owns ne w (r .setting) (leads .inside)) (leads .rest) args;
         }
 
     -- it serves, and that is noted
@@ -56,19 +62,24 @@ module _ (x : Case) (memo users : List ℕ) (at goal : ℕ) (a : Node) (c ty : �
     try-serves e users‴ n ea et =
         record {
           keeps = keeps-on (told .keeps) (keeps-note x memo″ users″ users‴ c n);
-          yes = λ y w r flags inc u here σ g. serves w r flags inc u σ g (split-term x w (r .setting) a at ea u here);
+          yes = λ y w r flags inc u here σ g. serves w r (symbol-known x w (r .setting) a at ea et u here) flags inc u σ g (split-term x w (r .setting) a at ea u here);
           no = λ y. absurd (true≢false y);
         }
       where
-        serves : (w : World) → Ready x w memo users → (flags : List ℕ) → Includes x w users‴ flags → (u : Term) (σ : Ty) → Goal (w .rs) goal σ → Split x w a at u → Has w flags u σ
-        serves w r flags inc u σ g (split ts eu al count few) =
-            let (leads, own) = is .leads ne w (r .setting) σ g in
+        serves : (w : World) → Ready x w memo users → a .number < symbols w → (flags : List ℕ) → Includes x w users‴ flags → (u : Term) (σ : Ty) → Goal (w .rs) goal σ → Split x w a at u → Has w flags u σ
+        serves w r known flags inc u σ g (split ts eu al count few) =
+            let leads = is .leads ne w (r .setting) known σ g in
+            let own = is .owns ne w (r .setting) (leads .inside) in
             let eh : u ≡ node (nt (a .number)) ts = eu ∙ ap (λ h. node h ts) (head-bound (a .tag) (a .number) et) in
             let less = includes-less x w users″ users‴ (n .grows) flags inc in
             let args = told .yes e w r flags less ts (subst (λ k. AllAt (w .ns) k ts) (sym is-first) al) count (bindingAt (w .rs) c .type) σ own (leads .rest) in
             let room = ready-on (told .keeps) r .room in
             let kept-there = inc c (leads .inside) (record { is-kept = leads .is-kept; noted = n .noted (room .owner) (room .columns c (leads .inside)) (room .briefs c (leads .inside)) }) in
             subst (λ z. Has w flags z σ) (sym eh) (bound-has w flags ts σ (a .number) c (leads .inside) kept-there (leads .symbol) (subst (λ k. off k (bindingAt (w .rs) c .type) ≡ some σ) (sym count) (leads .rest)) args)
+
+-- the entry behind that of a nonterminal
+next-group : (t : List ℕ) (f : ℕ) → groupOf t (f % rowLimit + 1) ≡ groupOf t (suc f)
+next-group t f = let e : (f % rowLimit + 1) % rowLimit ≡ suc f % rowLimit = omega arith in rw (e) refl
 
 -- All of them, one after another.
 module _ (x : Case) (memo users : List ℕ) (at goal : ℕ) (a : Node) where
@@ -122,16 +133,13 @@ module _ (x : Case) (memo users : List ℕ) (at goal : ℕ) (a : Node) where
           no = λ y w r u here σ g has. none w r u σ g has (split-term x w (r .setting) a at ea u here);
         }
       where
-        next-group : (f : ℕ) → groupOf (x .t) (f % rowLimit + 1) ≡ groupOf (x .t) (suc f)
-        next-group f = let e : (f % rowLimit + 1) % rowLimit ≡ suc f % rowLimit = omega arith in rw (e) refl
-
         none : (w : World) → Ready x w memo users → (u : Term) (σ : Ty) → Goal (w .rs) goal σ → Has w (w .kept) u σ → Split x w a at u → ⊥
         none w r u σ g has (split ts eu al count few) =
             let eh′ : u ≡ node (nt (a .number)) ts = eu ∙ ap (λ h. node h ts) (head-bound (a .tag) (a .number) et) in
             let (c′, inside, kept, symbol, rest, args) = bound-had w (w .kept) ts σ (a .number) (subst (λ z. Has w (w .kept) z σ) eh′ has) in
             let (low, below) = r .setting .bindings .grouped c′ inside in
             let low′ : groupOf (x .t) (a .number) ≤ c′ = subst (λ f. groupOf (x .t) f ≤ c′) symbol low in
-            let below′ : c′ < high = subst (λ k. c′ < k) (sym (eh ∙ next-group (a .number))) (subst (λ f. c′ < groupOf (x .t) (suc f)) symbol below) in
+            let below′ : c′ < high = subst (λ k. c′ < k) (sym (eh ∙ next-group (x .t) (a .number))) (subst (λ f. c′ < groupOf (x .t) (suc f)) symbol below) in
             f .fails w r c′ low′ (omega arith) σ g ts al count few
             (record { inside = inside; is-kept = kept; symbol = symbol; rest = subst (λ k. off k (bindingAt (w .rs) c′ .type) ≡ some σ) count rest }) args
 
@@ -151,9 +159,13 @@ module _ (x : Case) (memo users : List ℕ) (at goal : ℕ) (a : Node) where
 pub served : {x : Case} {memo users memo′ users′ : List ℕ} (at : ℕ) {goal : ℕ} {a : Node} {c : ℕ} → a ≡ nodeAt (x .t) (baseIn (x .test)) at → a .tag ≡ 1 → {b : Bool} → Tries x memo users at goal a c memo′ users′ b → b ≡ true → ChecksTerm x memo users at goal memo′ users′ true
 served at ea et told e = record { keeps = told ea et .keeps; yes = λ y. told ea et .yes e; no = λ y. absurd (true≢false y) }
 
--- what is found below the end is in the set of the goal
-pub next-listed : (sets test : List ℕ) (goal k from high c : ℕ) → k ≡ getD test testWords 0 → FindsNext sets (goal % rowLimit * (k % wordsLimit)) from high c → c < high → In sets (goal % rowLimit * wordsIn test) c
-next-listed sets test goal k from high c e next h = in-set sets test goal c k e (next .found h .1)
+-- what is found below the end is in the set of the goal, and one of the nonterminal
+pub listed-is : (x : Case) (number n goal k from high c r : ℕ) → k ≡ getD (x .test) testWords 0 → FindsNext (x .sets) (goal % rowLimit * (k % wordsLimit)) from high c → c < high → groupOf (x .t) number ≤ from → high ≡ groupOf (x .t) (number % rowLimit + 1)
+    → IsLeading (x .t) n goal c r → IsCandidate x number n goal c r
+listed-is x number n goal k from high c r e next h low eh leading =
+    let (behind, is-in) = next .found h in
+    candidate-is x number n goal c r (in-set (x .sets) (x .test) goal c k e is-in)
+    (λ w s known. s .bindings .between number c known (omega arith) (subst (λ g. c < g) (eh ∙ next-group (x .t) number) h)) leading
 
 -- what is found stands behind where the search began
 pub next-behind : (words : List ℕ) (row from high c : ℕ) → FindsNext words row from high c → from ≤ high → from ≤ c

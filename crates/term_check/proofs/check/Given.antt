@@ -18,15 +18,10 @@ use Rattle.term_check.specs.notes.Notes.{ownIn, baseIn}
 use Rattle.term_check.specs.Worlds.{Args, Case, World, Has, Setting, Ready, Includes, Keeps, ChecksTerm, ChecksArgs}
 use Rattle.term_check.proofs.Goals.{goal-there, off-goal, off-is, off-some, off-number}
 use Rattle.term_check.proofs.Rules.{given-has, given-had}
+use Rattle.term_check.proofs.Places.{head-given}
 use Rattle.term_check.proofs.check.Keeping.{keeps-all, keeps-on, ready-on}
 use Rattle.term_check.proofs.check.Members.{mem-index}
 use Rattle.term_check.proofs.check.Bound.{Split, split, split-term}
-
-head-given : (tag number : ℕ) → (tag ≡ 0 → ⊥) → (tag ≡ 1 → ⊥) → headBy tag number ≡ par number
-unfolding headBy
-head-given zero number a b = absurd (a refl)
-head-given (suc zero) number a b = absurd (b refl)
-head-given (suc (suc tag)) number a b = refl
 
 -- a goal that has members is an arrow
 pub data IsArrow (w : World) (t : List ℕ) (g j : ℕ) (υ : Ty) : Type 0 where

@@ -68,9 +68,9 @@ module _ (x : Case) (memo users : List ℕ) (at goal : ℕ) where
             told .no y w rd ts (subst (λ k. AllAt (w .ns) k ts) (sym is-first) al) count qs q are args
 
 -- a parameter that stands alone, and a state
-module _ (x : Case) (memo users : List ℕ) (at goal : ℕ) (a : Node) (r : ℕ) (known : Alone x a goal r) (ea : a ≡ nodeAt (x .t) (baseIn (x .test)) at) where
+module _ (x : Case) (memo users : List ℕ) (at goal : ℕ) (a : Node) (r : ℕ) (known : Alone x a goal r) (ea : a ≡ nodeAt (x .t) (baseIn (x .test)) at) (not-con : a .tag ≡ 0 → ⊥) (not-nt : a .tag ≡ 1 → ⊥) where
   pub alone-no : r ≡ 1 → ChecksTerm x memo users at goal memo users false
-  alone-no e = record { keeps = keeps-all x memo users; yes = λ y. absurd (true≢false (sym y)); no = λ y w ready. known .no e w at (ready .setting) ea }
+  alone-no e = record { keeps = keeps-all x memo users; yes = λ y. absurd (true≢false (sym y)); no = λ y w ready. known .no e w at (ready .setting) ea not-con not-nt }
 
   pub alone-yes : r ≡ 2 → ChecksTerm x memo users at goal memo users true
-  alone-yes e = record { keeps = keeps-all x memo users; yes = λ y w ready. known .yes e w users at (ready .setting) ea; no = λ y. absurd (true≢false y) }
+  alone-yes e = record { keeps = keeps-all x memo users; yes = λ y w ready. known .yes e w users at (ready .setting) ea not-con not-nt; no = λ y. absurd (true≢false y) }

@@ -2,7 +2,7 @@
 use Prim.Native.Nat.{ℕ, _*_, _%_, _<_, _≤_}
 use native.Mathlib.Omega.{arith}
 use native.Mathlib.Nat.{mul-le-mul}
-use mathlib.Core.Path.{_≡_, refl, sym, ap₂, subst, _∙_}
+use mathlib.Core.Path.{_≡_, refl, sym, ap, ap₂, subst, _∙_}
 use mathlib.Core.Bool.{Bool, false}
 use mathlib.Core.List.{List}
 use lib.ListN.{getD}
@@ -12,8 +12,8 @@ use Rattle.marks.specs.Marks.{In, Decides}
 use Rattle.tables.specs.reading.Cells.{symbolOf, ownOf, offOf}
 use Rattle.tables.specs.Facts.{Goal, bindingAt}
 use Rattle.term_check.specs.notes.Notes.{wordsIn, totalIn}
-use Rattle.term_check.specs.Worlds.{Case, World, Setting, total}
-use Rattle.term_check.specs.heads.Heads.{Leads, IsCandidate}
+use Rattle.term_check.specs.Worlds.{Case, World, Setting, total, symbols}
+use Rattle.term_check.specs.heads.Heads.{Leads, IsLeading, IsCandidate}
 use Rattle.term_check.proofs.Goals.{goal-below, goal-there, off-is, off-number}
 
 pub row-fits : (g k : ℕ) → g % rowLimit * (k % wordsLimit) ≤ 128961
@@ -25,7 +25,7 @@ in-set sets test goal c m e i = subst (λ k. In sets (goal % rowLimit * (k % wor
 
 module _ (x : Case) (number n goal c : ℕ) where
   missing : ((w : World) → Setting x w → (σ : Ty) → Goal (w .rs) goal σ → n < 256 → Leads w number n σ c → ⊥) → IsCandidate x number n goal c noNumber
-  missing h = record { leads = λ ne. absurd (ne refl); misses = λ e. h }
+  missing h = record { leads = λ ne. absurd (ne refl); owns = λ ne. absurd (ne refl); misses = λ e. h }
 
   -- the place of the set of a goal's candidates
   place : (m : ℕ) → m ≡ getD (x .test) testWords 0 → (w : World) → Setting x w → (σ : Ty) → Goal (w .rs) goal σ → goal % rowLimit * (m % wordsLimit) ≡ goal * wordsIn (x .test)
@@ -40,30 +40,36 @@ module _ (x : Case) (number n goal c : ℕ) where
   pub other-symbol : (f : ℕ) → f ≡ symbolOf (x .t) c → (f ≡ number → ⊥) → IsCandidate x number n goal c noNumber
   other-symbol f e d = missing (λ w s σ g few l. d (e ∙ s .bindings .symbol c (l .inside) ∙ l .symbol))
 
-  pub other-rest : (ty r : ℕ) → ty ≡ ownOf (x .t) c → r ≡ offOf (x .t) n ty → (r ≡ goal → ⊥) → IsCandidate x number n goal c noNumber
-  other-rest ty r e o d =
-      missing (λ w s σ g few l.
-      let own = subst (λ j. Goal (w .rs) j (bindingAt (w .rs) c .type)) (sym e) (s .bindings .own c (l .inside)) in
-      d (o ∙ off-number (s .types) n ty goal (bindingAt (w .rs) c .type) σ own g (l .rest)))
-
-  pub leading : (m f ty r : ℕ) → m ≡ totalIn (x .test) → c < m → In (x .sets) (goal % rowLimit * wordsIn (x .test)) c
-      → f ≡ symbolOf (x .t) c → f ≡ number → ty ≡ ownOf (x .t) c → r ≡ offOf (x .t) n ty → r ≡ goal → IsCandidate x number n goal c ty
-  leading m f ty r all h is-in fs fn own o rest =
+  -- a binding that is in the set of the goal, and of which it is known that it is one of the nonterminal
+  pub candidate-is : (r : ℕ) → In (x .sets) (goal % rowLimit * wordsIn (x .test)) c → ((w : World) → Setting x w → number < symbols w → (c < total w) × (bindingAt (w .rs) c .nonterminal ≡ number))
+      → IsLeading (x .t) n goal c r → IsCandidate x number n goal c r
+  candidate-is r is-in stands leading =
       record {
-        leads = λ ne w s σ g. (
-          record {
-            inside = inside w s;
-            is-kept = s .candidates .kept-only c goal (inside w s) (goal-below (s .types) g) (subst (λ a. In (x .sets) a c) (place (getD (x .test) testWords 0) refl w s σ g) is-in);
-            symbol = sym (s .bindings .symbol c (inside w s)) ∙ sym fs ∙ fn;
-            rest = off-is (s .types) n ty goal (bindingAt (w .rs) c .type) σ (owns w s) g (sym o ∙ rest);
-          },
-          owns w s,
-        );
-        misses = λ z w s σ g few l. goal-there (s .types) (owns w s) z;
+        leads = λ ne w s known σ g.
+            let (inside, symbol) = stands w s known in
+            record {
+              inside = inside;
+              is-kept = s .candidates .kept-only c goal inside (goal-below (s .types) g) (subst (λ a. In (x .sets) a c) (place (getD (x .test) testWords 0) refl w s σ g) is-in);
+              symbol = symbol;
+              rest = off-is (s .types) n r goal (bindingAt (w .rs) c .type) σ (owns ne w s inside) g (leading .leads ne .1);
+            };
+        owns = owns;
+        misses = λ z w s σ g few l.
+            let own = s .bindings .own c (l .inside) in
+            leading .misses z (goal-there (s .types) own) (off-number (s .types) n (ownOf (x .t) c) goal (bindingAt (w .rs) c .type) σ own g (l .rest));
       }
     where
-      inside : (w : World) → Setting x w → c < total w
-      inside w s = let a = s .all-bindings in omega arith
+      owns : (r ≡ noNumber → ⊥) → (w : World) → Setting x w → c < total w → Goal (w .rs) r (bindingAt (w .rs) c .type)
+      owns ne w s inside = subst (λ j. Goal (w .rs) j (bindingAt (w .rs) c .type)) (sym (leading .leads ne .0)) (s .bindings .own c inside)
 
-      owns : (w : World) (s : Setting x w) → Goal (w .rs) ty (bindingAt (w .rs) c .type)
-      owns w s = subst (λ j. Goal (w .rs) j (bindingAt (w .rs) c .type)) (sym own) (s .bindings .own c (inside w s))
+-- a binding is below all, and has the nonterminal
+pub stands-by : (x : Case) (number c m f : ℕ) → m ≡ totalIn (x .test) → c < m → f ≡ symbolOf (x .t) c → f ≡ number → (w : World) → Setting x w → number < symbols w → (c < total w) × (bindingAt (w .rs) c .nonterminal ≡ number)
+stands-by x number c m f all h fs fn w s known = let a = s .all-bindings in let inside : c < total w = omega arith in (inside, sym (s .bindings .symbol c inside) ∙ sym fs ∙ fn)
+
+-- the type of a binding, by the table
+module _ (t : List ℕ) (n goal c ty r : ℕ) (own : ty ≡ ownOf t c) (o : r ≡ offOf t n ty) where
+  pub leading-not : (r ≡ goal → ⊥) → IsLeading t n goal c noNumber
+  leading-not d = record { leads = λ ne. absurd (ne refl); misses = λ z there e. d (o ∙ ap (offOf t n) own ∙ e) }
+
+  pub leading-is : r ≡ goal → IsLeading t n goal c ty
+  leading-is e = record { leads = λ ne. (own, sym o ∙ e); misses = λ z there h. there (sym own ∙ z) }

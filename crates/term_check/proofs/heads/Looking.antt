@@ -25,7 +25,7 @@ use Rattle.term_check.specs.Worlds.{Args, Case, World, Setting, Has, Rea
 use Rattle.term_check.specs.heads.Heads.{Alone, Seen, AllHad}
 use Rattle.term_check.specs.masks.Masks.{Leaves}
 use Rattle.term_check.proofs.Goals.{goal-type, state-below, off-some}
-use Rattle.term_check.proofs.Places.{no-terms}
+use Rattle.term_check.proofs.Places.{no-terms, head-given}
 use Rattle.term_check.proofs.Rules.{given-has, given-had}
 
 -- a bit of all 16 less some is none of these
@@ -63,20 +63,18 @@ module _ (x : Case) (memo : List ℕ) (i : ℕ) (r : Outlook) where
       says q b s = subst (λ v. Says memo v (stampIn (x .test)) i q b) ew (subst (λ v. Says memo wide v i q b) es s)
 
   -- a parameter alone
-  module _ (base own given had : ℕ) (nd : Node) (e : base ≡ baseIn (x .test)) (f : nd ≡ nodeAt (x .t) base i) (tag : nd .tag ≡ 2) (none : nd .count ≡ 0) (eo : own ≡ ownIn (x .test)) (eg : given ≡ offOf (x .t) (nd .number) own) (there : given ≡ noNumber → ⊥) (big : maxStates ≤ given) (eh : had ≡ statesOf (x .t) given) where
+  module _ (base own given had : ℕ) (nd : Node) (e : base ≡ baseIn (x .test)) (f : nd ≡ nodeAt (x .t) base i) (not-con : nd .tag ≡ 0 → ⊥) (not-nt : nd .tag ≡ 1 → ⊥) (none : nd .count ≡ 0) (eo : own ≡ ownIn (x .test)) (eg : given ≡ offOf (x .t) (nd .number) own) (there : given ≡ noNumber → ⊥) (big : maxStates ≤ given) (eh : had ≡ statesOf (x .t) given) where
     given-is : given ≡ offOf (x .t) (nd .number) (ownIn (x .test))
     given-is = eg ∙ ap (offOf (x .t) (nd .number)) eo
 
     module _ (w : World) (s : Setting x w) where
       -- its term
       alone : (u : Term) → At (w .ns) i u → u ≡ node (par (nd .number)) []ᵗ
-      unfolding headBy
       alone (node h ts) a =
           let is = s .nodes i h ts a in
           let same = node-is base nd e f in
-          let t2 : nodeAt (x .t) (baseIn (x .test)) i .tag ≡ 2 = ap (λ (z : Node). z .tag) (sym same) ∙ tag in
           let no-args = sym (is .arguments) ∙ ap (λ (z : Node). z .count) (sym same) ∙ none in
-          let head = sym (is .head) ∙ ap (λ k. headBy k (nodeAt (x .t) (baseIn (x .test)) i .number)) t2 ∙ ap (λ (z : Node). par (z .number)) (sym same) in
+          let head = sym (is .head) ∙ ap (λ (z : Node). headBy (z .tag) (z .number)) (sym same) ∙ head-given (nd .tag) (nd .number) not-con not-nt in
           ap (λ z. node z ts) head ∙ ap (node (par (nd .number))) (no-terms ts no-args)
 
       -- its members
@@ -122,7 +120,7 @@ module _ (x : Case) (nd : Node) (goal : ℕ) where
   pub alone-other : (r : ℕ) → r ≡ 0 → Alone x nd goal r
   alone-other r z = record { yes = λ e. absurd (omega arith); no = λ e. absurd (omega arith) }
 
-  module _ (own given had : ℕ) (tag : nd .tag ≡ 2) (none : nd .count ≡ 0) (low : goal < maxStates) (eo : own ≡ ownIn (x .test)) (eg : given ≡ offOf (x .t) (nd .number) own) (there : given ≡ noNumber → ⊥) (big : maxStates ≤ given) (eh : had ≡ statesOf (x .t) given) where
+  module _ (own given had : ℕ) (none : nd .count ≡ 0) (low : goal < maxStates) (eo : own ≡ ownIn (x .test)) (eg : given ≡ offOf (x .t) (nd .number) own) (there : given ≡ noNumber → ⊥) (big : maxStates ≤ given) (eh : had ≡ statesOf (x .t) given) where
     nothing : Outlook
     nothing = record { had = 0; lacked = 0 }
 
@@ -130,13 +128,13 @@ module _ (x : Case) (nd : Node) (goal : ℕ) where
     alone-lacks z =
         record {
           yes = λ e. absurd (omega arith);
-          no = λ e w i s f u at-i σ g c. lacks-it x [] i nothing (baseIn (x .test)) own given had nd refl f tag none eo eg there big eh w s goal low (λ o. omega arith) u at-i σ g c;
+          no = λ e w i s f not-con not-nt u at-i σ g c. lacks-it x [] i nothing (baseIn (x .test)) own given had nd refl f not-con not-nt none eo eg there big eh w s goal low (λ o. omega arith) u at-i σ g c;
         }
 
     pub alone-has : (bitOf goal had ≡ 0 → ⊥) → Alone x nd goal 2
     alone-has d =
         record {
-          yes = λ e w users i s f flags inc u at-i σ g. has-it x [] i nothing (baseIn (x .test)) own given had nd refl f tag none eo eg there big eh w s goal low (let k = bit-small goal had in omega arith) flags u at-i σ g;
+          yes = λ e w users i s f not-con not-nt flags inc u at-i σ g. has-it x [] i nothing (baseIn (x .test)) own given had nd refl f not-con not-nt none eo eg there big eh w s goal low (let k = bit-small goal had in omega arith) flags u at-i σ g;
           no = λ e. absurd (omega arith);
         }
 

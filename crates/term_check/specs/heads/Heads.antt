@@ -1,6 +1,6 @@
 -- What our own crates promise each other; nothing here has to be believed.
 -- The types of a head against a goal, and what is known of an argument without a check.
-use Prim.Native.Nat.{ℕ, suc, _*_, _/_, _%_, _^_, _<_}
+use Prim.Native.Nat.{ℕ, suc, _/_, _%_, _^_, _<_}
 use mathlib.Core.Path.{_≡_}
 use mathlib.Core.Bool.{Bool, true, false}
 use mathlib.Core.List.{List}
@@ -10,14 +10,14 @@ use Rattle.scheme.specs.Terms.{Terms, countᵗ}
 use Rattle.scheme.specs.Types.{Ty, state, arrow, Tys, members, takes, final}
 use Rattle.scheme.specs.Flags.{isKept}
 use Rattle.casefile.specs.Tables.{transitionsOf, targetsAt}
-use Rattle.index.specs.layout.Layout.{maxStates, rowLimit, noNumber, noTargets, wordBits}
-use Rattle.marks.specs.Marks.{bitOf, In}
-use Rattle.tables.specs.reading.Cells.{memberOf, nodeAt, offOf}
+use Rattle.index.specs.layout.Layout.{maxStates, noNumber, noTargets, wordBits}
+use Rattle.marks.specs.Marks.{bitOf}
+use Rattle.tables.specs.reading.Cells.{memberOf, nodeAt, ownOf, offOf}
 use Rattle.tables.specs.declared.reading.Node.{Node}
 use Rattle.tables.specs.Facts.{Goal, AllAt, TypesAre, bindingAt, off}
 use Rattle.answers.specs.declared.Outlook.{Outlook}
-use Rattle.term_check.specs.notes.Notes.{baseIn, wordsIn}
-use Rattle.term_check.specs.Worlds.{Args, Case, World, Has, Setting, Ready, Tells, Yes, No, ArgsYes, Targets, total}
+use Rattle.term_check.specs.notes.Notes.{baseIn}
+use Rattle.term_check.specs.Worlds.{Args, Case, World, Has, Setting, Ready, Tells, Yes, No, ArgsYes, Targets, total, symbols}
 
 -- binding c is kept, it is one of a nonterminal, and its type with arrows off is σ
 pub record Leads (w : World) (number n : ℕ) (σ : Ty) (c : ℕ) : Type 0 where
@@ -36,14 +36,16 @@ abbrev pub Tries : Case → List ℕ → List ℕ → ℕ → ℕ → Node → �
 Tries x memo users at goal a c memo′ users′ r =
     a ≡ nodeAt (x .t) (baseIn (x .test)) at → a .tag ≡ 1 → Tells x memo users memo′ users′ (λ w. Yes x w users′ at goal) (λ w. Fails w at goal a c) r
 
--- r is the type of binding c where it leads to a goal
-pub record IsCandidate (x : Case) (number n goal c r : ℕ) : Type 0 where
-  pub leads : (r ≡ noNumber → ⊥) → (w : World) → Setting x w → (σ : Ty) → Goal (w .rs) goal σ → Leads w number n σ c × Goal (w .rs) r (bindingAt (w .rs) c .type)
-  pub misses : r ≡ noNumber → (w : World) → Setting x w → (σ : Ty) → Goal (w .rs) goal σ → n < 256 → Leads w number n σ c → ⊥
+-- r is the type of binding c where it is a goal with arrows off, by the table
+pub record IsLeading (t : List ℕ) (n goal c r : ℕ) : Type 0 where
+  pub leads : (r ≡ noNumber → ⊥) → (r ≡ ownOf t c) × (offOf t n r ≡ goal)
+  pub misses : r ≡ noNumber → (ownOf t c ≡ noNumber → ⊥) → offOf t n (ownOf t c) ≡ goal → ⊥
 
--- so it is of a binding that is in the set of the goal
-abbrev pub IsListed : Case → ℕ → ℕ → ℕ → ℕ → ℕ → Type 0
-IsListed x number n goal c r = In (x .sets) (goal % rowLimit * wordsIn (x .test)) c → IsCandidate x number n goal c r
+-- r is the type of binding c where it is one of a nonterminal of the file that leads to a goal
+pub record IsCandidate (x : Case) (number n goal c r : ℕ) : Type 0 where
+  pub leads : (r ≡ noNumber → ⊥) → (w : World) → Setting x w → number < symbols w → (σ : Ty) → Goal (w .rs) goal σ → Leads w number n σ c
+  pub owns : (r ≡ noNumber → ⊥) → (w : World) → Setting x w → c < total w → Goal (w .rs) r (bindingAt (w .rs) c .type)
+  pub misses : r ≡ noNumber → (w : World) → Setting x w → (σ : Ty) → Goal (w .rs) goal σ → n < 256 → Leads w number n σ c → ⊥
 
 -- r says whether a goal takes targets, so many that are packed in a number, to a state
 pub record Matches (t : List ℕ) (goal targets left : ℕ) (r : Bool) : Type 0 where
@@ -56,10 +58,10 @@ pub record IsTargets (t : List ℕ) (c n goal r : ℕ) : Type 0 where
       → (q : ℕ) × (qs : List ℕ) × (targetsAt (transitionsOf (w .rs)) q c ≡ some qs) × (off n (takes qs q) ≡ some σ)
   pub all : (x : Case) (w : World) → x .t ≡ t → Setting x w → (σ : Ty) → Goal (w .rs) goal σ → (q : ℕ) (qs : List ℕ) → targetsAt (transitionsOf (w .rs)) q c ≡ some qs → off n (takes qs q) ≡ some σ → (r ≡ noTargets → ⊥) × Targets n r qs
 
--- r is 2 where a node is a parameter that stands alone and has a goal, 1 where it is one that lacks it
+-- r is 2 where a node, which has no constructor and no nonterminal in front, stands alone and has a goal, 1 where it lacks it
 pub record Alone (x : Case) (a : Node) (goal r : ℕ) : Type 0 where
-  pub yes : r ≡ 2 → (w : World) (users : List ℕ) (i : ℕ) → Setting x w → a ≡ nodeAt (x .t) (baseIn (x .test)) i → Yes x w users i goal
-  pub no : r ≡ 1 → (w : World) (i : ℕ) → Setting x w → a ≡ nodeAt (x .t) (baseIn (x .test)) i → No x w i goal
+  pub yes : r ≡ 2 → (w : World) (users : List ℕ) (i : ℕ) → Setting x w → a ≡ nodeAt (x .t) (baseIn (x .test)) i → (a .tag ≡ 0 → ⊥) → (a .tag ≡ 1 → ⊥) → Yes x w users i goal
+  pub no : r ≡ 1 → (w : World) (i : ℕ) → Setting x w → a ≡ nodeAt (x .t) (baseIn (x .test)) i → (a .tag ≡ 0 → ⊥) → (a .tag ≡ 1 → ⊥) → No x w i goal
 
 -- the bits of r are states that the term at a node has, and states that it lacks
 pub record Seen (x : Case) (memo : List ℕ) (i : ℕ) (r : Outlook) : Type 0 where

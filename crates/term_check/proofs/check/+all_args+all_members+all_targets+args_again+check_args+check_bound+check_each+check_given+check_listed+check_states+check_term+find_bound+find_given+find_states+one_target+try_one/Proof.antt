@@ -9,7 +9,7 @@ use denote.Ref.{now}
 use borrow.Author.Needs.{needs}
 use borrow.Author.Tests.{not-true, not-false}
 use Rattle.index.specs.layout.Layout.{rowLimit, wordsLimit, testCells}
-use Rattle.tables.specs.reading.Cells.{offOf, nodeAt}
+use Rattle.tables.specs.reading.Cells.{offOf, groupOf, nodeAt}
 use Rattle.term_check.specs.notes.Notes.{baseIn}
 use Rattle.term_check.specs.Worlds.{caseOf, answersOf, usersOf, ChecksArgs, ChecksTargets, Finds}
 use Rattle.term_check.proofs.heads.Candidates.{row-fits}
@@ -17,7 +17,7 @@ use Rattle.term_check.proofs.heads.Sets.{next-behind-sets}
 use Rattle.term_check.proofs.check.Keeping.{node-by, next-by, tells-on}
 use Rattle.term_check.proofs.check.Arguments.{args-none, args-stuck, args-lack, args-rest}
 use Rattle.term_check.proofs.check.Targets.{targets-none, targets-stuck, targets-lack, targets-rest, down-none, down}
-use Rattle.term_check.proofs.check.Bound.{try-misses, try-lacks, try-serves, failed-start, tried-serves, tried-fails, tried-none, failed-end, try-next, served, next-behind, next-listed}
+use Rattle.term_check.proofs.check.Bound.{try-misses, try-lacks, try-serves, failed-start, tried-serves, tried-fails, tried-none, failed-end, try-next, served, next-behind, listed-is}
 use Rattle.term_check.proofs.check.Bound as Bound
 use Rattle.term_check.proofs.check.Given.{given-start, given-none, given-end, member-misses, member-fails, member-has}
 use Rattle.term_check.proofs.check.Given as Given
@@ -92,7 +92,7 @@ use Rattle.term_check.proofs.heads.alone.Reads as alone-reads
 use Rattle.term_check.proofs.heads.args_known.Reads as args-known-reads
 use Rattle.term_check.proofs.heads.candidate.Reads as candidate-reads
 use Rattle.term_check.proofs.heads.goes_down.Reads as goes-down-reads
-use Rattle.term_check.proofs.heads.listed.Reads as listed-reads
+use Rattle.term_check.proofs.heads.leading.Reads as leading-reads
 use Rattle.term_check.proofs.heads.look.Reads as look-reads
 use Rattle.term_check.proofs.heads.targets_for.Reads as targets-for-reads
 use Rattle.term_check.proofs.heads.wanted.Reads as wanted-reads
@@ -335,7 +335,7 @@ check-given-claims t =
 
 abbrev check-listed-claims : ℕ → check-listed-lts.Claims
 check-listed-claims t =
-    (number-in-reads.Asked, number-in-reads.Learnt, group-of-reads.Asked, group-of-reads.Learnt, next-in-reads.Asked, next-in-reads.Learnt, listed-reads.Asked, listed-reads.Learnt, check-args-below t, check-args.Post, note-in-reads.Asked, note-in-reads.Learnt, hint-in-reads.Asked, hint-in-reads.Learnt)
+    (number-in-reads.Asked, number-in-reads.Learnt, group-of-reads.Asked, group-of-reads.Learnt, next-in-reads.Asked, next-in-reads.Learnt, leading-reads.Asked, leading-reads.Learnt, check-args-below t, check-args.Post, note-in-reads.Asked, note-in-reads.Learnt, hint-in-reads.Asked, hint-in-reads.Learnt)
 
 abbrev all-members-claims : ℕ → all-members-lts.Claims
 all-members-claims t =
@@ -347,7 +347,7 @@ check-states-claims t =
 
 abbrev one-target-claims : ℕ → one-target-lts.Claims
 one-target-claims t =
-    (number-in-reads.Asked, number-in-reads.Learnt, node-of-reads.Asked, node-of-reads.Learnt, alone-reads.Asked, alone-reads.Learnt, check-term-below t, check-term.Post)
+    (alone-reads.Asked, alone-reads.Learnt, check-term-below t, check-term.Post)
 
 abbrev all-targets-claims : ℕ → all-targets-lts.Claims
 all-targets-claims t =
@@ -611,7 +611,7 @@ check-given-returns-3 : (t : ℕ) → check-given-lts.Need-returns-3 (check-give
 check-given-returns-3 t c = (c .before .loop .inv .0, λ ea nc nn. given-end _ _ _ _ _ _ _ (c .before .before .before .before .off .ensures ∙ ap (offOf _ _) (c .before .before .before .before .before .number-in .ensures .0)) ea nc nn (c .before .loop .inv .1) _ (c .before .before .many-of .ensures .0) (c .loop-test .left))
 
 abbrev check-listed-Inv-loop : check-listed-lts.InvT-loop
-check-listed-Inv-loop t r w₀ at goal node row high from₀ w from = (length w ≡ length w₀) × (node ≡ nodeAt t (baseIn r) at → node .tag ≡ 1 → Bound.Failed (caseOf t r) (answersOf r w₀) (usersOf r w₀) at goal node (answersOf r w) (usersOf r w) from)
+check-listed-Inv-loop t r w₀ at goal node row high from₀ w from = (length w ≡ length w₀) × (groupOf t (node .number) ≤ from) × (node ≡ nodeAt t (baseIn r) at → node .tag ≡ 1 → Bound.Failed (caseOf t r) (answersOf r w₀) (usersOf r w₀) at goal node (answersOf r w) (usersOf r w) from)
 
 abbrev check-listed-μ-loop : check-listed-lts.MeasureT-loop
 check-listed-μ-loop t r w₀ at goal node row high from₀ w from = high - from
@@ -635,7 +635,7 @@ check-listed-group-of-requires-2 : (t : ℕ) → check-listed-lts.Need-group-of-
 check-listed-group-of-requires-2 t c κs = search needs
 
 check-listed-loop-holds : (t : ℕ) → check-listed-lts.Need-loop-holds (check-listed-claims t) (check-listed-at t) check-listed.Post check-listed-Inv-loop check-listed-μ-loop
-check-listed-loop-holds t c = (refl, λ ea et. failed-start _ _ _ _ _ _ _ (c .group-of2 .ensures .0))
+check-listed-loop-holds t c = (refl, let e = c .group-of2 .ensures .0 in omega arith, λ ea et. failed-start _ _ _ _ _ _ _ (c .group-of2 .ensures .0))
 
 check-listed-next-in-requires : (t : ℕ) → check-listed-lts.Need-next-in-requires (check-listed-claims t) (check-listed-at t) check-listed.Post check-listed-Inv-loop check-listed-μ-loop
 check-listed-next-in-requires t c κs = search needs
@@ -647,10 +647,10 @@ check-listed-same-length : (t : ℕ) → check-listed-lts.Need-same-length (chec
 check-listed-same-length t c = c .before .before .before .loop .inv .0
 
 check-listed-returns : (t : ℕ) → check-listed-lts.Need-returns (check-listed-claims t) (check-listed-at t) check-listed.Post check-listed-Inv-loop check-listed-μ-loop
-check-listed-returns t c = (c .before .before .before .loop .inv .0, λ ea et. failed-end _ _ _ _ _ _ (tried-none _ _ _ _ _ _ (try-next _ _ _ _ _ _ (c .before .before .before .loop .inv .1 ea et) _ _ ((c .before .next-in .result) + 1) _ (ap (λ k. (c .before .before .before .before .before .before .before .before .before .before .before .args .goal) % rowLimit * (k % wordsLimit)) (c .before .before .before .before .before .before .before .number-in .ensures .0)) (next-behind-sets _ testCells _ _ _ _ (c .before .next-in .ensures)) (omega arith)) (c .before .before .before .before .before .group-of .result) (let h = c .if1 .taken in omega arith)) _ (c .before .before .before .before .before .group-of .ensures .0) (omega arith) ea et)
+check-listed-returns t c = (c .before .before .before .loop .inv .0, λ ea et. failed-end _ _ _ _ _ _ (tried-none _ _ _ _ _ _ (try-next _ _ _ _ _ _ (c .before .before .before .loop .inv .2 ea et) _ _ ((c .before .next-in .result) + 1) _ (ap (λ k. (c .before .before .before .before .before .before .before .before .before .before .before .args .goal) % rowLimit * (k % wordsLimit)) (c .before .before .before .before .before .before .before .number-in .ensures .0)) (next-behind-sets _ testCells _ _ _ _ (c .before .next-in .ensures)) (omega arith)) (c .before .before .before .before .before .group-of .result) (let h = c .if1 .taken in omega arith)) _ (c .before .before .before .before .before .group-of .ensures .0) (omega arith) ea et)
 
-check-listed-listed-requires : (t : ℕ) → check-listed-lts.Need-listed-requires (check-listed-claims t) (check-listed-at t) check-listed.Post check-listed-Inv-loop check-listed-μ-loop
-check-listed-listed-requires t c κs = search needs
+check-listed-leading-requires : (t : ℕ) → check-listed-lts.Need-leading-requires (check-listed-claims t) (check-listed-at t) check-listed.Post check-listed-Inv-loop check-listed-μ-loop
+check-listed-leading-requires t c κs = search needs
 
 check-listed-add-check-args : (t : ℕ) → check-listed-lts.Need-add-check-args (check-listed-claims t) (check-listed-at t) check-listed.Post check-listed-Inv-loop check-listed-μ-loop
 check-listed-add-check-args t c = let h = c .before .before .before .before .before .before .before .before .before .before .before .before .before .before .pre .1 in omega arith
@@ -668,25 +668,25 @@ check-listed-same-length-2 : (t : ℕ) → check-listed-lts.Need-same-length-2 (
 check-listed-same-length-2 t c = c .before .before .hint-in .ensures .0 ∙ c .before .before .before .before .before .before .note-in .ensures .0 ∙ c .before .before .before .before .before .before .before .before .before .before .before .check-args .ensures .0 ∙ c .before .before .before .before .before .before .before .before .before .before .before .before .before .before .before .before .before .before .loop .inv .0
 
 check-listed-returns-2 : (t : ℕ) → check-listed-lts.Need-returns-2 (check-listed-claims t) (check-listed-at t) check-listed.Post check-listed-Inv-loop check-listed-μ-loop
-check-listed-returns-2 t c = (c .before .before .hint-in .ensures .0 ∙ c .before .before .before .before .before .before .note-in .ensures .0 ∙ c .before .before .before .before .before .before .before .before .before .before .before .check-args .ensures .0 ∙ c .before .before .before .before .before .before .before .before .before .before .before .before .before .before .before .before .before .before .loop .inv .0, λ ea et. tried-serves _ _ _ _ _ _ (try-next _ _ _ _ _ _ (c .before .before .before .before .before .before .before .before .before .before .before .before .before .before .before .before .before .before .loop .inv .1 ea et) _ _ ((c .before .before .before .before .before .before .before .before .before .before .before .before .before .before .before .before .next-in .result) + 1) _ (ap (λ k. (c .before .before .before .before .before .before .before .before .before .before .before .before .before .before .before .before .before .before .before .before .before .before .before .before .before .before .args .goal) % rowLimit * (k % wordsLimit)) (c .before .before .before .before .before .before .before .before .before .before .before .before .before .before .before .before .before .before .before .before .before .before .number-in .ensures .0)) (next-behind-sets _ testCells _ _ _ _ (c .before .before .before .before .before .before .before .before .before .before .before .before .before .before .before .before .next-in .ensures)) (omega arith)) _ _ _ ea et (tries-moved _ _ _ _ _ _ _ _ _ _ _ _ (c .before .before .hint-in .ensures .1 ∙ c .before .before .before .before .before .before .note-in .ensures .1) (c .before .before .hint-in .ensures .2) (try-serves _ _ _ _ _ _ _ _ (c .before .before .before .before .before .before .before .before .before .before .before .before .before .before .listed .ensures (next-listed _ (now (c .before .before .before .before .before .before .before .before .before .before .before .before .before .before .before .before .before .before .before .before .before .before .before .before .before .before .args .r)) _ _ _ _ _ (c .before .before .before .before .before .before .before .before .before .before .before .before .before .before .before .before .before .before .before .before .before .before .number-in .ensures .0) (next-behind-sets _ testCells _ _ _ _ (c .before .before .before .before .before .before .before .before .before .before .before .before .before .before .before .before .next-in .ensures)) (c .before .before .before .before .before .before .before .before .before .before .before .before .before .before .before .if1 .left))) (c .before .before .before .before .before .before .before .before .before .before .before .before .before .if2 .taken) ((c .before .before .before .before .before .before .before .before .before .before .before .before .before .before .before .before .before .before .before .before .before .before .before .before .before .before .args .at) + 1) (omega arith) _ _ _ (c .before .before .before .before .before .before .before .before .before .before .before .check-args .ensures .1) (c .before .before .before .before .before .before .before .before .if3 .taken) _ (c .before .before .before .before .before .before .note-in .ensures .2))) refl)
+check-listed-returns-2 t c = (c .before .before .hint-in .ensures .0 ∙ c .before .before .before .before .before .before .note-in .ensures .0 ∙ c .before .before .before .before .before .before .before .before .before .before .before .check-args .ensures .0 ∙ c .before .before .before .before .before .before .before .before .before .before .before .before .before .before .before .before .before .before .loop .inv .0, λ ea et. tried-serves _ _ _ _ _ _ (try-next _ _ _ _ _ _ (c .before .before .before .before .before .before .before .before .before .before .before .before .before .before .before .before .before .before .loop .inv .2 ea et) _ _ ((c .before .before .before .before .before .before .before .before .before .before .before .before .before .before .before .before .next-in .result) + 1) _ (ap (λ k. (c .before .before .before .before .before .before .before .before .before .before .before .before .before .before .before .before .before .before .before .before .before .before .before .before .before .before .args .goal) % rowLimit * (k % wordsLimit)) (c .before .before .before .before .before .before .before .before .before .before .before .before .before .before .before .before .before .before .before .before .before .before .number-in .ensures .0)) (next-behind-sets _ testCells _ _ _ _ (c .before .before .before .before .before .before .before .before .before .before .before .before .before .before .before .before .next-in .ensures)) (omega arith)) _ _ _ ea et (tries-moved _ _ _ _ _ _ _ _ _ _ _ _ (c .before .before .hint-in .ensures .1 ∙ c .before .before .before .before .before .before .note-in .ensures .1) (c .before .before .hint-in .ensures .2) (try-serves _ _ _ _ _ _ _ _ (listed-is _ _ _ _ _ _ _ _ _ (c .before .before .before .before .before .before .before .before .before .before .before .before .before .before .before .before .before .before .before .before .before .before .number-in .ensures .0) (next-behind-sets _ testCells _ _ _ _ (c .before .before .before .before .before .before .before .before .before .before .before .before .before .before .before .before .next-in .ensures)) (c .before .before .before .before .before .before .before .before .before .before .before .before .before .before .before .if1 .left) (c .before .before .before .before .before .before .before .before .before .before .before .before .before .before .before .before .before .before .loop .inv .1) (c .before .before .before .before .before .before .before .before .before .before .before .before .before .before .before .before .before .before .before .before .group-of .ensures .0) (c .before .before .before .before .before .before .before .before .before .before .before .before .before .before .leading .ensures)) (c .before .before .before .before .before .before .before .before .before .before .before .before .before .if2 .taken) ((c .before .before .before .before .before .before .before .before .before .before .before .before .before .before .before .before .before .before .before .before .before .before .before .before .before .before .args .at) + 1) (omega arith) _ _ _ (c .before .before .before .before .before .before .before .before .before .before .before .check-args .ensures .1) (c .before .before .before .before .before .before .before .before .if3 .taken) _ (c .before .before .before .before .before .before .note-in .ensures .2))) refl)
 
 check-listed-loop-less : (t : ℕ) → check-listed-lts.Need-loop-less (check-listed-claims t) (check-listed-at t) check-listed.Post check-listed-Inv-loop check-listed-μ-loop
 check-listed-loop-less t c = let h = c .before .before .before .before .before .before .before .before .before .loop-test .taken in let b = next-behind _ _ _ _ _ (c .before .before .before .before .before .before .before .before .next-in .ensures) (omega arith) in omega arith
 
 check-listed-loop-again : (t : ℕ) → check-listed-lts.Need-loop-again (check-listed-claims t) (check-listed-at t) check-listed.Post check-listed-Inv-loop check-listed-μ-loop
-check-listed-loop-again t c = (c .before .before .before .check-args .ensures .0 ∙ c .before .before .before .before .before .before .before .before .before .before .loop .inv .0, λ ea et. tried-fails _ _ _ _ _ _ (try-next _ _ _ _ _ _ (c .before .before .before .before .before .before .before .before .before .before .loop .inv .1 ea et) _ _ ((c .before .before .before .before .before .before .before .before .next-in .result) + 1) _ (ap (λ k. (c .before .before .before .before .before .before .before .before .before .before .before .before .before .before .before .before .before .before .args .goal) % rowLimit * (k % wordsLimit)) (c .before .before .before .before .before .before .before .before .before .before .before .before .before .before .number-in .ensures .0)) (next-behind-sets _ testCells _ _ _ _ (c .before .before .before .before .before .before .before .before .next-in .ensures)) (omega arith)) _ _ _ ea et (try-lacks _ _ _ _ _ _ _ _ (c .before .before .before .before .before .before .listed .ensures (next-listed _ (now (c .before .before .before .before .before .before .before .before .before .before .before .before .before .before .before .before .before .before .args .r)) _ _ _ _ _ (c .before .before .before .before .before .before .before .before .before .before .before .before .before .before .number-in .ensures .0) (next-behind-sets _ testCells _ _ _ _ (c .before .before .before .before .before .before .before .before .next-in .ensures)) (c .before .before .before .before .before .before .before .if1 .left))) (c .before .before .before .before .before .if2 .taken) ((c .before .before .before .before .before .before .before .before .before .before .before .before .before .before .before .before .before .before .args .at) + 1) (omega arith) _ _ _ (c .before .before .before .check-args .ensures .1) (c .if3 .left)) refl)
+check-listed-loop-again t c = (c .before .before .before .check-args .ensures .0 ∙ c .before .before .before .before .before .before .before .before .before .before .loop .inv .0, (let l = c .before .before .before .before .before .before .before .before .before .before .loop .inv .1 in let h = c .before .before .before .before .before .before .before .before .before .loop-test .taken in let b = next-behind _ _ _ _ _ (c .before .before .before .before .before .before .before .before .next-in .ensures) (omega arith) in omega arith), λ ea et. tried-fails _ _ _ _ _ _ (try-next _ _ _ _ _ _ (c .before .before .before .before .before .before .before .before .before .before .loop .inv .2 ea et) _ _ ((c .before .before .before .before .before .before .before .before .next-in .result) + 1) _ (ap (λ k. (c .before .before .before .before .before .before .before .before .before .before .before .before .before .before .before .before .before .before .args .goal) % rowLimit * (k % wordsLimit)) (c .before .before .before .before .before .before .before .before .before .before .before .before .before .before .number-in .ensures .0)) (next-behind-sets _ testCells _ _ _ _ (c .before .before .before .before .before .before .before .before .next-in .ensures)) (omega arith)) _ _ _ ea et (try-lacks _ _ _ _ _ _ _ _ (listed-is _ _ _ _ _ _ _ _ _ (c .before .before .before .before .before .before .before .before .before .before .before .before .before .before .number-in .ensures .0) (next-behind-sets _ testCells _ _ _ _ (c .before .before .before .before .before .before .before .before .next-in .ensures)) (c .before .before .before .before .before .before .before .if1 .left) (c .before .before .before .before .before .before .before .before .before .before .loop .inv .1) (c .before .before .before .before .before .before .before .before .before .before .before .before .group-of .ensures .0) (c .before .before .before .before .before .before .leading .ensures)) (c .before .before .before .before .before .if2 .taken) ((c .before .before .before .before .before .before .before .before .before .before .before .before .before .before .before .before .before .before .args .at) + 1) (omega arith) _ _ _ (c .before .before .before .check-args .ensures .1) (c .if3 .left)) refl)
 
 check-listed-loop-less-2 : (t : ℕ) → check-listed-lts.Need-loop-less-2 (check-listed-claims t) (check-listed-at t) check-listed.Post check-listed-Inv-loop check-listed-μ-loop
 check-listed-loop-less-2 t c = let h = c .before .before .before .before .loop-test .taken in let b = next-behind _ _ _ _ _ (c .before .before .before .next-in .ensures) (omega arith) in omega arith
 
 check-listed-loop-again-2 : (t : ℕ) → check-listed-lts.Need-loop-again-2 (check-listed-claims t) (check-listed-at t) check-listed.Post check-listed-Inv-loop check-listed-μ-loop
-check-listed-loop-again-2 t c = (c .before .before .before .before .before .loop .inv .0, λ ea et. tried-fails _ _ _ _ _ _ (try-next _ _ _ _ _ _ (c .before .before .before .before .before .loop .inv .1 ea et) _ _ ((c .before .before .before .next-in .result) + 1) _ (ap (λ k. (c .before .before .before .before .before .before .before .before .before .before .before .before .before .args .goal) % rowLimit * (k % wordsLimit)) (c .before .before .before .before .before .before .before .before .before .number-in .ensures .0)) (next-behind-sets _ testCells _ _ _ _ (c .before .before .before .next-in .ensures)) (omega arith)) _ _ _ ea et (try-misses _ _ _ _ _ _ _ _ (c .before .listed .ensures (next-listed _ (now (c .before .before .before .before .before .before .before .before .before .before .before .before .before .args .r)) _ _ _ _ _ (c .before .before .before .before .before .before .before .before .before .number-in .ensures .0) (next-behind-sets _ testCells _ _ _ _ (c .before .before .before .next-in .ensures)) (c .before .before .if1 .left))) (c .if2 .left)) refl)
+check-listed-loop-again-2 t c = (c .before .before .before .before .before .loop .inv .0, (let l = c .before .before .before .before .before .loop .inv .1 in let h = c .before .before .before .before .loop-test .taken in let b = next-behind _ _ _ _ _ (c .before .before .before .next-in .ensures) (omega arith) in omega arith), λ ea et. tried-fails _ _ _ _ _ _ (try-next _ _ _ _ _ _ (c .before .before .before .before .before .loop .inv .2 ea et) _ _ ((c .before .before .before .next-in .result) + 1) _ (ap (λ k. (c .before .before .before .before .before .before .before .before .before .before .before .before .before .args .goal) % rowLimit * (k % wordsLimit)) (c .before .before .before .before .before .before .before .before .before .number-in .ensures .0)) (next-behind-sets _ testCells _ _ _ _ (c .before .before .before .next-in .ensures)) (omega arith)) _ _ _ ea et (try-misses _ _ _ _ _ _ _ _ (listed-is _ _ _ _ _ _ _ _ _ (c .before .before .before .before .before .before .before .before .before .number-in .ensures .0) (next-behind-sets _ testCells _ _ _ _ (c .before .before .before .next-in .ensures)) (c .before .before .if1 .left) (c .before .before .before .before .before .loop .inv .1) (c .before .before .before .before .before .before .before .group-of .ensures .0) (c .before .leading .ensures)) (c .if2 .left)) refl)
 
 check-listed-same-length-3 : (t : ℕ) → check-listed-lts.Need-same-length-3 (check-listed-claims t) (check-listed-at t) check-listed.Post check-listed-Inv-loop check-listed-μ-loop
 check-listed-same-length-3 t c = c .before .loop .inv .0
 
 check-listed-returns-3 : (t : ℕ) → check-listed-lts.Need-returns-3 (check-listed-claims t) (check-listed-at t) check-listed.Post check-listed-Inv-loop check-listed-μ-loop
-check-listed-returns-3 t c = (c .before .loop .inv .0, λ ea et. failed-end _ _ _ _ _ _ (c .before .loop .inv .1 ea et) _ (c .before .before .before .group-of .ensures .0) (c .loop-test .left) ea et)
+check-listed-returns-3 t c = (c .before .loop .inv .0, λ ea et. failed-end _ _ _ _ _ _ (c .before .loop .inv .2 ea et) _ (c .before .before .before .group-of .ensures .0) (c .loop-test .left) ea et)
 
 all-members-states-of-requires : (t : ℕ) → all-members-lts.Need-states-of-requires (all-members-claims t) (all-members-at t) all-members.Post
 all-members-states-of-requires t c κs = search needs
@@ -817,29 +817,23 @@ check-states-same-length-3 t c = c .before .before .learn-in3 .ensures .0 ∙ c 
 check-states-returns-3 : (t : ℕ) → check-states-lts.Need-returns-3 (check-states-claims t) (check-states-at t) check-states.Post check-states-Inv-loop check-states-μ-loop
 check-states-returns-3 t c = (c .before .before .learn-in3 .ensures .0 ∙ c .before .before .before .before .before .loop .inv .0 ∙ c .before .before .before .before .before .before .before .before .before .before .before .find-states .ensures .0, all-moved _ _ _ (c .before .before .before .before .before .before .before .before .before .before .before .before .before .before .before .before .args .at) _ _ _ _ _ (c .before .before .learn-in3 .ensures .1) (left-end _ _ _ _ _ (c .before .before .before .before .before .loop .inv .1 _ _ (c .before .before .before .before .before .before .before .before .before .before .before .find-states .ensures .1 .finds)) (c .before .before .before .before .loop-test .left) _ (c .before .before .learn-in3 .ensures .2)))
 
-one-target-number-in-requires : (t : ℕ) → one-target-lts.Need-number-in-requires (one-target-claims t) (one-target-at t) one-target.Post
-one-target-number-in-requires t c κs = search needs
-
-one-target-node-of-requires : (t : ℕ) → one-target-lts.Need-node-of-requires (one-target-claims t) (one-target-at t) one-target.Post
-one-target-node-of-requires t c κs = search needs
-
 one-target-alone-requires : (t : ℕ) → one-target-lts.Need-alone-requires (one-target-claims t) (one-target-at t) one-target.Post
 one-target-alone-requires t c κs = search needs
 
 one-target-returns : (t : ℕ) → one-target-lts.Need-returns (one-target-claims t) (one-target-at t) one-target.Post
-one-target-returns t c = (refl, alone-no _ _ _ _ _ _ _ (c .before .alone .ensures) (node-by _ (now (c .before .before .before .before .before .before .before .args .r)) _ _ _ (c .before .before .before .number-in .ensures .0) (c .before .before .node-of .ensures)) (c .if1 .taken))
+one-target-returns t c = (refl, λ ea. alone-no _ _ _ _ _ _ _ (c .before .alone .ensures) ea (λ z. let h = c .before .before .if1 .taken in omega arith) (λ z. let h = c .before .before .if1 .taken in omega arith) (c .if2 .taken))
 
 one-target-returns-2 : (t : ℕ) → one-target-lts.Need-returns-2 (one-target-claims t) (one-target-at t) one-target.Post
-one-target-returns-2 t c = (refl, alone-yes _ _ _ _ _ _ _ (c .before .before .alone .ensures) (node-by _ (now (c .before .before .before .before .before .before .before .before .args .r)) _ _ _ (c .before .before .before .before .number-in .ensures .0) (c .before .before .before .node-of .ensures)) (c .if2 .taken))
+one-target-returns-2 t c = (refl, λ ea. alone-yes _ _ _ _ _ _ _ (c .before .before .alone .ensures) ea (λ z. let h = c .before .before .before .if1 .taken in omega arith) (λ z. let h = c .before .before .before .if1 .taken in omega arith) (c .if3 .taken))
 
 one-target-check-term-requires : (t : ℕ) → one-target-lts.Need-check-term-requires (one-target-claims t) (one-target-at t) one-target.Post
-one-target-check-term-requires t c κs = let p = c .before .before .before .before .before .before .before .before .before .pre .0 in (omega arith, Prim.tt)
+one-target-check-term-requires t c κs = let p = c .before .before .before .before .before .before .pre .0 in (omega arith, Prim.tt)
 
 one-target-same-length : (t : ℕ) → one-target-lts.Need-same-length (one-target-claims t) (one-target-at t) one-target.Post
 one-target-same-length t c = c .before .before .check-term .ensures .0
 
 one-target-returns-3 : (t : ℕ) → one-target-lts.Need-returns-3 (one-target-claims t) (one-target-at t) one-target.Post
-one-target-returns-3 t c = (c .before .before .check-term .ensures .0, c .before .before .check-term .ensures .1)
+one-target-returns-3 t c = (c .before .before .check-term .ensures .0, λ ea. c .before .before .check-term .ensures .1)
 
 abbrev all-targets-Inv-loop : all-targets-lts.InvT-loop
 all-targets-Inv-loop t r w₀ at count targets base here₀ rest₀ left₀ w here rest left = (length w ≡ length w₀) × (at ≤ here) × ((memo′ users′ : List ℕ) (b : Bool) → ChecksTargets (caseOf t r) (answersOf r w) (usersOf r w) here left rest memo′ users′ b → ChecksTargets (caseOf t r) (answersOf r w₀) (usersOf r w₀) at count targets memo′ users′ b)
@@ -890,7 +884,7 @@ all-targets-same-length-3 : (t : ℕ) → all-targets-lts.Need-same-length-3 (al
 all-targets-same-length-3 t c = c .before .before .before .one-target .ensures .0 ∙ c .before .before .before .before .before .before .before .before .before .before .before .loop .inv .0
 
 all-targets-returns-3 : (t : ℕ) → all-targets-lts.Need-returns-3 (all-targets-claims t) (all-targets-at t) all-targets.Post all-targets-Inv-loop all-targets-μ-loop
-all-targets-returns-3 t c = (c .before .before .before .one-target .ensures .0 ∙ c .before .before .before .before .before .before .before .before .before .before .before .loop .inv .0, c .before .before .before .before .before .before .before .before .before .before .before .loop .inv .2 _ _ _ (targets-lack _ _ _ _ _ _ (c .before .before .before .before .before .before .before .before .before .before .loop-test .taken) _ (next-by _ (now (c .before .before .before .before .before .before .before .before .before .before .before .before .before .before .before .before .args .r)) _ _ _ (c .before .before .before .before .before .before .before .before .before .before .before .before .number-in .ensures .0) (c .before .before .before .before .before .before .before .before .before .node-of .ensures)) _ _ _ (c .before .before .before .one-target .ensures .1) (not-true _ (c .if4 .taken))))
+all-targets-returns-3 t c = (c .before .before .before .one-target .ensures .0 ∙ c .before .before .before .before .before .before .before .before .before .before .before .loop .inv .0, c .before .before .before .before .before .before .before .before .before .before .before .loop .inv .2 _ _ _ (targets-lack _ _ _ _ _ _ (c .before .before .before .before .before .before .before .before .before .before .loop-test .taken) _ (next-by _ (now (c .before .before .before .before .before .before .before .before .before .before .before .before .before .before .before .before .args .r)) _ _ _ (c .before .before .before .before .before .before .before .before .before .before .before .before .number-in .ensures .0) (c .before .before .before .before .before .before .before .before .before .node-of .ensures)) _ _ _ (c .before .before .before .one-target .ensures .1 (node-by _ (now (c .before .before .before .before .before .before .before .before .before .before .before .before .before .before .before .before .args .r)) _ _ _ (c .before .before .before .before .before .before .before .before .before .before .before .before .number-in .ensures .0) (c .before .before .before .before .before .before .before .before .before .node-of .ensures))) (not-true _ (c .if4 .taken))))
 
 all-targets-sub-left : (t : ℕ) → all-targets-lts.Need-sub-left (all-targets-claims t) (all-targets-at t) all-targets.Post all-targets-Inv-loop all-targets-μ-loop
 all-targets-sub-left t c = let l = c .before .before .before .before .before .before .before .before .before .before .loop-test .taken in omega arith
@@ -899,7 +893,7 @@ all-targets-loop-less-2 : (t : ℕ) → all-targets-lts.Need-loop-less-2 (all-ta
 all-targets-loop-less-2 t c = let h = c .before .before .before .before .before .before .before .if1 .left in omega arith
 
 all-targets-loop-again-2 : (t : ℕ) → all-targets-lts.Need-loop-again-2 (all-targets-claims t) (all-targets-at t) all-targets.Post all-targets-Inv-loop all-targets-μ-loop
-all-targets-loop-again-2 t c = (c .before .before .before .one-target .ensures .0 ∙ c .before .before .before .before .before .before .before .before .before .before .before .loop .inv .0, let l = c .before .before .before .before .before .before .before .before .before .before .before .loop .inv .1 in let h = c .before .before .before .before .before .before .before .if1 .left in omega arith, λ m u b told. c .before .before .before .before .before .before .before .before .before .before .before .loop .inv .2 m u b (targets-rest _ _ _ _ _ _ (c .before .before .before .before .before .before .before .before .before .before .loop-test .taken) _ (next-by _ (now (c .before .before .before .before .before .before .before .before .before .before .before .before .before .before .before .before .args .r)) _ _ _ (c .before .before .before .before .before .before .before .before .before .before .before .before .number-in .ensures .0) (c .before .before .before .before .before .before .before .before .before .node-of .ensures)) _ _ _ (c .before .before .before .one-target .ensures .1) (not-false _ (c .if4 .left)) m u b told))
+all-targets-loop-again-2 t c = (c .before .before .before .one-target .ensures .0 ∙ c .before .before .before .before .before .before .before .before .before .before .before .loop .inv .0, let l = c .before .before .before .before .before .before .before .before .before .before .before .loop .inv .1 in let h = c .before .before .before .before .before .before .before .if1 .left in omega arith, λ m u b told. c .before .before .before .before .before .before .before .before .before .before .before .loop .inv .2 m u b (targets-rest _ _ _ _ _ _ (c .before .before .before .before .before .before .before .before .before .before .loop-test .taken) _ (next-by _ (now (c .before .before .before .before .before .before .before .before .before .before .before .before .before .before .before .before .args .r)) _ _ _ (c .before .before .before .before .before .before .before .before .before .before .before .before .number-in .ensures .0) (c .before .before .before .before .before .before .before .before .before .node-of .ensures)) _ _ _ (c .before .before .before .one-target .ensures .1 (node-by _ (now (c .before .before .before .before .before .before .before .before .before .before .before .before .before .before .before .before .args .r)) _ _ _ (c .before .before .before .before .before .before .before .before .before .before .before .before .number-in .ensures .0) (c .before .before .before .before .before .before .before .before .before .node-of .ensures))) (not-false _ (c .if4 .left)) m u b told))
 
 all-targets-same-length-4 : (t : ℕ) → all-targets-lts.Need-same-length-4 (all-targets-claims t) (all-targets-at t) all-targets.Post all-targets-Inv-loop all-targets-μ-loop
 all-targets-same-length-4 t c = c .before .loop .inv .0
@@ -947,10 +941,10 @@ check-term-alone-requires : (t : ℕ) → check-term-lts.Need-alone-requires (ch
 check-term-alone-requires t c κs = search needs
 
 check-term-returns-5 : (t : ℕ) → check-term-lts.Need-returns-5 (check-term-claims t) (check-term-at t) check-term.Post
-check-term-returns-5 t c = (refl, alone-no _ _ _ _ _ _ _ (c .before .alone .ensures) (node-by _ (now (c .before .before .before .before .before .before .before .before .before .before .before .before .args .r)) _ _ _ (c .before .before .before .before .before .before .before .number-in .ensures .0) (c .before .before .before .before .before .before .node-of .ensures)) (c .if5 .taken))
+check-term-returns-5 t c = (refl, alone-no _ _ _ _ _ _ _ (c .before .alone .ensures) (node-by _ (now (c .before .before .before .before .before .before .before .before .before .before .before .before .args .r)) _ _ _ (c .before .before .before .before .before .before .before .number-in .ensures .0) (c .before .before .before .before .before .before .node-of .ensures)) (c .before .before .before .before .if2 .left) (c .before .before .if4 .left) (c .if5 .taken))
 
 check-term-returns-6 : (t : ℕ) → check-term-lts.Need-returns-6 (check-term-claims t) (check-term-at t) check-term.Post
-check-term-returns-6 t c = (refl, alone-yes _ _ _ _ _ _ _ (c .before .before .alone .ensures) (node-by _ (now (c .before .before .before .before .before .before .before .before .before .before .before .before .before .args .r)) _ _ _ (c .before .before .before .before .before .before .before .before .number-in .ensures .0) (c .before .before .before .before .before .before .before .node-of .ensures)) (c .if6 .taken))
+check-term-returns-6 t c = (refl, alone-yes _ _ _ _ _ _ _ (c .before .before .alone .ensures) (node-by _ (now (c .before .before .before .before .before .before .before .before .before .before .before .before .before .args .r)) _ _ _ (c .before .before .before .before .before .before .before .before .number-in .ensures .0) (c .before .before .before .before .before .before .before .node-of .ensures)) (c .before .before .before .before .before .if2 .left) (c .before .before .before .if4 .left) (c .if6 .taken))
 
 check-term-check-given-requires : (t : ℕ) → check-term-lts.Need-check-given-requires (check-term-claims t) (check-term-at t) check-term.Post
 check-term-check-given-requires t c κs = let p = c .before .before .before .before .before .before .before .before .before .before .before .before .before .before .pre .0 in let h = c .before .before .before .before .before .before .before .before .before .before .if1 .left in (omega arith, omega arith)
@@ -1331,7 +1325,7 @@ pub +all-args+all-members+all-targets+args-again+check-args+check-bound+check-ea
     (check-listed-add-from t)
     (check-listed-same-length t)
     (check-listed-returns t)
-    (check-listed-listed-requires t)
+    (check-listed-leading-requires t)
     (check-listed-add-check-args t)
     (check-listed-check-args-requires t)
     (check-listed-note-in-requires t)
@@ -1457,8 +1451,6 @@ pub +all-args+all-members+all-targets+args-again+check-args+check-bound+check-ea
     (λ t. one-target-lts.spec (one-target-claims t)
     (one-target-at t)
     one-target.Post
-    (one-target-number-in-requires t)
-    (one-target-node-of-requires t)
     (one-target-alone-requires t)
     (one-target-returns t)
     (one-target-returns-2 t)

@@ -3,7 +3,7 @@ use native.Mathlib.Omega.{arith}
 use denote.Ref.{now}
 use lib.ListN.{drop}
 use borrow.Author.Tests.{not-true, not-false}
-use Rattle.term_check.proofs.heads.Candidates.{row-fits, past-all, not-in-set, in-set}
+use Rattle.term_check.proofs.heads.Candidates.{row-fits, past-all, not-in-set, other-symbol, in-set, candidate-is, stands-by}
 use Rattle.index.specs.layout.Layout.{testCells}
 use Rattle.term_check.proofs.heads.Sets.{decides-behind}
 use borrow.Author.Needs.{needs}
@@ -31,11 +31,20 @@ is-in-requires c κs = search needs
 returns-2 : tie.Need-returns-2
 returns-2 c = not-in-set _ _ _ _ _ _ _ (c .before .before .number-in2 .ensures .0) (decides-behind _ testCells _ _ _ (c .before .is-in .ensures)) (not-true _ (c .if2 .taken))
 
-listed-requires : tie.Need-listed-requires
-listed-requires c κs = search needs
+symbol-of-requires : tie.Need-symbol-of-requires
+symbol-of-requires c κs = search needs
 
 returns-3 : tie.Need-returns-3
-returns-3 c = c .listed .ensures (in-set (drop testCells (now (c .before .before .before .before .before .before .before .before .args .r))) (now (c .before .before .before .before .before .before .before .before .args .r)) (c .before .before .before .before .before .before .before .before .args .goal) (c .before .before .before .before .before .before .before .before .args .c) (c .before .before .before .number-in2 .result) (c .before .before .before .number-in2 .ensures .0) (decides-behind _ testCells _ _ _ (c .before .before .is-in .ensures) .yes (not-false _ (c .before .if2 .left))))
+returns-3 c = other-symbol _ _ _ _ _ _ (c .before .symbol-of .ensures .0) (c .if3 .taken)
+
+leading-requires : tie.Need-leading-requires
+leading-requires c κs = search needs
+
+returns-4 : tie.Need-returns-4
+returns-4 c =
+    let a = c .before .before .before .before .before .before .before .before .before .before .args in
+    candidate-is _ _ _ _ _ _ (in-set (drop testCells (now (a .r))) (now (a .r)) (a .goal) (a .c) (c .before .before .before .before .before .number-in2 .result) (c .before .before .before .before .before .number-in2 .ensures .0) (decides-behind _ testCells _ _ _ (c .before .before .before .before .is-in .ensures) .yes (not-false _ (c .before .before .before .if2 .left))))
+    (stands-by _ _ _ _ _ (c .before .before .before .before .before .before .before .number-in .ensures .0) (c .before .before .before .before .before .before .if1 .left) (c .before .before .symbol-of .ensures .0) (c .before .if3 .left)) (c .leading .ensures)
 
 pub candidate-spec : {M : Type 1} → statement M
 candidate-spec =
@@ -48,5 +57,7 @@ candidate-spec =
     add-is-in
     is-in-requires
     returns-2
-    listed-requires
-    returns-3)
+    symbol-of-requires
+    returns-3
+    leading-requires
+    returns-4)

@@ -1,4 +1,5 @@
 -- `look` meets its contract.
+use native.Mathlib.Omega.{arith}
 use mathlib.Core.Path.{refl}
 use Rattle.term_check.proofs.heads.Looking.{seen-nothing, seen-memo, seen-given}
 use borrow.Author.Needs.{needs}
@@ -34,7 +35,7 @@ sub-t13 c = search needs
 
 returns-3 : tie.Need-returns-3
 returns-3 c =
-    seen-given _ _ _ _ _ _ _ _ _ (c .before .before .before .before .before .before .before .before .before .before .number-in .ensures .0) (c .before .before .before .before .before .before .before .before .before .node-of .ensures) (c .before .before .before .before .before .before .before .if1 .taken) (c .before .before .before .before .before .if2 .taken) (c .before .before .before .before .number-in2 .ensures .0)
+    seen-given _ _ _ _ _ _ _ _ _ (c .before .before .before .before .before .before .before .before .before .before .number-in .ensures .0) (c .before .before .before .before .before .before .before .before .before .node-of .ensures) (λ z. let h = c .before .before .before .before .before .before .before .if1 .taken in omega arith) (λ z. let h = c .before .before .before .before .before .before .before .if1 .taken in omega arith) (c .before .before .before .before .before .if2 .taken) (c .before .before .before .before .number-in2 .ensures .0)
     (c .before .before .before .off .ensures) (c .before .before .if3 .left) (c .before .if4 .left) (c .states-of .ensures .0) (c .states-of .ensures .1) refl refl
 
 outlook-in-requires : tie.Need-outlook-in-requires
