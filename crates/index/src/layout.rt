@@ -313,6 +313,11 @@ pub const HEAD_HINTS_AT: usize = HINTS / 2;
 
 pub const HINT_STRIDE: usize = 61;
 
+// The hints of a frame for few nodes, in halves likewise.
+pub const FEW_HINTS: usize = 2048;
+
+pub const FEW_HEAD_HINTS_AT: usize = FEW_HINTS / 2;
+
 // The frames of a binding case, the smallest first; behind these the one that has room for every file.
 pub const TINY_FRAME: usize = 0;
 
@@ -320,7 +325,9 @@ pub const SMALL_FRAME: usize = TINY_FRAME + 1;
 
 pub const PLAIN_FRAME: usize = SMALL_FRAME + 1;
 
-pub const MIDDLE_FRAME: usize = PLAIN_FRAME + 1;
+pub const BROAD_FRAME: usize = PLAIN_FRAME + 1;
+
+pub const MIDDLE_FRAME: usize = BROAD_FRAME + 1;
 
 pub const WIDE_FRAME: usize = MIDDLE_FRAME + 1;
 
@@ -385,6 +392,25 @@ pub const PLAIN_SETS: usize = PLAIN_GOALS * PLAIN_WORDS;
 pub const PLAIN_USERS: usize = PLAIN_BINDINGS * (PLAIN_WORDS + 1);
 
 pub const PLAIN_ANSWERS: usize = MAX_NODES * ((PLAIN_GOALS + WORD - 1) / WORD) * CELL;
+
+// The broad frame, likewise: for many types and bindings of few nodes; it has few hints.
+pub const BROAD_NODES: usize = 128;
+
+pub const BROAD_TYPES: usize = 320;
+
+pub const BROAD_BINDINGS: usize = 320;
+
+pub const BROAD_GOALS: usize = BROAD_TYPES + MAX_STATES;
+
+pub const BROAD_WORDS: usize = (BROAD_BINDINGS + WORD - 1) / WORD;
+
+pub const BROAD_TABLE: usize = ROWS_AT + BROAD_GOALS * ROW_CELLS + BROAD_NODES * NODE_CELLS;
+
+pub const BROAD_SETS: usize = BROAD_GOALS * BROAD_WORDS;
+
+pub const BROAD_USERS: usize = BROAD_BINDINGS * (BROAD_WORDS + 1);
+
+pub const BROAD_ANSWERS: usize = BROAD_NODES * ((BROAD_GOALS + WORD - 1) / WORD) * CELL;
 
 // The middle frame, likewise; it has hints.
 pub const MIDDLE_NODES: usize = 2048;

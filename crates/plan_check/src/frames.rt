@@ -3,7 +3,12 @@
 use binding_cases::Shrunken;
 use binding_cases::judge_bindings;
 use index::layout::ANSWERS;
+use index::layout::BROAD_ANSWERS;
+use index::layout::BROAD_SETS;
+use index::layout::BROAD_TABLE;
+use index::layout::BROAD_USERS;
 use index::layout::Counts;
+use index::layout::FEW_HINTS;
 use index::layout::HINTS;
 use index::layout::Index;
 use index::layout::MIDDLE_ANSWERS;
@@ -32,7 +37,7 @@ use index::layout::WIDE_ANSWERS;
 use index::layout::WIDE_SETS;
 use index::layout::WIDE_TABLE;
 use index::layout::WIDE_USERS;
-ghost use Rattle.index.specs.layout.Layout.{tinyNodes, tinyTypes, tinyBindings, smallNodes, smallTypes, smallBindings, plainNodes, plainTypes, plainBindings, middleNodes, middleTypes, middleBindings, wideNodes, wideTypes, wideBindings, endsSize, maxTypes, maxBindings};
+ghost use Rattle.index.specs.layout.Layout.{tinyNodes, tinyTypes, tinyBindings, smallNodes, smallTypes, smallBindings, plainNodes, plainTypes, plainBindings, broadNodes, broadTypes, broadBindings, middleNodes, middleTypes, middleBindings, wideNodes, wideTypes, wideBindings, endsSize, maxTypes, maxBindings};
 ghost use Rattle.plan_check.specs.Promises.{JudgesWithin};
 
 // What tests read in a frame: the numbers of a test, then the sets of candidates; and what they write: hints, then users, then answers.
@@ -48,7 +53,11 @@ const PLAIN_READ: usize = TEST_CELLS + PLAIN_SETS;
 
 const PLAIN_WRITE: usize = NO_HINTS + PLAIN_USERS + PLAIN_ANSWERS;
 
+const BROAD_READ: usize = TEST_CELLS + BROAD_SETS;
+
 const MIDDLE_READ: usize = TEST_CELLS + MIDDLE_SETS;
+
+const BROAD_WRITE: usize = FEW_HINTS + BROAD_USERS + BROAD_ANSWERS;
 
 const MIDDLE_WRITE: usize = HINTS + MIDDLE_USERS + MIDDLE_ANSWERS;
 
@@ -141,6 +150,34 @@ pub(crate) fn plain_bindings(
         &mut r,
         &mut w,
         NO_HINTS,
+        flags,
+    )
+}
+
+// What is kept of the bindings of a file, in the broad frame.
+pub(crate) fn broad_bindings(
+    file: &[u8],
+    index: &mut Index,
+    counts: &Counts,
+    ends: &[u16],
+    firsts: &mut Rows,
+    flags: &mut [u8],
+) -> Shrunken
+    ensures { λ r. ⌜ JudgesWithin broadNodes broadTypes broadBindings (now (file .entry)) (now (index .entry)) (now (counts .entry)) (now (ends .entry)) (now (flags .entry)) (now (flags .exit)) (r .accepted) (r .kept) (r .total) (r .rounds) ⌝ }
+{
+    let mut t = [0u16; BROAD_TABLE];
+    let mut r = [0u32; BROAD_READ];
+    let mut w = [0u32; BROAD_WRITE];
+    judge_bindings(
+        file,
+        index,
+        counts,
+        ends,
+        firsts,
+        &mut t,
+        &mut r,
+        &mut w,
+        FEW_HINTS,
         flags,
     )
 }

@@ -1,5 +1,9 @@
 // Which frames have room for a binding case.
 use index::entries::place_at;
+use index::layout::BROAD_BINDINGS;
+use index::layout::BROAD_FRAME;
+use index::layout::BROAD_NODES;
+use index::layout::BROAD_TYPES;
 use index::layout::Counts;
 use index::layout::Index;
 use index::layout::MIDDLE_BINDINGS;
@@ -86,6 +90,16 @@ pub(crate) fn has_room(frame: usize, nodes: usize, types: usize, bindings: usize
             PLAIN_NODES,
             PLAIN_TYPES,
             PLAIN_BINDINGS,
+        );
+    }
+    if frame == BROAD_FRAME {
+        return within(
+            nodes,
+            types,
+            bindings,
+            BROAD_NODES,
+            BROAD_TYPES,
+            BROAD_BINDINGS,
         );
     }
     if frame == MIDDLE_FRAME {

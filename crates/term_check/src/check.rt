@@ -20,7 +20,7 @@ use crate::parts::learn_in;
 use crate::parts::note_in;
 use crate::parts::outlook_on;
 use answers::Outlook;
-use index::layout::HINTS;
+use index::layout::FEW_HINTS;
 use index::layout::MAX_NODES;
 use index::layout::NO_TARGETS;
 use index::layout::NONE;
@@ -311,7 +311,7 @@ fn find_states(t: &[u16], r: &[u32], w: &mut [u32], at: usize, asked: u32) -> Ou
     }
     let node = node_of(t, number_in(r, TEST_BASE), at);
     if node.tag == 1 {
-        if number_in(r, TEST_USERS) < HINTS {
+        if number_in(r, TEST_USERS) < FEW_HINTS {
             return Outlook { had: 0, lacked: 0 };
         }
         let had = find_bound(&*t, &*r, w, at, asked, node);

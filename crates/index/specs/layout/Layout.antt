@@ -276,6 +276,9 @@ testCells = 16
 abbrev pub hintCells : ℕ
 hintCells = 8192
 
+abbrev pub fewHintCells : ℕ
+fewHintCells = 2048
+
 abbrev pub wordsLimit : ℕ
 wordsLimit = 64
 
@@ -313,6 +316,15 @@ plainTypes = 64
 
 abbrev pub plainBindings : ℕ
 plainBindings = 320
+
+abbrev pub broadNodes : ℕ
+broadNodes = 128
+
+abbrev pub broadTypes : ℕ
+broadTypes = 320
+
+abbrev pub broadBindings : ℕ
+broadBindings = 320
 
 abbrev pub middleNodes : ℕ
 middleNodes = 2048
@@ -355,8 +367,11 @@ smallFrame = 1
 abbrev pub plainFrame : ℕ
 plainFrame = 2
 
+abbrev pub broadFrame : ℕ
+broadFrame = 3
+
 abbrev pub middleFrame : ℕ
-middleFrame = 3
+middleFrame = 4
 
 abbrev pub wideFrame : ℕ
-wideFrame = 4
+wideFrame = 5

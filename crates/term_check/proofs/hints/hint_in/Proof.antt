@@ -32,22 +32,22 @@ cast-served : tie.Need-cast-served
 cast-served c = search needs
 
 mul-w : tie.Need-mul-w
-mul-w c = search needs
+mul-w c = let n = c .before .head-place .ensures (c .before .before .if2 .left) in let f = c .before .before .before .from-of .ensures .1 in omega arith
 
 slice-write-w : tie.Need-slice-write-w
-slice-write-w c = search needs
+slice-write-w c = let n = c .before .head-place .ensures (c .before .before .if2 .left) in let f = c .before .before .before .from-of .ensures .1 in omega arith
 
 mul-w-2 : tie.Need-mul-w-2
-mul-w-2 c = search needs
+mul-w-2 c = let n = c .node-place .ensures (c .before .before .if2 .left) in let f = c .before .before .before .from-of .ensures .1 in omega arith
 
 slice-write-w-2 : tie.Need-slice-write-w-2
-slice-write-w-2 c = lt-length-set (now (c .before .before .before .before .before .before .before .before .before .args .w)) _ _ (let f = c .before .before .before .from-of .ensures .1 in let h = c .before .before .if2 .left in let n = c .node-place .ensures in omega arith)
+slice-write-w-2 c = lt-length-set (now (c .before .before .before .before .before .before .before .before .before .args .w)) _ _ (let n = c .node-place .ensures (c .before .before .if2 .left) in let f = c .before .before .before .from-of .ensures .1 in omega arith)
 
 same-length-2 : tie.Need-same-length-2
 same-length-2 c = search needs
 
 returns-3 : tie.Need-returns-3
-returns-3 c = set-twice _ _ _ _ _ _ (c .before .before .before .from-of .ensures .0) (let h = c .before .before .if2 .left in let n = c .before .head-place .ensures in omega arith) (let h = c .before .before .if2 .left in let n = c .node-place .ensures in omega arith)
+returns-3 c = set-twice _ _ _ _ _ _ (c .before .before .before .from-of .ensures .0) (c .before .head-place .ensures (c .before .before .if2 .left)) (c .node-place .ensures (c .before .before .if2 .left))
 
 pub hint-in-spec : {M : Type 1} → statement M
 hint-in-spec =
