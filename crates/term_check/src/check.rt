@@ -235,14 +235,14 @@ fn all_args(t: &[u16], r: &[u32], w: &mut [u32], at: usize, count: usize, ty: us
     let mut rest = ty;
     let mut left = count;
     while 0 < left {
-        let next = node_of(t, base, here).next;
-        if next <= here {
+        let node = node_of(t, base, here);
+        if node.next <= here {
             return false;
         }
-        if !all_members(&*t, &*r, w, here, rest) {
+        if !all_members(&*t, &*r, w, here, rest, node) {
             return false;
         }
-        here = next;
+        here = node.next;
         rest = result_of(t, rest);
         left = left - 1;
     }
@@ -250,11 +250,11 @@ fn all_args(t: &[u16], r: &[u32], w: &mut [u32], at: usize, count: usize, ty: us
 }
 
 // Whether the argument at a node has all members of an arrow. What is found is remembered.
-fn all_members(t: &[u16], r: &[u32], w: &mut [u32], at: usize, ty: usize) -> bool
-    ensures { λ b. ⌜ (length (now (w .exit)) ≡ length (now (w .entry))) × ChecksMembers (caseOf (now (t .entry)) (now (r .entry))) (answersOf (now (r .entry)) (now (w .entry))) (usersOf (now (r .entry)) (now (w .entry))) at ty (answersOf (now (r .entry)) (now (w .exit))) (usersOf (now (r .entry)) (now (w .exit))) b ⌝ }
+fn all_members(t: &[u16], r: &[u32], w: &mut [u32], at: usize, ty: usize, node: Node) -> bool
+    ensures { λ b. ⌜ (length (now (w .exit)) ≡ length (now (w .entry))) × (node ≡ nodeAt (now (t .entry)) (baseIn (now (r .entry))) at → ChecksMembers (caseOf (now (t .entry)) (now (r .entry))) (answersOf (now (r .entry)) (now (w .entry))) (usersOf (now (r .entry)) (now (w .entry))) at ty (answersOf (now (r .entry)) (now (w .exit))) (usersOf (now (r .entry)) (now (w .exit))) b) ⌝ }
 {
     let states = states_of(t, ty) as u32;
-    let known = look(t, r, w, at);
+    let known = look(t, r, w, at, node);
     if states & known.lacked != 0 {
         return false;
     }
@@ -266,7 +266,7 @@ fn all_members(t: &[u16], r: &[u32], w: &mut [u32], at: usize, ty: usize) -> boo
         }
         return check_each(&*t, &*r, w, at, ty);
     }
-    if !check_states(&*t, &*r, w, at, missing) {
+    if !check_states(&*t, &*r, w, at, missing, node) {
         return false;
     }
     if arrows == 0 {
@@ -277,10 +277,10 @@ fn all_members(t: &[u16], r: &[u32], w: &mut [u32], at: usize, ty: usize) -> boo
 
 // Whether the term at a node has all goals of a set of states: first what is found at once, then the others, one by one. What is found
 // is remembered.
-fn check_states(t: &[u16], r: &[u32], w: &mut [u32], at: usize, asked: u32) -> bool
-    ensures { λ b. ⌜ (length (now (w .exit)) ≡ length (now (w .entry))) × ChecksAll (caseOf (now (t .entry)) (now (r .entry))) (answersOf (now (r .entry)) (now (w .entry))) (usersOf (now (r .entry)) (now (w .entry))) at asked (answersOf (now (r .entry)) (now (w .exit))) (usersOf (now (r .entry)) (now (w .exit))) b ⌝ }
+fn check_states(t: &[u16], r: &[u32], w: &mut [u32], at: usize, asked: u32, node: Node) -> bool
+    ensures { λ b. ⌜ (length (now (w .exit)) ≡ length (now (w .entry))) × (node ≡ nodeAt (now (t .entry)) (baseIn (now (r .entry))) at → ChecksAll (caseOf (now (t .entry)) (now (r .entry))) (answersOf (now (r .entry)) (now (w .entry))) (usersOf (now (r .entry)) (now (w .entry))) at asked (answersOf (now (r .entry)) (now (w .exit))) (usersOf (now (r .entry)) (now (w .exit))) b) ⌝ }
 {
-    let found = find_states(&*t, &*r, w, at, asked);
+    let found = find_states(&*t, &*r, w, at, asked, node);
     if found.lacked != 0 {
         let known = with_bit(found.had, lowest(found.lacked));
         learn_in(r, w, at, 0, known, found.had);
@@ -303,13 +303,12 @@ fn check_states(t: &[u16], r: &[u32], w: &mut [u32], at: usize, asked: u32) -> b
 
 // What is found at once of the states of a set: some that the term at a node has, and some that it lacks. Of a nonterminal's term nothing
 // is found where there are no hints.
-fn find_states(t: &[u16], r: &[u32], w: &mut [u32], at: usize, asked: u32) -> Outlook
-    ensures { λ m. ⌜ (length (now (w .exit)) ≡ length (now (w .entry))) × Settles (caseOf (now (t .entry)) (now (r .entry))) (answersOf (now (r .entry)) (now (w .entry))) (usersOf (now (r .entry)) (now (w .entry))) at asked (answersOf (now (r .entry)) (now (w .exit))) (usersOf (now (r .entry)) (now (w .exit))) m ⌝ }
+fn find_states(t: &[u16], r: &[u32], w: &mut [u32], at: usize, asked: u32, node: Node) -> Outlook
+    ensures { λ m. ⌜ (length (now (w .exit)) ≡ length (now (w .entry))) × (node ≡ nodeAt (now (t .entry)) (baseIn (now (r .entry))) at → Settles (caseOf (now (t .entry)) (now (r .entry))) (answersOf (now (r .entry)) (now (w .entry))) (usersOf (now (r .entry)) (now (w .entry))) at asked (answersOf (now (r .entry)) (now (w .exit))) (usersOf (now (r .entry)) (now (w .exit))) m) ⌝ }
 {
     if MAX_NODES <= at {
         return Outlook { had: 0, lacked: 0 };
     }
-    let node = node_of(t, number_in(r, TEST_BASE), at);
     if node.tag == 1 {
         if number_in(r, TEST_USERS) < FEW_HINTS {
             return Outlook { had: 0, lacked: 0 };

@@ -9,7 +9,6 @@ use index::layout::MAX_STATES;
 use index::layout::NO_TARGETS;
 use index::layout::NONE;
 use index::layout::ROW_LIMIT;
-use index::layout::TEST_BASE;
 use index::layout::TEST_BINDINGS;
 use index::layout::TEST_CELLS;
 use index::layout::TEST_OWN;
@@ -25,7 +24,6 @@ use tables::reading::many_of;
 use tables::reading::mask_of;
 use tables::reading::member_of;
 use tables::reading::near_of;
-use tables::reading::node_of;
 use tables::reading::off;
 use tables::reading::own_of;
 use tables::reading::present_of;
@@ -36,6 +34,8 @@ use tables::reading::targets_of;
 ghost use mathlib.Core.Path.{_≡_};
 ghost use Prim.Native.Nat.{_/_, _^_, _≤_, _<_};
 ghost use mathlib.Core.Bool.{true};
+ghost use Rattle.tables.specs.reading.Cells.{nodeAt};
+ghost use Rattle.term_check.specs.notes.Notes.{baseIn};
 ghost use Rattle.term_check.specs.Worlds.{caseOf, answersOf};
 ghost use Rattle.term_check.specs.heads.Heads.{IsCandidate, IsLeading, Matches, IsTargets, Alone, Seen, AllHad, ArgsKnown, Wanted};
 
@@ -162,10 +162,9 @@ pub fn alone(t: &[u16], r: &[u32], node: Node, goal: usize) -> usize
 }
 
 // The states that the term at a node is known to have, and those that it is known to lack: of a parameter that stands alone all are known.
-pub fn look(t: &[u16], r: &[u32], w: &[u32], at: usize) -> Outlook
-    ensures { λ s. ⌜ Seen (caseOf (now (t .entry)) (now (r .entry))) (answersOf (now (r .entry)) (now (w .entry))) at s ⌝ }
+pub fn look(t: &[u16], r: &[u32], w: &[u32], at: usize, node: Node) -> Outlook
+    ensures { λ s. ⌜ (node ≡ nodeAt (now (t .entry)) (baseIn (now (r .entry))) at → Seen (caseOf (now (t .entry)) (now (r .entry))) (answersOf (now (r .entry)) (now (w .entry))) at s) ⌝ }
 {
-    let node = node_of(t, number_in(r, TEST_BASE), at);
     if node.tag == 2 {
         if node.count == 0 {
             let given = off(t, number_in(r, TEST_OWN), node.number);

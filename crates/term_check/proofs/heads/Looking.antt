@@ -45,10 +45,6 @@ module _ (x : Case) (memo : List ℕ) (i : ℕ) (r : Outlook) where
         no = λ w users ready q h e. let z = ap (bitOf q) b in let n = zero-bit q in absurd (omega arith);
       }
 
-  -- a node by the place where its body begins
-  node-is : (base : ℕ) (nd : Node) → base ≡ baseIn (x .test) → nd ≡ nodeAt (x .t) base i → nd ≡ nodeAt (x .t) (baseIn (x .test)) i
-  node-is base nd e f = f ∙ ap (λ b. nodeAt (x .t) b i) e
-
   pub seen-memo : (wide stamp : ℕ) → wide ≡ wideIn (x .test) → stamp ≡ stampIn (x .test) → Looks memo wide stamp i 0 r → Seen x memo i r
   seen-memo wide stamp ew es l =
       record {
@@ -63,7 +59,7 @@ module _ (x : Case) (memo : List ℕ) (i : ℕ) (r : Outlook) where
       says q b s = subst (λ v. Says memo v (stampIn (x .test)) i q b) ew (subst (λ v. Says memo wide v i q b) es s)
 
   -- a parameter alone
-  module _ (base own given had : ℕ) (nd : Node) (e : base ≡ baseIn (x .test)) (f : nd ≡ nodeAt (x .t) base i) (not-con : nd .tag ≡ 0 → ⊥) (not-nt : nd .tag ≡ 1 → ⊥) (none : nd .count ≡ 0) (eo : own ≡ ownIn (x .test)) (eg : given ≡ offOf (x .t) (nd .number) own) (there : given ≡ noNumber → ⊥) (big : maxStates ≤ given) (eh : had ≡ statesOf (x .t) given) where
+  module _ (own given had : ℕ) (nd : Node) (f : nd ≡ nodeAt (x .t) (baseIn (x .test)) i) (not-con : nd .tag ≡ 0 → ⊥) (not-nt : nd .tag ≡ 1 → ⊥) (none : nd .count ≡ 0) (eo : own ≡ ownIn (x .test)) (eg : given ≡ offOf (x .t) (nd .number) own) (there : given ≡ noNumber → ⊥) (big : maxStates ≤ given) (eh : had ≡ statesOf (x .t) given) where
     given-is : given ≡ offOf (x .t) (nd .number) (ownIn (x .test))
     given-is = eg ∙ ap (offOf (x .t) (nd .number)) eo
 
@@ -72,9 +68,8 @@ module _ (x : Case) (memo : List ℕ) (i : ℕ) (r : Outlook) where
       alone : (u : Term) → At (w .ns) i u → u ≡ node (par (nd .number)) []ᵗ
       alone (node h ts) a =
           let is = s .nodes i h ts a in
-          let same = node-is base nd e f in
-          let no-args = sym (is .arguments) ∙ ap (λ (z : Node). z .count) (sym same) ∙ none in
-          let head = sym (is .head) ∙ ap (λ (z : Node). headBy (z .tag) (z .number)) (sym same) ∙ head-given (nd .tag) (nd .number) not-con not-nt in
+          let no-args = sym (is .arguments) ∙ ap (λ (z : Node). z .count) (sym f) ∙ none in
+          let head = sym (is .head) ∙ ap (λ (z : Node). headBy (z .tag) (z .number)) (sym f) ∙ head-given (nd .tag) (nd .number) not-con not-nt in
           ap (λ z. node z ts) head ∙ ap (node (par (nd .number))) (no-terms ts no-args)
 
       -- its members
@@ -128,13 +123,13 @@ module _ (x : Case) (nd : Node) (goal : ℕ) where
     alone-lacks z =
         record {
           yes = λ e. absurd (omega arith);
-          no = λ e w i s f not-con not-nt u at-i σ g c. lacks-it x [] i nothing (baseIn (x .test)) own given had nd refl f not-con not-nt none eo eg there big eh w s goal low (λ o. omega arith) u at-i σ g c;
+          no = λ e w i s f not-con not-nt u at-i σ g c. lacks-it x [] i nothing own given had nd f not-con not-nt none eo eg there big eh w s goal low (λ o. omega arith) u at-i σ g c;
         }
 
     pub alone-has : (bitOf goal had ≡ 0 → ⊥) → Alone x nd goal 2
     alone-has d =
         record {
-          yes = λ e w users i s f not-con not-nt flags inc u at-i σ g. has-it x [] i nothing (baseIn (x .test)) own given had nd refl f not-con not-nt none eo eg there big eh w s goal low (let k = bit-small goal had in omega arith) flags u at-i σ g;
+          yes = λ e w users i s f not-con not-nt flags inc u at-i σ g. has-it x [] i nothing own given had nd f not-con not-nt none eo eg there big eh w s goal low (let k = bit-small goal had in omega arith) flags u at-i σ g;
           no = λ e. absurd (omega arith);
         }
 

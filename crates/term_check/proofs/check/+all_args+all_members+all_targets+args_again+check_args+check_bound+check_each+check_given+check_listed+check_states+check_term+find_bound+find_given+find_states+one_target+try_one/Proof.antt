@@ -367,7 +367,7 @@ find-given-claims t =
 
 abbrev find-states-claims : ℕ → find-states-lts.Claims
 find-states-claims t =
-    (number-in-reads.Asked, number-in-reads.Learnt, node-of-reads.Asked, node-of-reads.Learnt, find-bound-below t, find-bound.Post, find-given-below t, find-given.Post)
+    (number-in-reads.Asked, number-in-reads.Learnt, find-bound-below t, find-bound.Post, find-given-below t, find-given.Post)
 
 abbrev try-one-claims : ℕ → try-one-lts.Claims
 try-one-claims t =
@@ -407,31 +407,31 @@ all-args-node-of-requires : (t : ℕ) → all-args-lts.Need-node-of-requires (al
 all-args-node-of-requires t c κs = search needs
 
 all-args-same-length : (t : ℕ) → all-args-lts.Need-same-length (all-args-claims t) (all-args-at t) all-args.Post all-args-Inv-loop all-args-μ-loop
-all-args-same-length t c = c .before .before .before .loop .inv .0
+all-args-same-length t c = c .before .before .before .before .loop .inv .0
 
 all-args-returns : (t : ℕ) → all-args-lts.Need-returns (all-args-claims t) (all-args-at t) all-args.Post all-args-Inv-loop all-args-μ-loop
-all-args-returns t c = (c .before .before .before .loop .inv .0, c .before .before .before .loop .inv .2 _ _ _ (args-stuck _ _ _ _ _ _ (c .before .before .loop-test .taken) _ (next-by _ (now (c .before .before .before .before .before .before .before .before .args .r)) _ _ _ (c .before .before .before .before .number-in .ensures .0) (c .before .node-of .ensures)) (c .if1 .taken)))
+all-args-returns t c = (c .before .before .before .before .loop .inv .0, c .before .before .before .before .loop .inv .2 _ _ _ (args-stuck _ _ _ _ _ _ (c .before .before .before .loop-test .taken) _ (next-by _ (now (c .before .before .before .before .before .before .before .before .before .args .r)) _ _ _ (c .before .before .before .before .before .number-in .ensures .0) (c .before .before .node-of .ensures)) (c .if1 .taken)))
 
 all-args-all-members-requires : (t : ℕ) → all-args-lts.Need-all-members-requires (all-args-claims t) (all-args-at t) all-args.Post all-args-Inv-loop all-args-μ-loop
-all-args-all-members-requires t c κs = let p = c .before .before .before .before .before .before .before .before .before .pre .0 in let l = c .before .before .before .before .loop .inv .1 in (omega arith, Prim.tt)
+all-args-all-members-requires t c κs = let p = c .before .before .before .before .before .before .before .before .before .before .pre .0 in let l = c .before .before .before .before .before .loop .inv .1 in (omega arith, Prim.tt)
 
 all-args-same-length-2 : (t : ℕ) → all-args-lts.Need-same-length-2 (all-args-claims t) (all-args-at t) all-args.Post all-args-Inv-loop all-args-μ-loop
-all-args-same-length-2 t c = c .before .before .before .all-members .ensures .0 ∙ c .before .before .before .before .before .before .before .before .loop .inv .0
+all-args-same-length-2 t c = c .before .before .before .all-members .ensures .0 ∙ c .before .before .before .before .before .before .before .before .before .loop .inv .0
 
 all-args-returns-2 : (t : ℕ) → all-args-lts.Need-returns-2 (all-args-claims t) (all-args-at t) all-args.Post all-args-Inv-loop all-args-μ-loop
-all-args-returns-2 t c = (c .before .before .before .all-members .ensures .0 ∙ c .before .before .before .before .before .before .before .before .loop .inv .0, c .before .before .before .before .before .before .before .before .loop .inv .2 _ _ _ (args-lack _ _ _ _ _ _ (c .before .before .before .before .before .before .before .loop-test .taken) _ (next-by _ (now (c .before .before .before .before .before .before .before .before .before .before .before .before .before .args .r)) _ _ _ (c .before .before .before .before .before .before .before .before .before .number-in .ensures .0) (c .before .before .before .before .before .before .node-of .ensures)) _ _ _ (c .before .before .before .all-members .ensures .1) (not-true _ (c .if2 .taken))))
+all-args-returns-2 t c = (c .before .before .before .all-members .ensures .0 ∙ c .before .before .before .before .before .before .before .before .before .loop .inv .0, c .before .before .before .before .before .before .before .before .before .loop .inv .2 _ _ _ (args-lack _ _ _ _ _ _ (c .before .before .before .before .before .before .before .before .loop-test .taken) _ (next-by _ (now (c .before .before .before .before .before .before .before .before .before .before .before .before .before .before .args .r)) _ _ _ (c .before .before .before .before .before .before .before .before .before .before .number-in .ensures .0) (c .before .before .before .before .before .before .before .node-of .ensures)) _ _ _ (c .before .before .before .all-members .ensures .1 (node-by _ (now (c .before .before .before .before .before .before .before .before .before .before .before .before .before .before .args .r)) _ _ _ (c .before .before .before .before .before .before .before .before .before .before .number-in .ensures .0) (c .before .before .before .before .before .before .before .node-of .ensures))) (not-true _ (c .if2 .taken))))
 
 all-args-result-of-requires : (t : ℕ) → all-args-lts.Need-result-of-requires (all-args-claims t) (all-args-at t) all-args.Post all-args-Inv-loop all-args-μ-loop
 all-args-result-of-requires t c κs = search needs
 
 all-args-sub-left : (t : ℕ) → all-args-lts.Need-sub-left (all-args-claims t) (all-args-at t) all-args.Post all-args-Inv-loop all-args-μ-loop
-all-args-sub-left t c = let l = c .before .before .before .before .before .before .before .before .loop-test .taken in omega arith
+all-args-sub-left t c = let l = c .before .before .before .before .before .before .before .before .before .loop-test .taken in omega arith
 
 all-args-loop-less : (t : ℕ) → all-args-lts.Need-loop-less (all-args-claims t) (all-args-at t) all-args.Post all-args-Inv-loop all-args-μ-loop
-all-args-loop-less t c = let l = c .before .before .before .before .before .before .before .before .loop-test .taken in omega arith
+all-args-loop-less t c = let l = c .before .before .before .before .before .before .before .before .before .loop-test .taken in omega arith
 
 all-args-loop-again : (t : ℕ) → all-args-lts.Need-loop-again (all-args-claims t) (all-args-at t) all-args.Post all-args-Inv-loop all-args-μ-loop
-all-args-loop-again t c = (c .before .before .before .before .all-members .ensures .0 ∙ c .before .before .before .before .before .before .before .before .before .loop .inv .0, let l = c .before .before .before .before .before .before .before .before .before .loop .inv .1 in let h = c .before .before .before .before .before .before .if1 .left in omega arith, λ m u r told. c .before .before .before .before .before .before .before .before .before .loop .inv .2 m u r (args-rest _ _ _ _ _ _ (c .before .before .before .before .before .before .before .before .loop-test .taken) _ (next-by _ (now (c .before .before .before .before .before .before .before .before .before .before .before .before .before .before .args .r)) _ _ _ (c .before .before .before .before .before .before .before .before .before .before .number-in .ensures .0) (c .before .before .before .before .before .before .before .node-of .ensures)) _ _ _ (c .before .before .before .before .all-members .ensures .1) (not-false _ (c .before .if2 .left)) _ (c .result-of .ensures .0) m u r told))
+all-args-loop-again t c = (c .before .before .before .before .all-members .ensures .0 ∙ c .before .before .before .before .before .before .before .before .before .before .loop .inv .0, let l = c .before .before .before .before .before .before .before .before .before .before .loop .inv .1 in let h = c .before .before .before .before .before .before .if1 .left in omega arith, λ m u r told. c .before .before .before .before .before .before .before .before .before .before .loop .inv .2 m u r (args-rest _ _ _ _ _ _ (c .before .before .before .before .before .before .before .before .before .loop-test .taken) _ (next-by _ (now (c .before .before .before .before .before .before .before .before .before .before .before .before .before .before .before .args .r)) _ _ _ (c .before .before .before .before .before .before .before .before .before .before .before .number-in .ensures .0) (c .before .before .before .before .before .before .before .before .node-of .ensures)) _ _ _ (c .before .before .before .before .all-members .ensures .1 (node-by _ (now (c .before .before .before .before .before .before .before .before .before .before .before .before .before .before .before .args .r)) _ _ _ (c .before .before .before .before .before .before .before .before .before .before .before .number-in .ensures .0) (c .before .before .before .before .before .before .before .before .node-of .ensures))) (not-false _ (c .before .if2 .left)) _ (c .result-of .ensures .0) m u r told))
 
 all-args-same-length-3 : (t : ℕ) → all-args-lts.Need-same-length-3 (all-args-claims t) (all-args-at t) all-args.Post all-args-Inv-loop all-args-μ-loop
 all-args-same-length-3 t c = c .before .loop .inv .0
@@ -701,7 +701,7 @@ all-members-same-length : (t : ℕ) → all-members-lts.Need-same-length (all-me
 all-members-same-length t c = refl
 
 all-members-returns : (t : ℕ) → all-members-lts.Need-returns (all-members-claims t) (all-members-at t) all-members.Post
-all-members-returns t c = (refl, states-lack _ _ _ _ _ _ (c .before .before .before .before .states-of .ensures .0) (c .before .before .before .before .states-of .ensures .1) _ (c .before .before .look .ensures) (c .if1 .taken))
+all-members-returns t c = (refl, λ ea. states-lack _ _ _ _ _ _ (c .before .before .before .before .states-of .ensures .0) (c .before .before .before .before .states-of .ensures .1) _ (c .before .before .look .ensures ea) (c .if1 .taken))
 
 all-members-arrows-of-requires : (t : ℕ) → all-members-lts.Need-arrows-of-requires (all-members-claims t) (all-members-at t) all-members.Post
 all-members-arrows-of-requires t c κs = search needs
@@ -713,7 +713,7 @@ all-members-same-length-2 : (t : ℕ) → all-members-lts.Need-same-length-2 (al
 all-members-same-length-2 t c = refl
 
 all-members-returns-2 : (t : ℕ) → all-members-lts.Need-returns-2 (all-members-claims t) (all-members-at t) all-members.Post
-all-members-returns-2 t c = (refl, states-had _ _ _ _ _ _ (c .before .before .before .before .before .before .before .before .states-of .ensures .0) (c .before .before .before .before .before .before .before .before .states-of .ensures .1) _ (c .before .before .before .before .before .before .look .ensures) _ (c .before .before .left-of .ensures) (c .before .if2 .taken) (sym (c .before .before .before .arrows-of .ensures .0) ∙ c .if3 .taken))
+all-members-returns-2 t c = (refl, λ ea. states-had _ _ _ _ _ _ (c .before .before .before .before .before .before .before .before .states-of .ensures .0) (c .before .before .before .before .before .before .before .before .states-of .ensures .1) _ (c .before .before .before .before .before .before .look .ensures ea) _ (c .before .before .left-of .ensures) (c .before .if2 .taken) (sym (c .before .before .before .arrows-of .ensures .0) ∙ c .if3 .taken))
 
 all-members-check-each-requires : (t : ℕ) → all-members-lts.Need-check-each-requires (all-members-claims t) (all-members-at t) all-members.Post
 all-members-check-each-requires t c κs = let p = c .before .before .before .before .before .before .before .before .before .before .before .before .before .pre .0 in (omega arith, Prim.tt)
@@ -722,7 +722,7 @@ all-members-same-length-3 : (t : ℕ) → all-members-lts.Need-same-length-3 (al
 all-members-same-length-3 t c = c .before .before .check-each .ensures .0
 
 all-members-returns-3 : (t : ℕ) → all-members-lts.Need-returns-3 (all-members-claims t) (all-members-at t) all-members.Post
-all-members-returns-3 t c = (c .before .before .check-each .ensures .0, c .before .before .check-each .ensures .1)
+all-members-returns-3 t c = (c .before .before .check-each .ensures .0, λ ea. c .before .before .check-each .ensures .1)
 
 all-members-check-states-requires : (t : ℕ) → all-members-lts.Need-check-states-requires (all-members-claims t) (all-members-at t) all-members.Post
 all-members-check-states-requires t c κs = let p = c .before .before .before .before .before .before .before .before .before .before .before .before .pre .0 in (omega arith, Prim.tt)
@@ -731,13 +731,13 @@ all-members-same-length-4 : (t : ℕ) → all-members-lts.Need-same-length-4 (al
 all-members-same-length-4 t c = c .before .before .before .check-states .ensures .0
 
 all-members-returns-4 : (t : ℕ) → all-members-lts.Need-returns-4 (all-members-claims t) (all-members-at t) all-members.Post
-all-members-returns-4 t c = (c .before .before .before .check-states .ensures .0, states-fail _ _ _ _ _ _ (c .before .before .before .before .before .before .before .before .before .before .before .before .states-of .ensures .0) (c .before .before .before .before .before .before .before .before .before .before .before .before .states-of .ensures .1) _ (c .before .before .before .before .before .before .before .before .before .before .look .ensures) _ (c .before .before .before .before .before .before .left-of .ensures) _ _ _ (c .before .before .before .check-states .ensures .1) (not-true _ (c .if4 .taken)))
+all-members-returns-4 t c = (c .before .before .before .check-states .ensures .0, λ ea. states-fail _ _ _ _ _ _ (c .before .before .before .before .before .before .before .before .before .before .before .before .states-of .ensures .0) (c .before .before .before .before .before .before .before .before .before .before .before .before .states-of .ensures .1) _ (c .before .before .before .before .before .before .before .before .before .before .look .ensures ea) _ (c .before .before .before .before .before .before .left-of .ensures) _ _ _ (c .before .before .before .check-states .ensures .1 ea) (not-true _ (c .if4 .taken)))
 
 all-members-same-length-5 : (t : ℕ) → all-members-lts.Need-same-length-5 (all-members-claims t) (all-members-at t) all-members.Post
 all-members-same-length-5 t c = c .before .before .before .before .check-states .ensures .0
 
 all-members-returns-5 : (t : ℕ) → all-members-lts.Need-returns-5 (all-members-claims t) (all-members-at t) all-members.Post
-all-members-returns-5 t c = (c .before .before .before .before .check-states .ensures .0, states-checked _ _ _ _ _ _ (c .before .before .before .before .before .before .before .before .before .before .before .before .before .states-of .ensures .0) (c .before .before .before .before .before .before .before .before .before .before .before .before .before .states-of .ensures .1) _ (c .before .before .before .before .before .before .before .before .before .before .before .look .ensures) _ (c .before .before .before .before .before .before .before .left-of .ensures) _ _ _ (c .before .before .before .before .check-states .ensures .1) (not-false _ (c .before .if4 .left)) (sym (c .before .before .before .before .before .before .before .before .arrows-of .ensures .0) ∙ c .if5 .taken))
+all-members-returns-5 t c = (c .before .before .before .before .check-states .ensures .0, λ ea. states-checked _ _ _ _ _ _ (c .before .before .before .before .before .before .before .before .before .before .before .before .before .states-of .ensures .0) (c .before .before .before .before .before .before .before .before .before .before .before .before .before .states-of .ensures .1) _ (c .before .before .before .before .before .before .before .before .before .before .before .look .ensures ea) _ (c .before .before .before .before .before .before .before .left-of .ensures) _ _ _ (c .before .before .before .before .check-states .ensures .1 ea) (not-false _ (c .before .if4 .left)) (sym (c .before .before .before .before .before .before .before .before .arrows-of .ensures .0) ∙ c .if5 .taken))
 
 all-members-check-each-requires-2 : (t : ℕ) → all-members-lts.Need-check-each-requires-2 (all-members-claims t) (all-members-at t) all-members.Post
 all-members-check-each-requires-2 t c κs = let p = c .before .before .before .before .before .before .before .before .before .before .before .before .before .before .before .before .before .before .pre .0 in (omega arith, Prim.tt)
@@ -746,7 +746,7 @@ all-members-same-length-6 : (t : ℕ) → all-members-lts.Need-same-length-6 (al
 all-members-same-length-6 t c = c .before .before .check-each2 .ensures .0 ∙ c .before .before .before .before .before .before .before .before .check-states .ensures .0
 
 all-members-returns-6 : (t : ℕ) → all-members-lts.Need-returns-6 (all-members-claims t) (all-members-at t) all-members.Post
-all-members-returns-6 t c = (c .before .before .check-each2 .ensures .0 ∙ c .before .before .before .before .before .before .before .before .check-states .ensures .0, tells-on (c .before .before .before .before .before .before .before .before .check-states .ensures .1 .keeps) (c .before .before .check-each2 .ensures .1))
+all-members-returns-6 t c = (c .before .before .check-each2 .ensures .0 ∙ c .before .before .before .before .before .before .before .before .check-states .ensures .0, λ ea. tells-on (c .before .before .before .before .before .before .before .before .check-states .ensures .1 ea .keeps) (c .before .before .check-each2 .ensures .1))
 
 abbrev check-states-Inv-loop : check-states-lts.InvT-loop
 check-states-Inv-loop t r w₀ at asked had₀ left₀ w had left = (length w ≡ length w₀) × ((memo users : List ℕ) → Finds (caseOf t r) memo users at (answersOf r w₀) (usersOf r w₀) had₀ → Left (caseOf t r) memo users at asked (answersOf r w) (usersOf r w) had left)
@@ -770,7 +770,7 @@ check-states-same-length : (t : ℕ) → check-states-lts.Need-same-length (chec
 check-states-same-length t c = c .before .before .learn-in .ensures .0 ∙ c .before .before .before .before .before .before .before .before .before .before .find-states .ensures .0
 
 check-states-returns : (t : ℕ) → check-states-lts.Need-returns (check-states-claims t) (check-states-at t) check-states.Post check-states-Inv-loop check-states-μ-loop
-check-states-returns t c = (c .before .before .learn-in .ensures .0 ∙ c .before .before .before .before .before .before .before .before .before .before .find-states .ensures .0, all-moved _ _ _ (c .before .before .before .before .before .before .before .before .before .before .before .before .before .before .before .args .at) _ _ _ _ _ (c .before .before .learn-in .ensures .1) (settled-fails _ _ _ _ _ (c .before .before .before .before .before .before .before .before .before .before .find-states .ensures .1) (c .before .before .before .before .before .before .if1 .taken) _ (c .before .before .before .before .before .lowest .ensures) _ (c .before .before .before .before .with-bit .ensures) _ (c .before .before .learn-in .ensures .2)))
+check-states-returns t c = (c .before .before .learn-in .ensures .0 ∙ c .before .before .before .before .before .before .before .before .before .before .find-states .ensures .0, λ ea. all-moved _ _ _ (c .before .before .before .before .before .before .before .before .before .before .before .before .before .before .before .args .at) _ _ _ _ _ (c .before .before .learn-in .ensures .1) (settled-fails _ _ _ _ _ (c .before .before .before .before .before .before .before .before .before .before .find-states .ensures .1 ea) (c .before .before .before .before .before .before .if1 .taken) _ (c .before .before .before .before .before .lowest .ensures) _ (c .before .before .before .before .with-bit .ensures) _ (c .before .before .learn-in .ensures .2)))
 
 check-states-left-of-requires : (t : ℕ) → check-states-lts.Need-left-of-requires (check-states-claims t) (check-states-at t) check-states.Post check-states-Inv-loop check-states-μ-loop
 check-states-left-of-requires t c κs = search needs
@@ -794,7 +794,7 @@ check-states-same-length-2 : (t : ℕ) → check-states-lts.Need-same-length-2 (
 check-states-same-length-2 t c = c .before .before .learn-in2 .ensures .0 ∙ c .before .before .before .before .before .before .before .before .check-term .ensures .0 ∙ c .before .before .before .before .before .before .before .before .before .before .before .before .loop .inv .0 ∙ c .before .before .before .before .before .before .before .before .before .before .before .before .before .before .before .before .before .before .find-states .ensures .0
 
 check-states-returns-2 : (t : ℕ) → check-states-lts.Need-returns-2 (check-states-claims t) (check-states-at t) check-states.Post check-states-Inv-loop check-states-μ-loop
-check-states-returns-2 t c = (c .before .before .learn-in2 .ensures .0 ∙ c .before .before .before .before .before .before .before .before .check-term .ensures .0 ∙ c .before .before .before .before .before .before .before .before .before .before .before .before .loop .inv .0 ∙ c .before .before .before .before .before .before .before .before .before .before .before .before .before .before .before .before .before .before .find-states .ensures .0, all-moved _ _ _ (c .before .before .before .before .before .before .before .before .before .before .before .before .before .before .before .before .before .before .before .before .before .before .before .args .at) _ _ _ _ _ (c .before .before .learn-in2 .ensures .1) (left-fails _ _ _ _ _ (c .before .before .before .before .before .before .before .before .before .before .before .before .loop .inv .1 _ _ (c .before .before .before .before .before .before .before .before .before .before .before .before .before .before .before .before .before .before .find-states .ensures .1 .finds)) (c .before .before .before .before .before .before .before .before .before .before .before .loop-test .taken) _ (c .before .before .before .before .before .before .before .before .before .before .lowest2 .ensures) _ _ _ (c .before .before .before .before .before .before .before .before .check-term .ensures .1) (not-true _ (c .before .before .before .before .before .if2 .taken)) _ (c .before .before .before .with-bit2 .ensures) _ (c .before .before .learn-in2 .ensures .2)))
+check-states-returns-2 t c = (c .before .before .learn-in2 .ensures .0 ∙ c .before .before .before .before .before .before .before .before .check-term .ensures .0 ∙ c .before .before .before .before .before .before .before .before .before .before .before .before .loop .inv .0 ∙ c .before .before .before .before .before .before .before .before .before .before .before .before .before .before .before .before .before .before .find-states .ensures .0, λ ea. all-moved _ _ _ (c .before .before .before .before .before .before .before .before .before .before .before .before .before .before .before .before .before .before .before .before .before .before .before .args .at) _ _ _ _ _ (c .before .before .learn-in2 .ensures .1) (left-fails _ _ _ _ _ (c .before .before .before .before .before .before .before .before .before .before .before .before .loop .inv .1 _ _ (c .before .before .before .before .before .before .before .before .before .before .before .before .before .before .before .before .before .before .find-states .ensures .1 ea .finds)) (c .before .before .before .before .before .before .before .before .before .before .before .loop-test .taken) _ (c .before .before .before .before .before .before .before .before .before .before .lowest2 .ensures) _ _ _ (c .before .before .before .before .before .before .before .before .check-term .ensures .1) (not-true _ (c .before .before .before .before .before .if2 .taken)) _ (c .before .before .before .with-bit2 .ensures) _ (c .before .before .learn-in2 .ensures .2)))
 
 check-states-with-bit-requires-3 : (t : ℕ) → check-states-lts.Need-with-bit-requires-3 (check-states-claims t) (check-states-at t) check-states.Post check-states-Inv-loop check-states-μ-loop
 check-states-with-bit-requires-3 t c κs = search needs
@@ -815,7 +815,7 @@ check-states-same-length-3 : (t : ℕ) → check-states-lts.Need-same-length-3 (
 check-states-same-length-3 t c = c .before .before .learn-in3 .ensures .0 ∙ c .before .before .before .before .before .loop .inv .0 ∙ c .before .before .before .before .before .before .before .before .before .before .before .find-states .ensures .0
 
 check-states-returns-3 : (t : ℕ) → check-states-lts.Need-returns-3 (check-states-claims t) (check-states-at t) check-states.Post check-states-Inv-loop check-states-μ-loop
-check-states-returns-3 t c = (c .before .before .learn-in3 .ensures .0 ∙ c .before .before .before .before .before .loop .inv .0 ∙ c .before .before .before .before .before .before .before .before .before .before .before .find-states .ensures .0, all-moved _ _ _ (c .before .before .before .before .before .before .before .before .before .before .before .before .before .before .before .before .args .at) _ _ _ _ _ (c .before .before .learn-in3 .ensures .1) (left-end _ _ _ _ _ (c .before .before .before .before .before .loop .inv .1 _ _ (c .before .before .before .before .before .before .before .before .before .before .before .find-states .ensures .1 .finds)) (c .before .before .before .before .loop-test .left) _ (c .before .before .learn-in3 .ensures .2)))
+check-states-returns-3 t c = (c .before .before .learn-in3 .ensures .0 ∙ c .before .before .before .before .before .loop .inv .0 ∙ c .before .before .before .before .before .before .before .before .before .before .before .find-states .ensures .0, λ ea. all-moved _ _ _ (c .before .before .before .before .before .before .before .before .before .before .before .before .before .before .before .before .args .at) _ _ _ _ _ (c .before .before .learn-in3 .ensures .1) (left-end _ _ _ _ _ (c .before .before .before .before .before .loop .inv .1 _ _ (c .before .before .before .before .before .before .before .before .before .before .before .find-states .ensures .1 ea .finds)) (c .before .before .before .before .loop-test .left) _ (c .before .before .learn-in3 .ensures .2)))
 
 one-target-alone-requires : (t : ℕ) → one-target-lts.Need-alone-requires (one-target-claims t) (one-target-at t) one-target.Post
 one-target-alone-requires t c κs = search needs
@@ -1082,40 +1082,34 @@ find-given-returns-2 : (t : ℕ) → find-given-lts.Need-returns-2 (find-given-c
 find-given-returns-2 t c = (c .before .loop .inv .0, λ ea nc nn. sought-end _ _ _ _ _ _ _ (c .before .loop .inv .1 ea nc nn) (c .before .before .before .before .off .ensures ∙ ap (offOf _ _) (c .before .before .before .before .before .number-in .ensures .0)) ea nc nn _ (c .before .before .many-of .ensures .0) (omega arith))
 
 find-states-returns : (t : ℕ) → find-states-lts.Need-returns (find-states-claims t) (find-states-at t) find-states.Post
-find-states-returns t c = (refl, settles-found _ _ _ _ _ (finds-none _ _ _ _))
+find-states-returns t c = (refl, λ ea. settles-found _ _ _ _ _ (finds-none _ _ _ _))
 
 find-states-number-in-requires : (t : ℕ) → find-states-lts.Need-number-in-requires (find-states-claims t) (find-states-at t) find-states.Post
 find-states-number-in-requires t c κs = search needs
 
-find-states-node-of-requires : (t : ℕ) → find-states-lts.Need-node-of-requires (find-states-claims t) (find-states-at t) find-states.Post
-find-states-node-of-requires t c κs = search needs
-
-find-states-number-in-requires-2 : (t : ℕ) → find-states-lts.Need-number-in-requires-2 (find-states-claims t) (find-states-at t) find-states.Post
-find-states-number-in-requires-2 t c κs = search needs
-
 find-states-returns-2 : (t : ℕ) → find-states-lts.Need-returns-2 (find-states-claims t) (find-states-at t) find-states.Post
-find-states-returns-2 t c = (refl, settles-found _ _ _ _ _ (finds-none _ _ _ _))
+find-states-returns-2 t c = (refl, λ ea. settles-found _ _ _ _ _ (finds-none _ _ _ _))
 
 find-states-find-bound-requires : (t : ℕ) → find-states-lts.Need-find-bound-requires (find-states-claims t) (find-states-at t) find-states.Post
-find-states-find-bound-requires t c κs = let p = c .before .before .before .before .before .before .before .before .before .before .before .pre .0 in let h = c .before .before .before .before .before .before .before .if1 .left in (omega arith, omega arith)
+find-states-find-bound-requires t c κs = let p = c .before .before .before .before .before .before .before .before .before .pre .0 in let h = c .before .before .before .before .before .if1 .left in (omega arith, omega arith)
 
 find-states-same-length : (t : ℕ) → find-states-lts.Need-same-length (find-states-claims t) (find-states-at t) find-states.Post
 find-states-same-length t c = c .before .before .find-bound .ensures .0
 
 find-states-returns-3 : (t : ℕ) → find-states-lts.Need-returns-3 (find-states-claims t) (find-states-at t) find-states.Post
-find-states-returns-3 t c = (c .before .before .find-bound .ensures .0, settles-found _ _ _ _ _ (c .before .before .find-bound .ensures .1 (node-by _ (now (c .before .before .before .before .before .before .before .before .before .before .before .before .before .before .args .r)) _ _ _ (c .before .before .before .before .before .before .before .before .before .number-in .ensures .0) (c .before .before .before .before .before .before .before .before .node-of .ensures)) (c .before .before .before .before .before .before .if2 .taken)))
+find-states-returns-3 t c = (c .before .before .find-bound .ensures .0, λ ea. settles-found _ _ _ _ _ (c .before .before .find-bound .ensures .1 ea (c .before .before .before .before .before .before .if2 .taken)))
 
 find-states-find-given-requires : (t : ℕ) → find-states-lts.Need-find-given-requires (find-states-claims t) (find-states-at t) find-states.Post
-find-states-find-given-requires t c κs = let p = c .before .before .before .before .before .before .before .before .before .before .before .pre .0 in let h = c .before .before .before .before .before .before .before .if1 .left in (omega arith, omega arith)
+find-states-find-given-requires t c κs = let p = c .before .before .before .before .before .before .before .before .before .pre .0 in let h = c .before .before .before .before .before .if1 .left in (omega arith, omega arith)
 
 find-states-same-length-2 : (t : ℕ) → find-states-lts.Need-same-length-2 (find-states-claims t) (find-states-at t) find-states.Post
 find-states-same-length-2 t c = c .before .before .find-given .ensures .0
 
 find-states-returns-4 : (t : ℕ) → find-states-lts.Need-returns-4 (find-states-claims t) (find-states-at t) find-states.Post
-find-states-returns-4 t c = (c .before .before .find-given .ensures .0, c .before .before .find-given .ensures .1 (node-by _ (now (c .before .before .before .before .before .before .before .before .before .before .before .before .before .before .args .r)) _ _ _ (c .before .before .before .before .before .before .before .before .before .number-in .ensures .0) (c .before .before .before .before .before .before .before .before .node-of .ensures)) (λ e. let h = c .before .before .before .before .if4 .taken in omega arith) (c .before .before .before .before .before .before .if2 .left))
+find-states-returns-4 t c = (c .before .before .find-given .ensures .0, λ ea. c .before .before .find-given .ensures .1 ea (λ e. let h = c .before .before .before .before .if4 .taken in omega arith) (c .before .before .before .before .before .before .if2 .left))
 
 find-states-returns-5 : (t : ℕ) → find-states-lts.Need-returns-5 (find-states-claims t) (find-states-at t) find-states.Post
-find-states-returns-5 t c = (refl, settles-found _ _ _ _ _ (finds-none _ _ _ _))
+find-states-returns-5 t c = (refl, λ ea. settles-found _ _ _ _ _ (finds-none _ _ _ _))
 
 try-one-candidate-requires : (t : ℕ) → try-one-lts.Need-candidate-requires (try-one-claims t) (try-one-at t) try-one.Post
 try-one-candidate-requires t c κs = search needs
@@ -1438,8 +1432,6 @@ pub +all-args+all-members+all-targets+args-again+check-args+check-bound+check-ea
     find-states.Post
     (find-states-returns t)
     (find-states-number-in-requires t)
-    (find-states-node-of-requires t)
-    (find-states-number-in-requires-2 t)
     (find-states-returns-2 t)
     (find-states-find-bound-requires t)
     (find-states-same-length t)
