@@ -6,6 +6,7 @@ use crate::heads::candidate;
 use crate::heads::goes_down;
 use crate::heads::leading;
 use crate::heads::look;
+use crate::heads::state_targets;
 use crate::heads::targets_for;
 use crate::heads::wanted;
 use crate::hints::bound_hint;
@@ -96,7 +97,7 @@ fn all_targets(t: &[u16], r: &[u32], w: &mut [u32], at: usize, count: usize, tar
             return false;
         }
         if goes_down(left, node.tag) {
-            rest = targets_for(&*t, node.number, node.count, rest % 16);
+            rest = state_targets(t, node.number, node.count, rest % 16);
             if rest == NO_TARGETS {
                 return false;
             }

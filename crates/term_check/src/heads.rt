@@ -34,6 +34,7 @@ use tables::reading::targets_of;
 ghost use mathlib.Core.Path.{_≡_};
 ghost use Prim.Native.Nat.{_/_, _^_, _≤_, _<_};
 ghost use mathlib.Core.Bool.{true};
+ghost use Rattle.index.specs.layout.Layout.{maxStates};
 ghost use Rattle.tables.specs.reading.Cells.{nodeAt};
 ghost use Rattle.term_check.specs.notes.Notes.{baseIn};
 ghost use Rattle.term_check.specs.Worlds.{caseOf, answersOf};
@@ -107,11 +108,32 @@ fn behind(targets: usize, count: usize) -> usize
     targets / 65536
 }
 
+// The targets of the transition of a constructor whose type, with so many arrows off, is a state; NO_TARGETS where there is none.
+pub(crate) fn state_targets(t: &[u16], c: usize, count: usize, q: usize) -> usize
+    requires { ⌜ q < maxStates ⌝ }
+    ensures { λ r. ⌜ IsTargets (now (t .entry)) c count q r ⌝ }
+{
+    if MAX_CONSTRUCTORS <= c {
+        return NO_TARGETS;
+    }
+    let present = present_of(t, c);
+    if (present >> q) % 2 == 0 {
+        return NO_TARGETS;
+    }
+    if arity_of(t, c) != count {
+        return NO_TARGETS;
+    }
+    targets_of(t, c, q)
+}
+
 // The targets of the transition of a constructor whose type, with so many arrows off, is a goal; NO_TARGETS where there is none. It is
 // the one at the state in which the goal ends.
 pub fn targets_for(t: &[u16], c: usize, count: usize, goal: usize) -> usize
     ensures { λ r. ⌜ IsTargets (now (t .entry)) c count goal r ⌝ }
 {
+    if goal < MAX_STATES {
+        return state_targets(t, c, count, goal);
+    }
     if MAX_CONSTRUCTORS <= c {
         return NO_TARGETS;
     }
@@ -125,11 +147,6 @@ pub fn targets_for(t: &[u16], c: usize, count: usize, goal: usize) -> usize
         return NO_TARGETS;
     }
     let targets = targets_of(t, c, q);
-    if goal < MAX_STATES {
-        if arity == count {
-            return targets;
-        }
-    }
     if !matches(t, goal, behind(targets, count), arity - count) {
         return NO_TARGETS;
     }

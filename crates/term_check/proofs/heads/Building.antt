@@ -1,6 +1,7 @@
 -- The transition of a constructor whose type with arrows off is a goal: it is the one at the state in which the goal ends.
 use Prim.Native.Nat.{ℕ, zero, suc, _+_, _-_, _/_, _%_, _^_, _<_, _≤_}
 use native.Mathlib.Omega.{arith}
+use native.Mathlib.Decide.{decLt}
 use native.Mathlib.Nat.{not-suc-le-zero, div-one, div-div-eq-div-mul, le-of-suc-le-suc}
 use mathlib.Core.Path.{_≡_, refl, sym, ap, subst, _∙_}
 use mathlib.Core.Logic.{_⊎_, inl, inr}
@@ -21,6 +22,7 @@ use Rattle.tables.specs.Facts.{Goal, TypesAre, TransitionIs, AutomatonIs, off}
 use Rattle.term_check.specs.Worlds.{World, Targets}
 use Rattle.term_check.specs.heads.Heads.{Matches, IsTargets}
 use Rattle.term_check.proofs.Goals.{state-below}
+use Rattle.term_check.proofs.heads.Matching.{match-state, match-short}
 
 -- the targets behind so many, and behind none
 pub behind-so : (n j k : ℕ) → k ≡ j → n / 16 ^ j ≡ n / 16 ^ k
@@ -55,6 +57,10 @@ goal-end {t = t} are g (state q) x =
     let e = ap (endOf t) i ∙ are .state-row q h .own-end in
     (omega arith, ap state (sym e))
 goal-end are g (arrow a r) x = let row = are .arrow-row g a r x in (row .end-small, row .ends)
+
+-- a goal ends in a state, by the table of any file
+abbrev EndsAt : List ℕ → ℕ → ℕ → Type 0
+EndsAt t goal end = (rs : List Record) → TypesAre rs t → end ≡ endOf t goal
 
 -- a transition whose type with n arrows off is a goal
 record Built (rs : List Record) (t : List ℕ) (c n goal : ℕ) (σ : Ty) (q : ℕ) (qs : List ℕ) : Type 0 where
@@ -112,17 +118,17 @@ module _ (t : List ℕ) (c n goal : ℕ) where
   pub no-constructor : maxConstructors ≤ c → IsTargets t c n goal noTargets
   no-constructor h = none-built (λ rs σ q qs moves are g b. let l = b .con-small in omega arith)
 
-  pub no-transition : (end present : ℕ) → end ≡ endOf t goal → present ≡ presentOf t c → bitOf (end % 16) present ≡ 0 → IsTargets t c n goal noTargets
+  pub no-transition : (end present : ℕ) → EndsAt t goal end → present ≡ presentOf t c → bitOf (end % 16) present ≡ 0 → IsTargets t c n goal noTargets
   no-transition end present e p z =
       none-built (λ rs σ q qs moves are g b.
-      let same : bitOf (end % 16) present ≡ bitOf q (presentOf t c) = ap (λ j. bitOf (j % 16) present) e ∙ ap (λ j. bitOf j present) (b .at-end) ∙ ap (bitOf q) p in
+      let same : bitOf (end % 16) present ≡ bitOf q (presentOf t c) = ap (λ j. bitOf (j % 16) present) (e rs are) ∙ ap (λ j. bitOf j present) (b .at-end) ∙ ap (bitOf q) p in
       let o = b .bit in
       omega arith)
 
   pub too-few : (arity : ℕ) → arity ≡ arityOf t c → arity < n → IsTargets t c n goal noTargets
   too-few arity e h = none-built (λ rs σ q qs moves are g b. let l = b .long in let a = b .row .arity in omega arith)
 
-  module _ (end arity targets rest : ℕ) (r : Bool) (e : end ≡ endOf t goal) (a : arity ≡ arityOf t c) (m : targets ≡ targetsOf t c (end % 16)) (behind : n ≤ 4 → rest ≡ targets / 16 ^ n) (matches : Matches t goal rest (arity - n) r) where
+  module _ (end arity targets rest : ℕ) (r : Bool) (e : EndsAt t goal end) (a : arity ≡ arityOf t c) (m : targets ≡ targetsOf t c (end % 16)) (behind : n ≤ 4 → rest ≡ targets / 16 ^ n) (matches : Matches t goal rest (arity - n) r) where
     -- what stands behind the first n targets of a transition at the end of the goal
     behind-is : {rs : List Record} (q : ℕ) (qs : List ℕ) → AutomatonIs rs t → c < maxConstructors → end % 16 ≡ q → n ≤ length qs → TransitionIs rs t c q qs → rest ≡ targetsOf t c q / 16 ^ n
     behind-is q qs moves hc at-q l is =
@@ -133,7 +139,7 @@ module _ (t : List ℕ) (c n goal : ℕ) where
     pub no-match : r ≡ false → IsTargets t c n goal noTargets
     no-match f =
         none-built (λ rs σ q qs moves are g b.
-        let at-q = ap (λ j. j % 16) e ∙ b .at-end in
+        let at-q = ap (λ j. j % 16) (e rs are) ∙ b .at-end in
         let len : length (drop n qs) ≡ arity - n = length-drop n qs ∙ ap (λ j. j - n) (b .row .arity ∙ sym a) in
         let digits = digits-behind (b .row) n rest (behind-is q qs moves (b .con-small) at-q (b .long) (b .row)) (b .long) in
         matches .no f (record { rs = rs; kept = []; τ = σ; ns = [] }) are σ g (drop n qs) q len (λ k l. digits k (let long = b .row .arity in omega arith)) (b .rest))
@@ -148,13 +154,13 @@ module _ (t : List ℕ) (c n goal : ℕ) where
         all-of : (w : World) → TypesAre (w .rs) t → AutomatonIs (w .rs) t → (σ : Ty) → Goal (w .rs) goal σ → (q : ℕ) (qs : List ℕ) → targetsAt (transitionsOf (w .rs)) q c ≡ some qs → off n (takes qs q) ≡ some σ → (targets ≡ noTargets → ⊥) × Targets n targets qs
         all-of w are moves σ g q qs i o =
             let b = built are moves c n goal σ g q qs i o in
-            let at-q = ap (λ j. j % 16) e ∙ b .at-end in
+            let at-q = ap (λ j. j % 16) (e (w .rs) are) ∙ b .at-end in
             ((λ z. omega arith), (b .long, λ k h. b .row .target k (let long = b .long in omega arith) ∙ ap (λ j. j / 16 ^ k % 16) (sym (m ∙ ap (targetsOf t c) at-q))))
 
         there : (w : World) → TypesAre (w .rs) t → AutomatonIs (w .rs) t → (σ : Ty) → Goal (w .rs) goal σ → (q : ℕ) × (qs : List ℕ) × (targetsAt (transitionsOf (w .rs)) q c ≡ some qs) × (off n (takes qs q) ≡ some σ)
         there w are moves σ g =
             let (low, ends) = goal-end are goal σ g in
-            let same : end % 16 ≡ endOf t goal = omega arith in
+            let same : end % 16 ≡ endOf t goal = omega (arith, e (w .rs) are) in
             let one : bitOf (end % 16) (presentOf t c) ≡ 1 = ap (bitOf (end % 16)) (sym p) ∙ (let z : bitOf (end % 16) present ≡ 1 = omega arith in z) in
             let (qs, is) = moves .present (end % 16) c (omega arith) hc one in
             let long = is .arity in
@@ -163,3 +169,29 @@ module _ (t : List ℕ) (c n goal : ℕ) where
             let digits = digits-behind is n rest (behind-is (end % 16) qs moves hc refl n≤ is) n≤ in
             let shape = matches .yes f w are σ g (drop n qs) (end % 16) len (λ k h. digits k (omega arith)) (ends ∙ ap state (sym same)) in
             (end % 16, qs, is .there, takes-off n qs (end % 16) n≤ ∙ ap some (sym shape))
+
+-- a state, which is its own end
+module _ (t : List ℕ) (c n q : ℕ) (low : q < maxStates) where
+  own-end : EndsAt t q q
+  own-end rs are = sym (are .state-row q low .own-end)
+
+  small : q % 16 ≡ q
+  small = omega arith
+
+  pub state-missing : (present : ℕ) → present ≡ presentOf t c → bitOf q present ≡ 0 → IsTargets t c n q noTargets
+  state-missing present p z = no-transition t c n q q present own-end p (ap (λ j. bitOf j present) small ∙ z)
+
+  pub state-partial : (arity : ℕ) → arity ≡ arityOf t c → (arity ≡ n → ⊥) → IsTargets t c n q noTargets
+  state-partial arity a d = go (decLt arity n)
+    where
+      targets : ℕ
+      targets = targetsOf t c (q % 16)
+
+      go : Dec (arity < n) → IsTargets t c n q noTargets
+      go (yes h) = too-few t c n q arity a h
+      go (no h) = no-match t c n q q arity targets (targets / 16 ^ n) false own-end a refl (λ l. refl) (match-short t q (targets / 16 ^ n) (arity - n) (omega arith) low) refl
+
+  pub state-found : (arity targets present : ℕ) → c < maxConstructors → present ≡ presentOf t c → (bitOf q present ≡ 0 → ⊥) → arity ≡ arityOf t c → arity ≡ n → targets ≡ targetsOf t c q → targets < noTargets → IsTargets t c n q targets
+  state-found arity targets present hc p bit a all m few =
+      match-found t c n q q arity targets (targets / 16 ^ n) true own-end a (m ∙ ap (targetsOf t c) (sym small)) (λ l. refl) (match-state t q (targets / 16 ^ n) (arity - n) (omega arith) low)
+      few hc present p (λ z. bit (ap (λ j. bitOf j present) (sym small) ∙ z)) (omega arith) refl

@@ -84,6 +84,17 @@ module _ (t : List ℕ) (g rest i : ℕ) where
         no = λ e. absurd (true≢false e);
       }
 
+  -- a state, where one is left
+  pub match-short : 0 < i → g < maxStates → Matches t g rest i false
+  match-short z h =
+      record {
+        yes = λ e. absurd (true≢false (sym e));
+        no = λ e w are σ x ps q l digits f.
+            let one = first-of are g σ x ps q (omega arith) f .0 in
+            let none = are .state-row g h .no-members in
+            omega arith;
+      }
+
   pub match-many : (m : ℕ) → 0 < i → m ≡ manyOf t g → (m ≡ 1 → ⊥) → Matches t g rest i false
   match-many m h is d =
       record {

@@ -94,6 +94,7 @@ use Rattle.term_check.proofs.heads.candidate.Reads as candidate-reads
 use Rattle.term_check.proofs.heads.goes_down.Reads as goes-down-reads
 use Rattle.term_check.proofs.heads.leading.Reads as leading-reads
 use Rattle.term_check.proofs.heads.look.Reads as look-reads
+use Rattle.term_check.proofs.heads.state_targets.Reads as state-targets-reads
 use Rattle.term_check.proofs.heads.targets_for.Reads as targets-for-reads
 use Rattle.term_check.proofs.heads.wanted.Reads as wanted-reads
 use Rattle.term_check.proofs.hints.bound_hint.Reads as bound-hint-reads
@@ -351,7 +352,7 @@ one-target-claims t =
 
 abbrev all-targets-claims : ℕ → all-targets-lts.Claims
 all-targets-claims t =
-    (number-in-reads.Asked, number-in-reads.Learnt, node-of-reads.Asked, node-of-reads.Learnt, goes-down-reads.Asked, goes-down-reads.Learnt, targets-for-reads.Asked, targets-for-reads.Learnt, one-target-below t, one-target.Post)
+    (number-in-reads.Asked, number-in-reads.Learnt, node-of-reads.Asked, node-of-reads.Learnt, goes-down-reads.Asked, goes-down-reads.Learnt, state-targets-reads.Asked, state-targets-reads.Learnt, one-target-below t, one-target.Post)
 
 abbrev check-term-claims : ℕ → check-term-lts.Claims
 check-term-claims t =
@@ -859,14 +860,14 @@ all-targets-returns t c = (c .before .before .before .before .loop .inv .0, c .b
 all-targets-goes-down-requires : (t : ℕ) → all-targets-lts.Need-goes-down-requires (all-targets-claims t) (all-targets-at t) all-targets.Post all-targets-Inv-loop all-targets-μ-loop
 all-targets-goes-down-requires t c κs = search needs
 
-all-targets-targets-for-requires : (t : ℕ) → all-targets-lts.Need-targets-for-requires (all-targets-claims t) (all-targets-at t) all-targets.Post all-targets-Inv-loop all-targets-μ-loop
-all-targets-targets-for-requires t c κs = search needs
+all-targets-state-targets-requires : (t : ℕ) → all-targets-lts.Need-state-targets-requires (all-targets-claims t) (all-targets-at t) all-targets.Post all-targets-Inv-loop all-targets-μ-loop
+all-targets-state-targets-requires t c κs = omega arith
 
 all-targets-same-length-2 : (t : ℕ) → all-targets-lts.Need-same-length-2 (all-targets-claims t) (all-targets-at t) all-targets.Post all-targets-Inv-loop all-targets-μ-loop
 all-targets-same-length-2 t c = c .before .before .before .before .before .before .before .before .loop .inv .0
 
 all-targets-returns-2 : (t : ℕ) → all-targets-lts.Need-returns-2 (all-targets-claims t) (all-targets-at t) all-targets.Post all-targets-Inv-loop all-targets-μ-loop
-all-targets-returns-2 t c = (c .before .before .before .before .before .before .before .before .loop .inv .0, c .before .before .before .before .before .before .before .before .loop .inv .2 _ _ _ (down-none _ _ _ _ _ _ _ (node-by _ (now (c .before .before .before .before .before .before .before .before .before .before .before .before .before .args .r)) _ _ _ (c .before .before .before .before .before .before .before .before .before .number-in .ensures .0) (c .before .before .before .before .before .before .node-of .ensures)) (c .before .before .before .goes-down .ensures (c .before .before .if2 .taken) .0) (c .before .before .before .goes-down .ensures (c .before .before .if2 .taken) .1) _ (c .before .targets-for .ensures) (c .if3 .taken)))
+all-targets-returns-2 t c = (c .before .before .before .before .before .before .before .before .loop .inv .0, c .before .before .before .before .before .before .before .before .loop .inv .2 _ _ _ (down-none _ _ _ _ _ _ _ (node-by _ (now (c .before .before .before .before .before .before .before .before .before .before .before .before .before .args .r)) _ _ _ (c .before .before .before .before .before .before .before .before .before .number-in .ensures .0) (c .before .before .before .before .before .before .node-of .ensures)) (c .before .before .before .goes-down .ensures (c .before .before .if2 .taken) .0) (c .before .before .before .goes-down .ensures (c .before .before .if2 .taken) .1) _ (c .before .state-targets .ensures) (c .if3 .taken)))
 
 all-targets-add-here : (t : ℕ) → all-targets-lts.Need-add-here (all-targets-claims t) (all-targets-at t) all-targets.Post all-targets-Inv-loop all-targets-μ-loop
 all-targets-add-here t c = let h = c .before .before .before .before .if1 .left in omega arith
@@ -875,7 +876,7 @@ all-targets-loop-less : (t : ℕ) → all-targets-lts.Need-loop-less (all-target
 all-targets-loop-less t c = omega arith
 
 all-targets-loop-again : (t : ℕ) → all-targets-lts.Need-loop-again (all-targets-claims t) (all-targets-at t) all-targets.Post all-targets-Inv-loop all-targets-μ-loop
-all-targets-loop-again t c = (c .before .before .before .before .before .before .before .before .loop .inv .0, let l = c .before .before .before .before .before .before .before .before .loop .inv .1 in omega arith, λ m u b told. c .before .before .before .before .before .before .before .before .loop .inv .2 m u b (down _ _ _ _ _ _ _ (node-by _ (now (c .before .before .before .before .before .before .before .before .before .before .before .before .before .args .r)) _ _ _ (c .before .before .before .before .before .before .before .before .before .number-in .ensures .0) (c .before .before .before .before .before .before .node-of .ensures)) (c .before .before .before .goes-down .ensures (c .before .before .if2 .taken) .0) (c .before .before .before .goes-down .ensures (c .before .before .if2 .taken) .1) _ (c .before .targets-for .ensures) (c .if3 .left) ((c .before .before .before .before .before .before .before .before .loop .here) + 1) (omega arith) m u b told))
+all-targets-loop-again t c = (c .before .before .before .before .before .before .before .before .loop .inv .0, let l = c .before .before .before .before .before .before .before .before .loop .inv .1 in omega arith, λ m u b told. c .before .before .before .before .before .before .before .before .loop .inv .2 m u b (down _ _ _ _ _ _ _ (node-by _ (now (c .before .before .before .before .before .before .before .before .before .before .before .before .before .args .r)) _ _ _ (c .before .before .before .before .before .before .before .before .before .number-in .ensures .0) (c .before .before .before .before .before .before .node-of .ensures)) (c .before .before .before .goes-down .ensures (c .before .before .if2 .taken) .0) (c .before .before .before .goes-down .ensures (c .before .before .if2 .taken) .1) _ (c .before .state-targets .ensures) (c .if3 .left) ((c .before .before .before .before .before .before .before .before .loop .here) + 1) (omega arith) m u b told))
 
 all-targets-one-target-requires : (t : ℕ) → all-targets-lts.Need-one-target-requires (all-targets-claims t) (all-targets-at t) all-targets.Post all-targets-Inv-loop all-targets-μ-loop
 all-targets-one-target-requires t c κs = let p = c .before .before .before .before .before .before .before .before .before .before .before .before .pre .0 in let l = c .before .before .before .before .before .before .before .loop .inv .1 in (omega arith, Prim.tt)
@@ -1211,7 +1212,7 @@ pub +all-args+all-members+all-targets+args-again+check-args+check-bound+check-ea
     (all-targets-same-length t)
     (all-targets-returns t)
     (all-targets-goes-down-requires t)
-    (all-targets-targets-for-requires t)
+    (all-targets-state-targets-requires t)
     (all-targets-same-length-2 t)
     (all-targets-returns-2 t)
     (all-targets-add-here t)

@@ -1,16 +1,18 @@
 -- `targets_for` meets its contract.
-use mathlib.Core.Path.{refl}
-use mathlib.Core.Bool.{true}
-use native.Mathlib.Omega.{arith}
 use borrow.Author.Tests.{not-true, not-false}
-use Rattle.term_check.proofs.heads.Matching.{match-state}
 use Rattle.term_check.proofs.heads.Building.{no-constructor, no-transition, too-few, no-match, match-found}
 use borrow.Author.Needs.{needs}
 use Rattle.term_check.proofs.heads.targets_for.Statement.{statement}
 use Rattle.term_check.proofs.heads.targets_for.Tie as tie
 
+state-targets-requires : tie.Need-state-targets-requires
+state-targets-requires c κs = c .if1 .taken
+
 returns : tie.Need-returns
-returns c = no-constructor _ _ _ _ (c .if1 .taken)
+returns c = c .state-targets .ensures
+
+returns-2 : tie.Need-returns-2
+returns-2 c = no-constructor _ _ _ _ (c .if2 .taken)
 
 end-of-requires : tie.Need-end-of-requires
 end-of-requires c κs = search needs
@@ -18,25 +20,20 @@ end-of-requires c κs = search needs
 present-of-requires : tie.Need-present-of-requires
 present-of-requires c κs = search needs
 
-shr-if2 : tie.Need-shr-if2
-shr-if2 c = search needs
+shr-if3 : tie.Need-shr-if3
+shr-if3 c = search needs
 
-returns-2 : tie.Need-returns-2
-returns-2 c = no-transition _ _ _ _ _ _ (c .before .before .end-of .ensures .0) (c .before .present-of .ensures .0) (c .if2 .taken)
+returns-3 : tie.Need-returns-3
+returns-3 c = no-transition _ _ _ _ _ _ (λ rs are. c .before .before .end-of .ensures .0) (c .before .present-of .ensures .0) (c .if3 .taken)
 
 arity-of-requires : tie.Need-arity-of-requires
 arity-of-requires c κs = search needs
 
-returns-3 : tie.Need-returns-3
-returns-3 c = too-few _ _ _ _ _ (c .before .arity-of .ensures .0) (c .if3 .taken)
+returns-4 : tie.Need-returns-4
+returns-4 c = too-few _ _ _ _ _ (c .before .arity-of .ensures .0) (c .if4 .taken)
 
 targets-of-requires : tie.Need-targets-of-requires
 targets-of-requires c κs = search needs
-
-returns-4 : tie.Need-returns-4
-returns-4 c =
-    match-found _ _ _ _ _ _ _ _ true (c .before .before .before .before .before .before .before .end-of .ensures .0) (c .before .before .before .before .arity-of .ensures .0) (c .before .before .targets-of .ensures .0) (λ _. refl) (match-state _ _ _ _ (omega (arith, c .if5 .taken)) (c .before .if4 .taken))
-    (c .before .before .targets-of .ensures .1) (c .before .before .before .before .before .before .before .before .if1 .left) _ (c .before .before .before .before .before .before .present-of .ensures .0) (c .before .before .before .before .before .if2 .left) (c .before .before .before .if3 .left) refl
 
 behind-requires : tie.Need-behind-requires
 behind-requires c κs = search needs
@@ -45,27 +42,27 @@ matches-requires : tie.Need-matches-requires
 matches-requires c κs = search needs
 
 returns-5 : tie.Need-returns-5
-returns-5 c =
-    no-match _ _ _ _ _ _ _ _ _ (c .before .before .before .before .before .before .before .before .before .end-of .ensures .0) (c .before .before .before .before .before .before .arity-of .ensures .0) (c .before .before .before .before .targets-of .ensures .0) (c .before .before .behind .ensures) (c .before .matches .ensures) (not-true _ (c .if6 .taken))
+returns-5 c = no-match _ _ _ _ _ _ _ _ _ (λ rs are. c .before .before .before .before .before .before .before .before .end-of .ensures .0) (c .before .before .before .before .before .arity-of .ensures .0) (c .before .before .before .targets-of .ensures .0) (c .before .before .behind .ensures) (c .before .matches .ensures) (not-true _ (c .if5 .taken))
 
 returns-6 : tie.Need-returns-6
 returns-6 c =
-    match-found _ _ _ _ _ _ _ _ _ (c .before .before .before .before .before .before .before .before .before .end-of .ensures .0) (c .before .before .before .before .before .before .arity-of .ensures .0) (c .before .before .before .before .targets-of .ensures .0) (c .before .before .behind .ensures) (c .before .matches .ensures)
-    (c .before .before .before .before .targets-of .ensures .1) (c .before .before .before .before .before .before .before .before .before .before .if1 .left) _ (c .before .before .before .before .before .before .before .before .present-of .ensures .0) (c .before .before .before .before .before .before .before .if2 .left) (c .before .before .before .before .before .if3 .left) (not-false _ (c .if6 .left))
+    match-found _ _ _ _ _ _ _ _ _ (λ rs are. c .before .before .before .before .before .before .before .before .end-of .ensures .0) (c .before .before .before .before .before .arity-of .ensures .0) (c .before .before .before .targets-of .ensures .0) (c .before .before .behind .ensures) (c .before .matches .ensures)
+    (c .before .before .before .targets-of .ensures .1) (c .before .before .before .before .before .before .before .before .before .if2 .left) _ (c .before .before .before .before .before .before .before .present-of .ensures .0) (c .before .before .before .before .before .before .if3 .left) (c .before .before .before .before .if4 .left) (not-false _ (c .if5 .left))
 
 pub targets-for-spec : {M : Type 1} → statement M
 targets-for-spec =
     tie.close
     (tie.spec
+    state-targets-requires
     returns
+    returns-2
     end-of-requires
     present-of-requires
-    shr-if2
-    returns-2
-    arity-of-requires
+    shr-if3
     returns-3
-    targets-of-requires
+    arity-of-requires
     returns-4
+    targets-of-requires
     behind-requires
     matches-requires
     returns-5
