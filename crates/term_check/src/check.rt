@@ -5,6 +5,7 @@ use crate::heads::args_known;
 use crate::heads::candidate;
 use crate::heads::goes_down;
 use crate::heads::leading;
+use crate::heads::leaf_states;
 use crate::heads::look;
 use crate::heads::state_targets;
 use crate::heads::targets_for;
@@ -317,10 +318,10 @@ fn find_states(t: &[u16], r: &[u32], w: &mut [u32], at: usize, asked: u32, node:
         let had = find_bound(&*t, &*r, w, at, asked, node);
         return Outlook { had, lacked: 0 };
     }
-    if node.tag == 2 {
-        return find_given(&*t, &*r, w, at, asked, node);
+    if node.tag == 0 {
+        return leaf_states(t, node, asked);
     }
-    Outlook { had: 0, lacked: 0 }
+    find_given(&*t, &*r, w, at, asked, node)
 }
 
 // States of a set that a nonterminal's term has by the bindings that served last for this node.

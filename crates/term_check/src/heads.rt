@@ -38,7 +38,7 @@ ghost use Rattle.index.specs.layout.Layout.{maxStates};
 ghost use Rattle.tables.specs.reading.Cells.{nodeAt};
 ghost use Rattle.term_check.specs.notes.Notes.{baseIn};
 ghost use Rattle.term_check.specs.Worlds.{caseOf, answersOf};
-ghost use Rattle.term_check.specs.heads.Heads.{IsCandidate, IsLeading, Matches, IsTargets, Alone, Seen, AllHad, ArgsKnown, Wanted};
+ghost use Rattle.term_check.specs.heads.Heads.{IsCandidate, IsLeading, Matches, IsTargets, Leaf, Alone, Seen, AllHad, ArgsKnown, Wanted};
 
 // The type of binding c where it is the goal with arrows off; else NONE.
 pub fn leading(t: &[u16], count: usize, goal: usize, c: usize) -> usize
@@ -151,6 +151,31 @@ pub fn targets_for(t: &[u16], c: usize, count: usize, goal: usize) -> usize
         return NO_TARGETS;
     }
     targets
+}
+
+// Of the states of a set those that a constructor without arguments has, and those that it lacks; nothing of another term.
+pub fn leaf_states(t: &[u16], node: Node, asked: u32) -> Outlook
+    ensures { λ s. ⌜ Leaf (now (t .entry)) node asked s ⌝ }
+{
+    let nothing = Outlook { had: 0, lacked: 0 };
+    if node.count != 0 {
+        return nothing;
+    }
+    if MAX_CONSTRUCTORS <= node.number {
+        return nothing;
+    }
+    if arity_of(t, node.number) != 0 {
+        return nothing;
+    }
+    if 65535 < asked {
+        return nothing;
+    }
+    let present = present_of(t, node.number) as u32;
+    let had = asked & present;
+    Outlook {
+        had,
+        lacked: asked - had,
+    }
 }
 
 // What is known of a parameter that stands alone and a state: 2 that it has it, 1 that it lacks it; 0 of another term or goal. The node

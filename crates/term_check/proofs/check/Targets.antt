@@ -8,12 +8,13 @@ use mathlib.Core.List.{List, [], _∷_, List·Memᴰ·head, List·Memᴰ·eq-of-
 use Rattle.scheme.specs.Terms.{Terms, _∷ᵗ_, countᵗ}
 use Rattle.scheme.specs.Types.{state, members, takes}
 use Rattle.index.specs.layout.Layout.{maxStates, noTargets}
+use Rattle.answers.specs.declared.Outlook.{Outlook}
 use Rattle.tables.specs.reading.Cells.{nodeAt}
 use Rattle.tables.specs.declared.reading.Node.{Node}
 use Rattle.tables.specs.Facts.{Goal, of-state, AllAt}
 use Rattle.term_check.specs.notes.Notes.{baseIn}
-use Rattle.term_check.specs.heads.Heads.{IsTargets}
-use Rattle.term_check.specs.Worlds.{Args, Case, World, Has, Ready, Includes, ChecksTerm, ChecksTargets, Targets}
+use Rattle.term_check.specs.heads.Heads.{IsTargets, Leaf}
+use Rattle.term_check.specs.Worlds.{Args, Case, World, Has, Ready, Includes, ChecksTerm, ChecksTargets, Targets, Settles}
 use Rattle.tables.proofs.nodes.Places.{first-at}
 use Rattle.term_check.proofs.Places.{no-terms}
 use Rattle.term_check.proofs.check.Keeping.{includes-less, ready-on, keeps-all, keeps-on}
@@ -113,3 +114,12 @@ module _ (x : Case) (memo users : List ℕ) (at n targets : ℕ) (a : Node) (ea 
       go : (d : Bool) → ChecksTerm x memo users at (targets % 16) memo′ users′ d → ChecksTargets x memo users at n targets memo′ users′ d
       go false term = targets-lack x memo users at n targets (omega arith) (a .next) is-next memo′ users′ false term refl
       go true term = targets-rest x memo users at n targets (omega arith) (a .next) is-next memo′ users′ true term refl memo′ users′ true (targets-none x memo′ users′ (a .next) (n - 1) (targets / 16) (omega arith))
+
+-- a constructor that stands alone, and a set of states
+pub leaf-settles : (x : Case) (memo users : List ℕ) (at asked : ℕ) (a : Node) (r : Outlook) → Leaf (x .t) a asked r → a ≡ nodeAt (x .t) (baseIn (x .test)) at → a .tag ≡ 0 → Settles x memo users at asked memo users r
+leaf-settles x memo users at asked a r leaf ea et =
+    record {
+      finds = record { keeps = keeps-all x memo users; found = λ w ready q b. let (none, is) = leaf .had q b in built-checked x memo users at q a ea et 0 (subst (λ k. IsTargets (x .t) (a .number) k q 0) (sym none) is) (λ e. omega arith) (suc at) refl memo users true (targets-none x memo users (suc at) (a .count) 0 (omega arith)) .yes refl w ready };
+      within = λ q b. leaf .lacked q b .0;
+      lacks = λ w ready q b. no-targets x memo users at q a ea et noTargets (leaf .lacked q b .1) refl .no refl w ready;
+    }

@@ -8,6 +8,7 @@ use mathlib.Core.Logic.{_⊎_, inl, inr}
 use mathlib.Core.Bool.{Bool, true, false}
 use mathlib.Core.List.{List, [], _∷_}
 use mathlib.Core.Option.{some}
+use lib.Bits.{bitAnd}
 use lib.ListN.{length, getD, drop, length-drop}
 use lib.Pow.{pow-add}
 use lib.Seq.{getD-drop}
@@ -16,12 +17,13 @@ use Rattle.casefile.specs.Records.{Record}
 use Rattle.casefile.specs.Tables.{transitionsOf, targetsAt}
 use Rattle.index.specs.layout.Layout.{maxStates, maxConstructors, noTargets}
 use Rattle.marks.specs.Marks.{bitOf}
-use Rattle.marks.proofs.Bits.{bit-two}
+use Rattle.marks.proofs.Bits.{bit-two, bit-small, zero-bit, high-bit, and-bit, minus-bit}
 use Rattle.tables.specs.reading.Cells.{endOf, presentOf, arityOf, targetsOf}
-use Rattle.tables.specs.Facts.{Goal, TypesAre, TransitionIs, AutomatonIs, off}
+use Rattle.tables.specs.declared.reading.Node.{Node}
+use Rattle.tables.specs.Facts.{Goal, of-state, TypesAre, TransitionIs, AutomatonIs, off}
 use Rattle.term_check.specs.Worlds.{World, Targets}
-use Rattle.term_check.specs.heads.Heads.{Matches, IsTargets}
-use Rattle.term_check.proofs.Goals.{state-below}
+use Rattle.term_check.specs.heads.Heads.{Matches, IsTargets, Leaf}
+use Rattle.term_check.proofs.Goals.{goal-type, state-below}
 use Rattle.term_check.proofs.heads.Matching.{match-state, match-short}
 
 -- the targets behind so many, and behind none
@@ -195,3 +197,48 @@ module _ (t : List ℕ) (c n q : ℕ) (low : q < maxStates) where
   state-found arity targets present hc p bit a all m few =
       match-found t c n q q arity targets (targets / 16 ^ n) true own-end a (m ∙ ap (targetsOf t c) (sym small)) (λ l. refl) (match-state t q (targets / 16 ^ n) (arity - n) (omega arith) low)
       few hc present p (λ z. bit (ap (λ j. bitOf j present) (sym small) ∙ z)) (omega arith) refl
+
+-- a constructor without arguments, and a set of states
+takes-none : (qs : List ℕ) (q : ℕ) → length qs ≡ 0 → takes qs q ≡ state q
+unfolding takes
+takes-none [] q e = refl
+takes-none (p ∷ ps) q e = absurd (omega arith)
+
+leaf-targets : (t : List ℕ) (c q present arity : ℕ) → q < maxStates → c < maxConstructors → present ≡ presentOf t c → bitOf q present ≡ 1 → arity ≡ arityOf t c → arity ≡ 0 → IsTargets t c 0 q 0
+unfolding off
+leaf-targets t c q present arity low hc ep b ea z =
+    record {
+      found = λ ne x w e s σ g.
+          let moves = subst (AutomatonIs (w .rs)) e (s .automaton) in
+          let (qs, is) = moves .present q c low hc (ap (bitOf q) (sym ep) ∙ b) in
+          let long = is .arity in
+          (q, qs, is .there, ap some (takes-none qs q (omega arith) ∙ goal-type (of-state q low refl refl) g));
+      all = λ x w e s σ g p qs f o. ((λ n. omega arith), (omega arith, λ k h. absurd (omega arith)));
+    }
+
+module _ (t : List ℕ) (a : Node) (asked : ℕ) where
+  pub leaf-nothing : Leaf t a asked (record { had = 0; lacked = 0 })
+  leaf-nothing = record { had = λ q b. let z = zero-bit q in absurd (omega arith); lacked = λ q b. let z = zero-bit q in absurd (omega arith) }
+
+  pub leaf-decided : (present arity : ℕ) → a .count ≡ 0 → a .number < maxConstructors → arity ≡ arityOf t (a .number) → arity ≡ 0 → asked ≤ 65535 → present ≡ presentOf t (a .number) → Leaf t a asked (record { had = bitAnd asked present; lacked = asked - bitAnd asked present })
+  leaf-decided present arity none hc ea z few ep =
+      record {
+        had = λ q b.
+            let e = and-bit q asked present in
+            let s = bit-small q asked in
+            let p = bit-small q present in
+            (none, leaf-targets t (a .number) q present arity (below q (omega arith)) hc ep (omega arith) ea z);
+        lacked = λ q b.
+            let e = minus-bit q asked present in
+            let s = bit-small q asked in
+            let p = bit-small q present in
+            let in-set : bitOf q asked ≡ 1 = omega arith in
+            (in-set, state-missing t (a .number) (a .count) q (below q in-set) present ep (omega arith));
+      }
+    where
+      below : (q : ℕ) → bitOf q asked ≡ 1 → q < maxStates
+      below q b = go (decLt q maxStates)
+        where
+          go : Dec (q < maxStates) → q < maxStates
+          go (yes h) = h
+          go (no h) = let u = high-bit q 16 asked (omega arith) (omega arith) in absurd (omega arith)

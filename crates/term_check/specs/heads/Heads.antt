@@ -58,6 +58,12 @@ pub record IsTargets (t : List ℕ) (c n goal r : ℕ) : Type 0 where
       → (q : ℕ) × (qs : List ℕ) × (targetsAt (transitionsOf (w .rs)) q c ≡ some qs) × (off n (takes qs q) ≡ some σ)
   pub all : (x : Case) (w : World) → x .t ≡ t → Setting x w → (σ : Ty) → Goal (w .rs) goal σ → (q : ℕ) (qs : List ℕ) → targetsAt (transitionsOf (w .rs)) q c ≡ some qs → off n (takes qs q) ≡ some σ → (r ≡ noTargets → ⊥) × Targets n r qs
 
+-- of the states of a set, as bits, those at which a node with a constructor in front and no argument has a transition, and those at which
+-- it has none
+pub record Leaf (t : List ℕ) (a : Node) (asked : ℕ) (r : Outlook) : Type 0 where
+  pub had : (q : ℕ) → bitOf q (r .had) ≡ 1 → (a .count ≡ 0) × IsTargets t (a .number) 0 q 0
+  pub lacked : (q : ℕ) → bitOf q (r .lacked) ≡ 1 → (bitOf q asked ≡ 1) × IsTargets t (a .number) (a .count) q noTargets
+
 -- r is 2 where a node, which has no constructor and no nonterminal in front, stands alone and has a goal, 1 where it lacks it
 pub record Alone (x : Case) (a : Node) (goal r : ℕ) : Type 0 where
   pub yes : r ≡ 2 → (w : World) (users : List ℕ) (i : ℕ) → Setting x w → a ≡ nodeAt (x .t) (baseIn (x .test)) i → (a .tag ≡ 0 → ⊥) → (a .tag ≡ 1 → ⊥) → Yes x w users i goal

@@ -16,7 +16,7 @@ use Rattle.term_check.proofs.heads.Candidates.{row-fits}
 use Rattle.term_check.proofs.heads.Sets.{next-behind-sets}
 use Rattle.term_check.proofs.check.Keeping.{node-by, next-by, tells-on}
 use Rattle.term_check.proofs.check.Arguments.{args-none, args-stuck, args-lack, args-rest}
-use Rattle.term_check.proofs.check.Targets.{targets-none, targets-stuck, targets-lack, targets-rest, down-none, down}
+use Rattle.term_check.proofs.check.Targets.{targets-none, targets-stuck, targets-lack, targets-rest, down-none, down, leaf-settles}
 use Rattle.term_check.proofs.check.Bound.{try-misses, try-lacks, try-serves, failed-start, tried-serves, tried-fails, tried-none, failed-end, try-next, served, next-behind, listed-is}
 use Rattle.term_check.proofs.check.Bound as Bound
 use Rattle.term_check.proofs.check.Given.{given-start, given-none, given-end, member-misses, member-fails, member-has}
@@ -93,6 +93,7 @@ use Rattle.term_check.proofs.heads.args_known.Reads as args-known-reads
 use Rattle.term_check.proofs.heads.candidate.Reads as candidate-reads
 use Rattle.term_check.proofs.heads.goes_down.Reads as goes-down-reads
 use Rattle.term_check.proofs.heads.leading.Reads as leading-reads
+use Rattle.term_check.proofs.heads.leaf_states.Reads as leaf-states-reads
 use Rattle.term_check.proofs.heads.look.Reads as look-reads
 use Rattle.term_check.proofs.heads.state_targets.Reads as state-targets-reads
 use Rattle.term_check.proofs.heads.targets_for.Reads as targets-for-reads
@@ -368,7 +369,7 @@ find-given-claims t =
 
 abbrev find-states-claims : ℕ → find-states-lts.Claims
 find-states-claims t =
-    (number-in-reads.Asked, number-in-reads.Learnt, find-bound-below t, find-bound.Post, find-given-below t, find-given.Post)
+    (number-in-reads.Asked, number-in-reads.Learnt, find-bound-below t, find-bound.Post, leaf-states-reads.Asked, leaf-states-reads.Learnt, find-given-below t, find-given.Post)
 
 abbrev try-one-claims : ℕ → try-one-lts.Claims
 try-one-claims t =
@@ -1100,17 +1101,20 @@ find-states-same-length t c = c .before .before .find-bound .ensures .0
 find-states-returns-3 : (t : ℕ) → find-states-lts.Need-returns-3 (find-states-claims t) (find-states-at t) find-states.Post
 find-states-returns-3 t c = (c .before .before .find-bound .ensures .0, λ ea. settles-found _ _ _ _ _ (c .before .before .find-bound .ensures .1 ea (c .before .before .before .before .before .before .if2 .taken)))
 
+find-states-leaf-states-requires : (t : ℕ) → find-states-lts.Need-leaf-states-requires (find-states-claims t) (find-states-at t) find-states.Post
+find-states-leaf-states-requires t c κs = search needs
+
+find-states-returns-4 : (t : ℕ) → find-states-lts.Need-returns-4 (find-states-claims t) (find-states-at t) find-states.Post
+find-states-returns-4 t c = (refl, λ ea. leaf-settles _ _ _ _ _ _ _ (c .leaf-states .ensures) ea (c .before .if4 .taken))
+
 find-states-find-given-requires : (t : ℕ) → find-states-lts.Need-find-given-requires (find-states-claims t) (find-states-at t) find-states.Post
 find-states-find-given-requires t c κs = let p = c .before .before .before .before .before .before .before .before .before .pre .0 in let h = c .before .before .before .before .before .if1 .left in (omega arith, omega arith)
 
 find-states-same-length-2 : (t : ℕ) → find-states-lts.Need-same-length-2 (find-states-claims t) (find-states-at t) find-states.Post
 find-states-same-length-2 t c = c .before .before .find-given .ensures .0
 
-find-states-returns-4 : (t : ℕ) → find-states-lts.Need-returns-4 (find-states-claims t) (find-states-at t) find-states.Post
-find-states-returns-4 t c = (c .before .before .find-given .ensures .0, λ ea. c .before .before .find-given .ensures .1 ea (λ e. let h = c .before .before .before .before .if4 .taken in omega arith) (c .before .before .before .before .before .before .if2 .left))
-
 find-states-returns-5 : (t : ℕ) → find-states-lts.Need-returns-5 (find-states-claims t) (find-states-at t) find-states.Post
-find-states-returns-5 t c = (refl, λ ea. settles-found _ _ _ _ _ (finds-none _ _ _ _))
+find-states-returns-5 t c = (c .before .before .find-given .ensures .0, λ ea. c .before .before .find-given .ensures .1 ea (c .before .before .before .before .if4 .left) (c .before .before .before .before .before .before .if2 .left))
 
 try-one-candidate-requires : (t : ℕ) → try-one-lts.Need-candidate-requires (try-one-claims t) (try-one-at t) try-one.Post
 try-one-candidate-requires t c κs = search needs
@@ -1437,9 +1441,10 @@ pub +all-args+all-members+all-targets+args-again+check-args+check-bound+check-ea
     (find-states-find-bound-requires t)
     (find-states-same-length t)
     (find-states-returns-3 t)
+    (find-states-leaf-states-requires t)
+    (find-states-returns-4 t)
     (find-states-find-given-requires t)
     (find-states-same-length-2 t)
-    (find-states-returns-4 t)
     (find-states-returns-5 t))
     (λ t. one-target-lts.spec (one-target-claims t)
     (one-target-at t)
