@@ -323,7 +323,9 @@ pub const TINY_FRAME: usize = 0;
 
 pub const SMALL_FRAME: usize = TINY_FRAME + 1;
 
-pub const PLAIN_FRAME: usize = SMALL_FRAME + 1;
+pub const MODEST_FRAME: usize = SMALL_FRAME + 1;
+
+pub const PLAIN_FRAME: usize = MODEST_FRAME + 1;
 
 pub const BROAD_FRAME: usize = PLAIN_FRAME + 1;
 
@@ -373,6 +375,25 @@ pub const SMALL_SETS: usize = SMALL_GOALS * SMALL_WORDS;
 pub const SMALL_USERS: usize = SMALL_BINDINGS * (SMALL_WORDS + 1);
 
 pub const SMALL_ANSWERS: usize = MAX_NODES * ((SMALL_GOALS + WORD - 1) / WORD) * CELL;
+
+// The modest frame, likewise: for more nodes and bindings, of as few types as the tiny one.
+pub const MODEST_NODES: usize = 1024;
+
+pub const MODEST_TYPES: usize = 32;
+
+pub const MODEST_BINDINGS: usize = 224;
+
+pub const MODEST_GOALS: usize = MODEST_TYPES + MAX_STATES;
+
+pub const MODEST_WORDS: usize = (MODEST_BINDINGS + WORD - 1) / WORD;
+
+pub const MODEST_TABLE: usize = ROWS_AT + MODEST_GOALS * ROW_CELLS + MODEST_NODES * NODE_CELLS;
+
+pub const MODEST_SETS: usize = MODEST_GOALS * MODEST_WORDS;
+
+pub const MODEST_USERS: usize = MODEST_BINDINGS * (MODEST_WORDS + 1);
+
+pub const MODEST_ANSWERS: usize = MAX_NODES * ((MODEST_GOALS + WORD - 1) / WORD) * CELL;
 
 // The plain frame, likewise: for many bindings of few types.
 pub const PLAIN_NODES: usize = 2048;

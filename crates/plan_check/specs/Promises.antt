@@ -12,7 +12,7 @@ use Rattle.casefile.specs.Tables.{planOf, automatonOf, bindingsOf}
 use Rattle.casefile.specs.Refusals.{refuseWhole}
 use Rattle.casefile.specs.Promises.{Passed}
 use Rattle.casefile.specs.BindingCases.{shrunk}
-use Rattle.index.specs.layout.Layout.{maxFile, tinyFrame, tinyNodes, tinyTypes, tinyBindings, smallFrame, smallNodes, smallTypes, smallBindings, plainFrame, plainNodes, plainTypes, plainBindings, broadFrame, broadNodes, broadTypes, broadBindings, middleFrame, middleNodes, middleTypes, middleBindings, wideFrame, wideNodes, wideTypes, wideBindings}
+use Rattle.index.specs.layout.Layout.{maxFile, tinyFrame, tinyNodes, tinyTypes, tinyBindings, smallFrame, smallNodes, smallTypes, smallBindings, modestFrame, modestNodes, modestTypes, modestBindings, plainFrame, plainNodes, plainTypes, plainBindings, broadFrame, broadNodes, broadTypes, broadBindings, middleFrame, middleNodes, middleTypes, middleBindings, wideFrame, wideNodes, wideTypes, wideBindings}
 use Rattle.index.specs.entries.Known.{Known}
 use Rattle.rules.specs.reading.RuleBodies.{nodesIn}
 use Rattle.intake.specs.plan.PlanTests.{EndsAre}
@@ -51,6 +51,7 @@ pub record HasNodes (file index counts : List ℕ) (nodes : ℕ) : Type 0 where
 pub record HasRoom (frame nodes types bindings : ℕ) (r : Bool) : Type 0 where
   pub tiny : r ≡ true → frame ≡ tinyFrame → (nodes ≤ tinyNodes) × (types ≤ tinyTypes) × (bindings ≤ tinyBindings)
   pub small : r ≡ true → frame ≡ smallFrame → (nodes ≤ smallNodes) × (types ≤ smallTypes) × (bindings ≤ smallBindings)
+  pub modest : r ≡ true → frame ≡ modestFrame → (nodes ≤ modestNodes) × (types ≤ modestTypes) × (bindings ≤ modestBindings)
   pub plain : r ≡ true → frame ≡ plainFrame → (nodes ≤ plainNodes) × (types ≤ plainTypes) × (bindings ≤ plainBindings)
   pub broad : r ≡ true → frame ≡ broadFrame → (nodes ≤ broadNodes) × (types ≤ broadTypes) × (bindings ≤ broadBindings)
   pub middle : r ≡ true → frame ≡ middleFrame → (nodes ≤ middleNodes) × (types ≤ middleTypes) × (bindings ≤ middleBindings)

@@ -15,6 +15,10 @@ use index::layout::MIDDLE_ANSWERS;
 use index::layout::MIDDLE_SETS;
 use index::layout::MIDDLE_TABLE;
 use index::layout::MIDDLE_USERS;
+use index::layout::MODEST_ANSWERS;
+use index::layout::MODEST_SETS;
+use index::layout::MODEST_TABLE;
+use index::layout::MODEST_USERS;
 use index::layout::NO_HINTS;
 use index::layout::PLAIN_ANSWERS;
 use index::layout::PLAIN_SETS;
@@ -37,7 +41,7 @@ use index::layout::WIDE_ANSWERS;
 use index::layout::WIDE_SETS;
 use index::layout::WIDE_TABLE;
 use index::layout::WIDE_USERS;
-ghost use Rattle.index.specs.layout.Layout.{tinyNodes, tinyTypes, tinyBindings, smallNodes, smallTypes, smallBindings, plainNodes, plainTypes, plainBindings, broadNodes, broadTypes, broadBindings, middleNodes, middleTypes, middleBindings, wideNodes, wideTypes, wideBindings, endsSize, maxTypes, maxBindings};
+ghost use Rattle.index.specs.layout.Layout.{tinyNodes, tinyTypes, tinyBindings, smallNodes, smallTypes, smallBindings, modestNodes, modestTypes, modestBindings, plainNodes, plainTypes, plainBindings, broadNodes, broadTypes, broadBindings, middleNodes, middleTypes, middleBindings, wideNodes, wideTypes, wideBindings, endsSize, maxTypes, maxBindings};
 ghost use Rattle.plan_check.specs.Promises.{JudgesWithin};
 
 // What tests read in a frame: the numbers of a test, then the sets of candidates; and what they write: hints, then users, then answers.
@@ -48,6 +52,10 @@ const TINY_WRITE: usize = NO_HINTS + TINY_USERS + TINY_ANSWERS;
 const SMALL_READ: usize = TEST_CELLS + SMALL_SETS;
 
 const SMALL_WRITE: usize = NO_HINTS + SMALL_USERS + SMALL_ANSWERS;
+
+const MODEST_READ: usize = TEST_CELLS + MODEST_SETS;
+
+const MODEST_WRITE: usize = NO_HINTS + MODEST_USERS + MODEST_ANSWERS;
 
 const PLAIN_READ: usize = TEST_CELLS + PLAIN_SETS;
 
@@ -112,6 +120,34 @@ pub(crate) fn small_bindings(
     let mut t = [0u16; SMALL_TABLE];
     let mut r = [0u32; SMALL_READ];
     let mut w = [0u32; SMALL_WRITE];
+    judge_bindings(
+        file,
+        index,
+        counts,
+        ends,
+        firsts,
+        &mut t,
+        &mut r,
+        &mut w,
+        NO_HINTS,
+        flags,
+    )
+}
+
+// What is kept of the bindings of a file, in the modest frame.
+pub(crate) fn modest_bindings(
+    file: &[u8],
+    index: &mut Index,
+    counts: &Counts,
+    ends: &[u16],
+    firsts: &mut Rows,
+    flags: &mut [u8],
+) -> Shrunken
+    ensures { λ r. ⌜ JudgesWithin modestNodes modestTypes modestBindings (now (file .entry)) (now (index .entry)) (now (counts .entry)) (now (ends .entry)) (now (flags .entry)) (now (flags .exit)) (r .accepted) (r .kept) (r .total) (r .rounds) ⌝ }
+{
+    let mut t = [0u16; MODEST_TABLE];
+    let mut r = [0u32; MODEST_READ];
+    let mut w = [0u32; MODEST_WRITE];
     judge_bindings(
         file,
         index,

@@ -10,6 +10,10 @@ use index::layout::MIDDLE_BINDINGS;
 use index::layout::MIDDLE_FRAME;
 use index::layout::MIDDLE_NODES;
 use index::layout::MIDDLE_TYPES;
+use index::layout::MODEST_BINDINGS;
+use index::layout::MODEST_FRAME;
+use index::layout::MODEST_NODES;
+use index::layout::MODEST_TYPES;
 use index::layout::NODE;
 use index::layout::PLAIN_BINDINGS;
 use index::layout::PLAIN_FRAME;
@@ -80,6 +84,16 @@ pub(crate) fn has_room(frame: usize, nodes: usize, types: usize, bindings: usize
             SMALL_NODES,
             SMALL_TYPES,
             SMALL_BINDINGS,
+        );
+    }
+    if frame == MODEST_FRAME {
+        return within(
+            nodes,
+            types,
+            bindings,
+            MODEST_NODES,
+            MODEST_TYPES,
+            MODEST_BINDINGS,
         );
     }
     if frame == PLAIN_FRAME {

@@ -308,6 +308,15 @@ smallTypes = 64
 abbrev pub smallBindings : ℕ
 smallBindings = 96
 
+abbrev pub modestNodes : ℕ
+modestNodes = 1024
+
+abbrev pub modestTypes : ℕ
+modestTypes = 32
+
+abbrev pub modestBindings : ℕ
+modestBindings = 224
+
 abbrev pub plainNodes : ℕ
 plainNodes = 2048
 
@@ -364,14 +373,17 @@ tinyFrame = 0
 abbrev pub smallFrame : ℕ
 smallFrame = 1
 
+abbrev pub modestFrame : ℕ
+modestFrame = 2
+
 abbrev pub plainFrame : ℕ
-plainFrame = 2
+plainFrame = 3
 
 abbrev pub broadFrame : ℕ
-broadFrame = 3
+broadFrame = 4
 
 abbrev pub middleFrame : ℕ
-middleFrame = 4
+middleFrame = 5
 
 abbrev pub wideFrame : ℕ
-wideFrame = 5
+wideFrame = 6

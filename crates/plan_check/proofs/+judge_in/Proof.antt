@@ -14,6 +14,7 @@ use Rattle.index.proofs.entries.place_at.Reads as place-at-reads
 use Rattle.plan_check.proofs.frames.all_bindings.Reads as all-bindings-reads
 use Rattle.plan_check.proofs.frames.broad_bindings.Reads as broad-bindings-reads
 use Rattle.plan_check.proofs.frames.middle_bindings.Reads as middle-bindings-reads
+use Rattle.plan_check.proofs.frames.modest_bindings.Reads as modest-bindings-reads
 use Rattle.plan_check.proofs.frames.plain_bindings.Reads as plain-bindings-reads
 use Rattle.plan_check.proofs.frames.small_bindings.Reads as small-bindings-reads
 use Rattle.plan_check.proofs.frames.tiny_bindings.Reads as tiny-bindings-reads
@@ -24,7 +25,7 @@ use Rattle.plan_check.proofs.+judge_in.{statement}
 use Rattle.plan_check.proofs.+judge_in.Tie.{close}
 
 abbrev μ-judge-in : Measures 6 judge-in-kinds.ps ℕ
-μ-judge-in κs a = 6 - a .1 .1 .1 .1 .1 .1 .1 .0
+μ-judge-in κs a = 7 - a .1 .1 .1 .1 .1 .1 .1 .0
 
 abbrev judge-in-at : ℕ → In 6 judge-in-kinds.ps
 judge-in-at t = and 6 judge-in-kinds.ps (is 6 judge-in-kinds.ps μ-judge-in t) judge-in.Pre
@@ -35,7 +36,7 @@ judge-in-below t =
 
 abbrev judge-in-claims : ℕ → judge-in-lts.Claims
 judge-in-claims t =
-    (place-at-reads.Asked, place-at-reads.Learnt, has-room-reads.Asked, has-room-reads.Learnt, judge-in-below t, judge-in.Post, tiny-bindings-reads.Asked, tiny-bindings-reads.Learnt, of-bindings-reads.Asked, of-bindings-reads.Learnt, small-bindings-reads.Asked, small-bindings-reads.Learnt, plain-bindings-reads.Asked, plain-bindings-reads.Learnt, broad-bindings-reads.Asked, broad-bindings-reads.Learnt, middle-bindings-reads.Asked, middle-bindings-reads.Learnt, wide-bindings-reads.Asked, wide-bindings-reads.Learnt, all-bindings-reads.Asked, all-bindings-reads.Learnt)
+    (place-at-reads.Asked, place-at-reads.Learnt, has-room-reads.Asked, has-room-reads.Learnt, judge-in-below t, judge-in.Post, tiny-bindings-reads.Asked, tiny-bindings-reads.Learnt, of-bindings-reads.Asked, of-bindings-reads.Learnt, small-bindings-reads.Asked, small-bindings-reads.Learnt, modest-bindings-reads.Asked, modest-bindings-reads.Learnt, plain-bindings-reads.Asked, plain-bindings-reads.Learnt, broad-bindings-reads.Asked, broad-bindings-reads.Learnt, middle-bindings-reads.Asked, middle-bindings-reads.Learnt, wide-bindings-reads.Asked, wide-bindings-reads.Learnt, all-bindings-reads.Asked, all-bindings-reads.Learnt)
 
 judge-in-place-at-requires : (t : ℕ) → judge-in-lts.Need-place-at-requires (judge-in-claims t) (judge-in-at t) judge-in.Post
 judge-in-place-at-requires t c κs = search needs
@@ -82,8 +83,8 @@ judge-in-same-length-3 t c = search needs
 judge-in-returns-3 : (t : ℕ) → judge-in-lts.Need-returns-3 (judge-in-claims t) (judge-in-at t) judge-in.Post
 judge-in-returns-3 t c = λ has. case-judged has (c .before .before .before .before .before .before .before .before .before .before .has-room .ensures .small (not-false _ (c .before .before .before .before .before .before .before .before .before .if1 .left)) (c .before .before .before .before .before .before .before .if3 .taken)) (c .before .before .before .before .before .before .before .before .before .before .before .before .before .place-at .ensures .value) (c .before .before .before .before .before .before .before .before .before .before .before .place-at2 .ensures .value) (c .before .before .before .small-bindings .ensures) (c .of-bindings2 .ensures)
 
-judge-in-plain-bindings-requires : (t : ℕ) → judge-in-lts.Need-plain-bindings-requires (judge-in-claims t) (judge-in-at t) judge-in.Post
-judge-in-plain-bindings-requires t c κs = search needs
+judge-in-modest-bindings-requires : (t : ℕ) → judge-in-lts.Need-modest-bindings-requires (judge-in-claims t) (judge-in-at t) judge-in.Post
+judge-in-modest-bindings-requires t c κs = search needs
 
 judge-in-of-bindings-requires-3 : (t : ℕ) → judge-in-lts.Need-of-bindings-requires-3 (judge-in-claims t) (judge-in-at t) judge-in.Post
 judge-in-of-bindings-requires-3 t c κs = search needs
@@ -92,10 +93,10 @@ judge-in-same-length-4 : (t : ℕ) → judge-in-lts.Need-same-length-4 (judge-in
 judge-in-same-length-4 t c = search needs
 
 judge-in-returns-4 : (t : ℕ) → judge-in-lts.Need-returns-4 (judge-in-claims t) (judge-in-at t) judge-in.Post
-judge-in-returns-4 t c = λ has. case-judged has (c .before .before .before .before .before .before .before .before .before .before .before .has-room .ensures .plain (not-false _ (c .before .before .before .before .before .before .before .before .before .before .if1 .left)) (c .before .before .before .before .before .before .before .if4 .taken)) (c .before .before .before .before .before .before .before .before .before .before .before .before .before .before .place-at .ensures .value) (c .before .before .before .before .before .before .before .before .before .before .before .before .place-at2 .ensures .value) (c .before .before .before .plain-bindings .ensures) (c .of-bindings3 .ensures)
+judge-in-returns-4 t c = λ has. case-judged has (c .before .before .before .before .before .before .before .before .before .before .before .has-room .ensures .modest (not-false _ (c .before .before .before .before .before .before .before .before .before .before .if1 .left)) (c .before .before .before .before .before .before .before .if4 .taken)) (c .before .before .before .before .before .before .before .before .before .before .before .before .before .before .place-at .ensures .value) (c .before .before .before .before .before .before .before .before .before .before .before .before .place-at2 .ensures .value) (c .before .before .before .modest-bindings .ensures) (c .of-bindings3 .ensures)
 
-judge-in-broad-bindings-requires : (t : ℕ) → judge-in-lts.Need-broad-bindings-requires (judge-in-claims t) (judge-in-at t) judge-in.Post
-judge-in-broad-bindings-requires t c κs = search needs
+judge-in-plain-bindings-requires : (t : ℕ) → judge-in-lts.Need-plain-bindings-requires (judge-in-claims t) (judge-in-at t) judge-in.Post
+judge-in-plain-bindings-requires t c κs = search needs
 
 judge-in-of-bindings-requires-4 : (t : ℕ) → judge-in-lts.Need-of-bindings-requires-4 (judge-in-claims t) (judge-in-at t) judge-in.Post
 judge-in-of-bindings-requires-4 t c κs = search needs
@@ -104,10 +105,10 @@ judge-in-same-length-5 : (t : ℕ) → judge-in-lts.Need-same-length-5 (judge-in
 judge-in-same-length-5 t c = search needs
 
 judge-in-returns-5 : (t : ℕ) → judge-in-lts.Need-returns-5 (judge-in-claims t) (judge-in-at t) judge-in.Post
-judge-in-returns-5 t c = λ has. case-judged has (c .before .before .before .before .before .before .before .before .before .before .before .before .has-room .ensures .broad (not-false _ (c .before .before .before .before .before .before .before .before .before .before .before .if1 .left)) (c .before .before .before .before .before .before .before .if5 .taken)) (c .before .before .before .before .before .before .before .before .before .before .before .before .before .before .before .place-at .ensures .value) (c .before .before .before .before .before .before .before .before .before .before .before .before .before .place-at2 .ensures .value) (c .before .before .before .broad-bindings .ensures) (c .of-bindings4 .ensures)
+judge-in-returns-5 t c = λ has. case-judged has (c .before .before .before .before .before .before .before .before .before .before .before .before .has-room .ensures .plain (not-false _ (c .before .before .before .before .before .before .before .before .before .before .before .if1 .left)) (c .before .before .before .before .before .before .before .if5 .taken)) (c .before .before .before .before .before .before .before .before .before .before .before .before .before .before .before .place-at .ensures .value) (c .before .before .before .before .before .before .before .before .before .before .before .before .before .place-at2 .ensures .value) (c .before .before .before .plain-bindings .ensures) (c .of-bindings4 .ensures)
 
-judge-in-middle-bindings-requires : (t : ℕ) → judge-in-lts.Need-middle-bindings-requires (judge-in-claims t) (judge-in-at t) judge-in.Post
-judge-in-middle-bindings-requires t c κs = search needs
+judge-in-broad-bindings-requires : (t : ℕ) → judge-in-lts.Need-broad-bindings-requires (judge-in-claims t) (judge-in-at t) judge-in.Post
+judge-in-broad-bindings-requires t c κs = search needs
 
 judge-in-of-bindings-requires-5 : (t : ℕ) → judge-in-lts.Need-of-bindings-requires-5 (judge-in-claims t) (judge-in-at t) judge-in.Post
 judge-in-of-bindings-requires-5 t c κs = search needs
@@ -116,10 +117,10 @@ judge-in-same-length-6 : (t : ℕ) → judge-in-lts.Need-same-length-6 (judge-in
 judge-in-same-length-6 t c = search needs
 
 judge-in-returns-6 : (t : ℕ) → judge-in-lts.Need-returns-6 (judge-in-claims t) (judge-in-at t) judge-in.Post
-judge-in-returns-6 t c = λ has. case-judged has (c .before .before .before .before .before .before .before .before .before .before .before .before .before .has-room .ensures .middle (not-false _ (c .before .before .before .before .before .before .before .before .before .before .before .before .if1 .left)) (c .before .before .before .before .before .before .before .if6 .taken)) (c .before .before .before .before .before .before .before .before .before .before .before .before .before .before .before .before .place-at .ensures .value) (c .before .before .before .before .before .before .before .before .before .before .before .before .before .before .place-at2 .ensures .value) (c .before .before .before .middle-bindings .ensures) (c .of-bindings5 .ensures)
+judge-in-returns-6 t c = λ has. case-judged has (c .before .before .before .before .before .before .before .before .before .before .before .before .before .has-room .ensures .broad (not-false _ (c .before .before .before .before .before .before .before .before .before .before .before .before .if1 .left)) (c .before .before .before .before .before .before .before .if6 .taken)) (c .before .before .before .before .before .before .before .before .before .before .before .before .before .before .before .before .place-at .ensures .value) (c .before .before .before .before .before .before .before .before .before .before .before .before .before .before .place-at2 .ensures .value) (c .before .before .before .broad-bindings .ensures) (c .of-bindings5 .ensures)
 
-judge-in-wide-bindings-requires : (t : ℕ) → judge-in-lts.Need-wide-bindings-requires (judge-in-claims t) (judge-in-at t) judge-in.Post
-judge-in-wide-bindings-requires t c κs = search needs
+judge-in-middle-bindings-requires : (t : ℕ) → judge-in-lts.Need-middle-bindings-requires (judge-in-claims t) (judge-in-at t) judge-in.Post
+judge-in-middle-bindings-requires t c κs = search needs
 
 judge-in-of-bindings-requires-6 : (t : ℕ) → judge-in-lts.Need-of-bindings-requires-6 (judge-in-claims t) (judge-in-at t) judge-in.Post
 judge-in-of-bindings-requires-6 t c κs = search needs
@@ -128,10 +129,10 @@ judge-in-same-length-7 : (t : ℕ) → judge-in-lts.Need-same-length-7 (judge-in
 judge-in-same-length-7 t c = search needs
 
 judge-in-returns-7 : (t : ℕ) → judge-in-lts.Need-returns-7 (judge-in-claims t) (judge-in-at t) judge-in.Post
-judge-in-returns-7 t c = λ has. case-judged has (c .before .before .before .before .before .before .before .before .before .before .before .before .before .before .has-room .ensures .wide (not-false _ (c .before .before .before .before .before .before .before .before .before .before .before .before .before .if1 .left)) (c .before .before .before .before .before .before .before .if7 .taken)) (c .before .before .before .before .before .before .before .before .before .before .before .before .before .before .before .before .before .place-at .ensures .value) (c .before .before .before .before .before .before .before .before .before .before .before .before .before .before .before .place-at2 .ensures .value) (c .before .before .before .wide-bindings .ensures) (c .of-bindings6 .ensures)
+judge-in-returns-7 t c = λ has. case-judged has (c .before .before .before .before .before .before .before .before .before .before .before .before .before .before .has-room .ensures .middle (not-false _ (c .before .before .before .before .before .before .before .before .before .before .before .before .before .if1 .left)) (c .before .before .before .before .before .before .before .if7 .taken)) (c .before .before .before .before .before .before .before .before .before .before .before .before .before .before .before .before .before .place-at .ensures .value) (c .before .before .before .before .before .before .before .before .before .before .before .before .before .before .before .place-at2 .ensures .value) (c .before .before .before .middle-bindings .ensures) (c .of-bindings6 .ensures)
 
-judge-in-all-bindings-requires : (t : ℕ) → judge-in-lts.Need-all-bindings-requires (judge-in-claims t) (judge-in-at t) judge-in.Post
-judge-in-all-bindings-requires t c κs = search needs
+judge-in-wide-bindings-requires : (t : ℕ) → judge-in-lts.Need-wide-bindings-requires (judge-in-claims t) (judge-in-at t) judge-in.Post
+judge-in-wide-bindings-requires t c κs = search needs
 
 judge-in-of-bindings-requires-7 : (t : ℕ) → judge-in-lts.Need-of-bindings-requires-7 (judge-in-claims t) (judge-in-at t) judge-in.Post
 judge-in-of-bindings-requires-7 t c κs = search needs
@@ -140,7 +141,19 @@ judge-in-same-length-8 : (t : ℕ) → judge-in-lts.Need-same-length-8 (judge-in
 judge-in-same-length-8 t c = search needs
 
 judge-in-returns-8 : (t : ℕ) → judge-in-lts.Need-returns-8 (judge-in-claims t) (judge-in-at t) judge-in.Post
-judge-in-returns-8 t c = λ has. all-judged (c .before .before .before .all-bindings .ensures) (c .of-bindings7 .ensures)
+judge-in-returns-8 t c = λ has. case-judged has (c .before .before .before .before .before .before .before .before .before .before .before .before .before .before .before .has-room .ensures .wide (not-false _ (c .before .before .before .before .before .before .before .before .before .before .before .before .before .before .if1 .left)) (c .before .before .before .before .before .before .before .if8 .taken)) (c .before .before .before .before .before .before .before .before .before .before .before .before .before .before .before .before .before .before .place-at .ensures .value) (c .before .before .before .before .before .before .before .before .before .before .before .before .before .before .before .before .place-at2 .ensures .value) (c .before .before .before .wide-bindings .ensures) (c .of-bindings7 .ensures)
+
+judge-in-all-bindings-requires : (t : ℕ) → judge-in-lts.Need-all-bindings-requires (judge-in-claims t) (judge-in-at t) judge-in.Post
+judge-in-all-bindings-requires t c κs = search needs
+
+judge-in-of-bindings-requires-8 : (t : ℕ) → judge-in-lts.Need-of-bindings-requires-8 (judge-in-claims t) (judge-in-at t) judge-in.Post
+judge-in-of-bindings-requires-8 t c κs = search needs
+
+judge-in-same-length-9 : (t : ℕ) → judge-in-lts.Need-same-length-9 (judge-in-claims t) (judge-in-at t) judge-in.Post
+judge-in-same-length-9 t c = search needs
+
+judge-in-returns-9 : (t : ℕ) → judge-in-lts.Need-returns-9 (judge-in-claims t) (judge-in-at t) judge-in.Post
+judge-in-returns-9 t c = λ has. all-judged (c .before .before .before .all-bindings .ensures) (c .of-bindings8 .ensures)
 
 pub +judge-in-spec : {M : Type 1} → statement M
 +judge-in-spec = close μ-judge-in λ t. judge-in-lts.spec (judge-in-claims t)
@@ -161,23 +174,27 @@ pub +judge-in-spec : {M : Type 1} → statement M
     (judge-in-of-bindings-requires-2 t)
     (judge-in-same-length-3 t)
     (judge-in-returns-3 t)
-    (judge-in-plain-bindings-requires t)
+    (judge-in-modest-bindings-requires t)
     (judge-in-of-bindings-requires-3 t)
     (judge-in-same-length-4 t)
     (judge-in-returns-4 t)
-    (judge-in-broad-bindings-requires t)
+    (judge-in-plain-bindings-requires t)
     (judge-in-of-bindings-requires-4 t)
     (judge-in-same-length-5 t)
     (judge-in-returns-5 t)
-    (judge-in-middle-bindings-requires t)
+    (judge-in-broad-bindings-requires t)
     (judge-in-of-bindings-requires-5 t)
     (judge-in-same-length-6 t)
     (judge-in-returns-6 t)
-    (judge-in-wide-bindings-requires t)
+    (judge-in-middle-bindings-requires t)
     (judge-in-of-bindings-requires-6 t)
     (judge-in-same-length-7 t)
     (judge-in-returns-7 t)
-    (judge-in-all-bindings-requires t)
+    (judge-in-wide-bindings-requires t)
     (judge-in-of-bindings-requires-7 t)
     (judge-in-same-length-8 t)
     (judge-in-returns-8 t)
+    (judge-in-all-bindings-requires t)
+    (judge-in-of-bindings-requires-8 t)
+    (judge-in-same-length-9 t)
+    (judge-in-returns-9 t)
