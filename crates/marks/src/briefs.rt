@@ -1,16 +1,7 @@
 // Sets with a brief: one word that has bit k where word k of the set may have a number. Such a set has as many words as a word has bits.
-use crate::put_in;
 use crate::word_in;
 use index::layout::WORD;
-ghost use Rattle.marks.specs.briefs.Briefs.{MarksIn, FindsMarked};
-
-// Marks number n in the set at a place, and its word in the brief.
-pub fn mark_in(words: &mut [u32], at: usize, brief: usize, n: usize)
-    ensures { λ _. ⌜ MarksIn (now (words .entry)) at brief n (now (words .exit)) ⌝ }
-{
-    put_in(words, at, n);
-    put_in(words, brief, n / WORD);
-}
+ghost use Rattle.marks.specs.briefs.Briefs.{FindsMarked};
 
 // The least number that is marked, from one on and below an end; the end where there is none.
 pub fn next_marked(words: &[u32], at: usize, brief: usize, from: usize, end: usize) -> usize

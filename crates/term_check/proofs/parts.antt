@@ -1,1 +1,2 @@
 pub mod Parting
+pub mod Noting

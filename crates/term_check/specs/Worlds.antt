@@ -53,6 +53,13 @@ answersOf r w = drop (splitAt r w) w
 unfoldable pub usersOf : List ℕ → List ℕ → List ℕ
 usersOf r w = drop (fromIn r w) (take (splitAt r w) w)
 
+-- bit k is in the word at a place, where that is below an end; no bit is lost, and from the end on nothing changed
+pub record PutsBelow (words : List ℕ) (end i k : ℕ) (after : List ℕ) : Type 0 where
+  pub long : length after ≡ length words
+  pub behind : drop end after ≡ drop end words
+  pub grows : (j b : ℕ) → b < wordBits → bitOf b (getD words j 0) ≡ 1 → bitOf b (getD after j 0) ≡ 1
+  pub put : i < end → bitOf (k % wordBits) (getD after i 0) ≡ 1
+
 -- what it is about: the records of a file, the flags of the kept bindings, the type of the binding under test, and the nodes of its body
 pub record World : Type 0 where
   pub rs : List Record

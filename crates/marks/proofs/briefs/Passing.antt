@@ -2,31 +2,14 @@
 use Prim.Native.Nat.{ℕ, _+_, _-_, _*_, _/_, _%_, _^_, _<_, _≤_}
 use native.Mathlib.Omega.{arith}
 use native.Mathlib.Decide.{decLt}
-use mathlib.Core.Path.{_≡_, sym, ap, subst, _∙_}
+use mathlib.Core.Path.{_≡_, sym, ap, _∙_}
 use mathlib.Core.List.{List}
 use lib.Count.{trailingZeros}
 use lib.ListN.{getD}
-use Rattle.marks.specs.Marks.{bitOf, In, Puts}
-use Rattle.marks.specs.briefs.Briefs.{Marked, MarksIn, FindsMarked}
+use Rattle.marks.specs.Marks.{bitOf, In}
+use Rattle.marks.specs.briefs.Briefs.{Marked, FindsMarked}
 use Rattle.marks.proofs.Bits.{zero-bit, shift-bit, zeros-below}
 use Rattle.marks.proofs.Sets.{Passed}
-
--- a number put into the set, and its word into the brief
-pub marks-both : (words mid after : List ℕ) (at brief n : ℕ) → Puts words at n mid → Puts mid brief (n / 32) after → MarksIn words at brief n after
-marks-both words mid after at brief n p q =
-    record {
-      long = q .long ∙ p .long;
-      grows = λ i k h b. q .grows i k h (p .grows i k h b);
-      marked = λ few room there.
-          let same : n / 32 % 32 ≡ n / 32 = omega arith in
-          let at-brief : brief + n / 32 / 32 ≡ brief = omega arith in
-          let here = p .put room in
-          let in-brief = q .put (let l = p .long in omega arith) in (
-            few,
-            q .grows (at + n / 32) (n % 32) (omega arith) here,
-            subst (λ i. bitOf (n / 32) (getD after i 0) ≡ 1) at-brief (subst (λ k. bitOf k (getD after (brief + n / 32 / 32) 0) ≡ 1) same in-brief),
-          );
-    }
 
 -- what is in a set, and what is marked, stays so where no bit is lost
 module _ (words after : List ℕ) (more : (i k : ℕ) → k < 32 → bitOf k (getD words i 0) ≡ 1 → bitOf k (getD after i 0) ≡ 1) where

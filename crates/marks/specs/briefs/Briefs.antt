@@ -1,21 +1,15 @@
 -- What our own crates promise each other; nothing here has to be believed.
 -- Sets with a brief: a word that has bit k where word k of the set may have a number.
-use Prim.Native.Nat.{ℕ, _+_, _*_, _/_, _<_, _≤_}
+use Prim.Native.Nat.{ℕ, _*_, _/_, _<_, _≤_}
 use mathlib.Core.Path.{_≡_}
 use mathlib.Core.List.{List}
-use lib.ListN.{length, getD}
+use lib.ListN.{getD}
 use Rattle.index.specs.layout.Layout.{wordBits}
 use Rattle.marks.specs.Marks.{bitOf, In}
 
 -- number n is marked: it may be, it is in the set at a place, and its word is in the brief
 abbrev pub Marked : List ℕ → ℕ → ℕ → ℕ → Type 0
 Marked words at brief n = (n < wordBits * wordBits) × In words at n × (bitOf (n / wordBits) (getD words brief 0) ≡ 1)
-
--- number n is marked, and no bit is lost
-pub record MarksIn (words : List ℕ) (at brief n : ℕ) (after : List ℕ) : Type 0 where
-  pub long : length after ≡ length words
-  pub grows : (i k : ℕ) → k < wordBits → bitOf k (getD words i 0) ≡ 1 → bitOf k (getD after i 0) ≡ 1
-  pub marked : n < wordBits * wordBits → at + n / wordBits < length words → brief < length words → Marked after at brief n
 
 -- no number that is marked is passed on the way from one on to r, which is the end or below it
 pub record FindsMarked (words : List ℕ) (at brief from end r : ℕ) : Type 0 where

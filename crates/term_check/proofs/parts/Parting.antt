@@ -8,7 +8,7 @@ use lib.Seq.{length-take-le, take-all, take-at, drop-at, take-add, drop-drop, dr
 use Rattle.index.specs.layout.Layout.{testUsers, testAnswers}
 use Rattle.answers.specs.Answers.{Looks, Learns}
 use Rattle.answers.specs.declared.Outlook.{Outlook}
-use Rattle.term_check.specs.notes.Notes.{stampIn, wideIn, Notes}
+use Rattle.term_check.specs.notes.Notes.{stampIn, wideIn}
 use Rattle.term_check.specs.Worlds.{splitAt, fromIn, answersOf, usersOf}
 
 -- where the parts begin
@@ -95,9 +95,6 @@ module _ (w m : List ℕ) (a b : ℕ) (h : a ≤ b) (k : b ≤ length w) (e : le
   pub after-long : length after ≡ length w
   after-long = ap length joined ∙ length-append (take a w ++ m) (drop (b - a) (drop a w)) ∙ omega (arith, head-size, ap length rest, length-drop b w)
 
-  pub after-behind : drop b after ≡ drop b w
-  after-behind = ap (drop b) joined ∙ drop-at (take a w ++ m) (drop (b - a) (drop a w)) b head-size ∙ rest
-
   pub after-middle : drop a (take b after) ≡ m
   after-middle = ap (λ l. drop a (take b l)) joined ∙ ap (drop a) (take-at (take a w ++ m) (drop (b - a) (drop a w)) b head-size) ∙ drop-at (take a w) m a front
 
@@ -145,25 +142,6 @@ module _ (r w : List ℕ) (split wide stamp : ℕ) (es : split ≡ splitAt r w) 
 module _ (r w : List ℕ) (from split : ℕ) (es : split ≡ splitAt r w) (hs : split ≤ length w) (ef : from ≡ fromIn r w) where
   pub from-below : from ≤ split
   from-below = omega (arith, from-split r w)
-
-  module _ (m : List ℕ) (c : ℕ) (n : Notes (take (split - from) (drop from w)) r c m) where
-    abbrev put-back : List ℕ
-    put-back = take from w ++ (m ++ drop (split - from) (drop from w))
-
-    pub note-long : length put-back ≡ length w
-    note-long = after-long w m from split from-below hs (n .long)
-
-    noted-in : usersOf r put-back ≡ m
-    unfolding usersOf
-    noted-in = ap (λ s. drop (fromIn r put-back) (take s put-back)) (split-same r w put-back note-long ∙ sym es) ∙ ap (λ f. drop f (take split put-back)) (from-same r w put-back note-long ∙ sym ef) ∙ after-middle w m from split from-below hs (n .long)
-
-    lent-users : take (split - from) (drop from w) ≡ usersOf r w
-    unfolding usersOf
-    lent-users = before-middle w m from split from-below hs (n .long) ∙ ap (λ f. drop f (take split w)) ef ∙ ap (λ s. drop (fromIn r w) (take s w)) es
-
-    pub note-part : (length put-back ≡ length w) × (answersOf r put-back ≡ answersOf r w) × Notes (usersOf r w) r c (usersOf r put-back)
-    note-part =
-        (note-long, answers-same r w put-back note-long (subst (λ s. drop s put-back ≡ drop s w) es (after-behind w m from split from-below hs (n .long))), subst (Notes (usersOf r w) r c) (sym noted-in) (subst (λ l. Notes l r c m) lent-users n))
 
 -- a cell in front of the users, written
 module _ (r w : List ℕ) (i v : ℕ) (h : i < fromIn r w) where
