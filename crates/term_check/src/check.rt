@@ -303,8 +303,8 @@ fn check_states(t: &[u16], r: &[u32], w: &mut [u32], at: usize, asked: u32, node
     true
 }
 
-// What is found at once of the states of a set: some that the term at a node has, and some that it lacks. Of a nonterminal's term nothing
-// is found where there are no hints.
+// What is found at once of the states of a set: some that the term at a node has, and some that it lacks. Of a constructor without
+// arguments all are found; of one with arguments nothing, nor of a nonterminal's term where there are no hints.
 fn find_states(t: &[u16], r: &[u32], w: &mut [u32], at: usize, asked: u32, node: Node) -> Outlook
     ensures { λ m. ⌜ (length (now (w .exit)) ≡ length (now (w .entry))) × (node ≡ nodeAt (now (t .entry)) (baseIn (now (r .entry))) at → Settles (caseOf (now (t .entry)) (now (r .entry))) (answersOf (now (r .entry)) (now (w .entry))) (usersOf (now (r .entry)) (now (w .entry))) at asked (answersOf (now (r .entry)) (now (w .exit))) (usersOf (now (r .entry)) (now (w .exit))) m) ⌝ }
 {
