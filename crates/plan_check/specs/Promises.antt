@@ -2,9 +2,9 @@
 use Prim.Native.Nat.{ℕ, _≤_}
 use mathlib.Core.Path.{_≡_}
 use mathlib.Core.Bool.{Bool, true, false}
-use mathlib.Core.List.{List}
+use mathlib.Core.List.{List, [], _∷_}
 use mathlib.Core.Option.{none}
-use lib.ListN.{length}
+use lib.ListN.{length, getD}
 use Rattle.scheme.specs.Lists.{if_then_else_}
 use Rattle.casefile.specs.Records.{recordsOf, listed}
 use Rattle.casefile.specs.Kinds.{Kind, payloads, count}
@@ -12,7 +12,7 @@ use Rattle.casefile.specs.Tables.{planOf, automatonOf, bindingsOf}
 use Rattle.casefile.specs.Refusals.{refuseWhole}
 use Rattle.casefile.specs.Promises.{Passed}
 use Rattle.casefile.specs.BindingCases.{shrunk}
-use Rattle.index.specs.layout.Layout.{maxFile, tinyFrame, tinyNodes, tinyTypes, tinyBindings, smallFrame, smallNodes, smallTypes, smallBindings, modestFrame, modestNodes, modestTypes, modestBindings, plainFrame, plainNodes, plainTypes, plainBindings, broadFrame, broadNodes, broadTypes, broadBindings, middleFrame, middleNodes, middleTypes, middleBindings, wideFrame, wideNodes, wideTypes, wideBindings}
+use Rattle.index.specs.layout.Layout.{maxFile, tinyNodes, tinyTypes, tinyBindings, smallNodes, smallTypes, smallBindings, modestNodes, modestTypes, modestBindings, plainNodes, plainTypes, plainBindings, broadNodes, broadTypes, broadBindings, middleNodes, middleTypes, middleBindings, wideFrame, wideNodes, wideTypes, wideBindings}
 use Rattle.index.specs.entries.Known.{Known}
 use Rattle.rules.specs.reading.RuleBodies.{nodesIn}
 use Rattle.intake.specs.plan.PlanTests.{EndsAre}
@@ -47,15 +47,19 @@ pub record JudgesWithin (nodes types bindings : ℕ) (file index counts ends len
 pub record HasNodes (file index counts : List ℕ) (nodes : ℕ) : Type 0 where
   pub few : (lens : List ℕ) → Known file index lens counts (listed (recordsOf file)) → Passed (listed (recordsOf file)) → nodesIn (payloads Kind.rule (listed (recordsOf file))) ≤ nodes
 
+-- how many nodes, types and bindings each frame but the last has room for
+abbrev pub roomNodes : List ℕ
+roomNodes = tinyNodes ∷ smallNodes ∷ modestNodes ∷ plainNodes ∷ broadNodes ∷ middleNodes ∷ wideNodes ∷ []
+
+abbrev pub roomTypes : List ℕ
+roomTypes = tinyTypes ∷ smallTypes ∷ modestTypes ∷ plainTypes ∷ broadTypes ∷ middleTypes ∷ wideTypes ∷ []
+
+abbrev pub roomBindings : List ℕ
+roomBindings = tinyBindings ∷ smallBindings ∷ modestBindings ∷ plainBindings ∷ broadBindings ∷ middleBindings ∷ wideBindings ∷ []
+
 -- r says whether a frame has room for so many nodes, types and bindings; the last one has room for every file
 pub record HasRoom (frame nodes types bindings : ℕ) (r : Bool) : Type 0 where
-  pub tiny : r ≡ true → frame ≡ tinyFrame → (nodes ≤ tinyNodes) × (types ≤ tinyTypes) × (bindings ≤ tinyBindings)
-  pub small : r ≡ true → frame ≡ smallFrame → (nodes ≤ smallNodes) × (types ≤ smallTypes) × (bindings ≤ smallBindings)
-  pub modest : r ≡ true → frame ≡ modestFrame → (nodes ≤ modestNodes) × (types ≤ modestTypes) × (bindings ≤ modestBindings)
-  pub plain : r ≡ true → frame ≡ plainFrame → (nodes ≤ plainNodes) × (types ≤ plainTypes) × (bindings ≤ plainBindings)
-  pub broad : r ≡ true → frame ≡ broadFrame → (nodes ≤ broadNodes) × (types ≤ broadTypes) × (bindings ≤ broadBindings)
-  pub middle : r ≡ true → frame ≡ middleFrame → (nodes ≤ middleNodes) × (types ≤ middleTypes) × (bindings ≤ middleBindings)
-  pub wide : r ≡ true → frame ≡ wideFrame → (nodes ≤ wideNodes) × (types ≤ wideTypes) × (bindings ≤ wideBindings)
+  pub room : r ≡ true → (f : ℕ) → frame ≡ f → f ≤ wideFrame → (nodes ≤ getD roomNodes f 0) × (types ≤ getD roomTypes f 0) × (bindings ≤ getD roomBindings f 0)
   pub last : r ≡ false → frame ≤ wideFrame
 
 -- v is the verdict on the bindings of a file, by its tables, and the lent flags became `marks`

@@ -3,6 +3,7 @@ use Prim.Native.Nat.{_-_}
 use native.Mathlib.Omega.{arith}
 use borrow.Author.Needs.{needs}
 use borrow.Author.Tests.{not-true, not-false}
+use Rattle.index.specs.layout.Layout.{tinyFrame, smallFrame, modestFrame, plainFrame, broadFrame, middleFrame, wideFrame}
 use Rattle.plan_check.proofs.Lending.{case-judged, all-judged}
 use Prim.Native.Nat.{ℕ, _<_}
 use borrow.Fn.Kinds.{In}
@@ -69,7 +70,7 @@ judge-in-same-length-2 : (t : ℕ) → judge-in-lts.Need-same-length-2 (judge-in
 judge-in-same-length-2 t c = search needs
 
 judge-in-returns-2 : (t : ℕ) → judge-in-lts.Need-returns-2 (judge-in-claims t) (judge-in-at t) judge-in.Post
-judge-in-returns-2 t c = λ has. case-judged has (c .before .before .before .before .before .before .before .before .before .has-room .ensures .tiny (not-false _ (c .before .before .before .before .before .before .before .before .if1 .left)) (c .before .before .before .before .before .before .before .if2 .taken)) (c .before .before .before .before .before .before .before .before .before .before .before .before .place-at .ensures .value) (c .before .before .before .before .before .before .before .before .before .before .place-at2 .ensures .value) (c .before .before .before .tiny-bindings .ensures) (c .of-bindings .ensures)
+judge-in-returns-2 t c = λ has. case-judged has (c .before .before .before .before .before .before .before .before .before .has-room .ensures .room (not-false _ (c .before .before .before .before .before .before .before .before .if1 .left)) tinyFrame (c .before .before .before .before .before .before .before .if2 .taken) (omega arith)) (c .before .before .before .before .before .before .before .before .before .before .before .before .place-at .ensures .value) (c .before .before .before .before .before .before .before .before .before .before .place-at2 .ensures .value) (c .before .before .before .tiny-bindings .ensures) (c .of-bindings .ensures)
 
 judge-in-small-bindings-requires : (t : ℕ) → judge-in-lts.Need-small-bindings-requires (judge-in-claims t) (judge-in-at t) judge-in.Post
 judge-in-small-bindings-requires t c κs = search needs
@@ -81,7 +82,7 @@ judge-in-same-length-3 : (t : ℕ) → judge-in-lts.Need-same-length-3 (judge-in
 judge-in-same-length-3 t c = search needs
 
 judge-in-returns-3 : (t : ℕ) → judge-in-lts.Need-returns-3 (judge-in-claims t) (judge-in-at t) judge-in.Post
-judge-in-returns-3 t c = λ has. case-judged has (c .before .before .before .before .before .before .before .before .before .before .has-room .ensures .small (not-false _ (c .before .before .before .before .before .before .before .before .before .if1 .left)) (c .before .before .before .before .before .before .before .if3 .taken)) (c .before .before .before .before .before .before .before .before .before .before .before .before .before .place-at .ensures .value) (c .before .before .before .before .before .before .before .before .before .before .before .place-at2 .ensures .value) (c .before .before .before .small-bindings .ensures) (c .of-bindings2 .ensures)
+judge-in-returns-3 t c = λ has. case-judged has (c .before .before .before .before .before .before .before .before .before .before .has-room .ensures .room (not-false _ (c .before .before .before .before .before .before .before .before .before .if1 .left)) smallFrame (c .before .before .before .before .before .before .before .if3 .taken) (omega arith)) (c .before .before .before .before .before .before .before .before .before .before .before .before .before .place-at .ensures .value) (c .before .before .before .before .before .before .before .before .before .before .before .place-at2 .ensures .value) (c .before .before .before .small-bindings .ensures) (c .of-bindings2 .ensures)
 
 judge-in-modest-bindings-requires : (t : ℕ) → judge-in-lts.Need-modest-bindings-requires (judge-in-claims t) (judge-in-at t) judge-in.Post
 judge-in-modest-bindings-requires t c κs = search needs
@@ -93,7 +94,7 @@ judge-in-same-length-4 : (t : ℕ) → judge-in-lts.Need-same-length-4 (judge-in
 judge-in-same-length-4 t c = search needs
 
 judge-in-returns-4 : (t : ℕ) → judge-in-lts.Need-returns-4 (judge-in-claims t) (judge-in-at t) judge-in.Post
-judge-in-returns-4 t c = λ has. case-judged has (c .before .before .before .before .before .before .before .before .before .before .before .has-room .ensures .modest (not-false _ (c .before .before .before .before .before .before .before .before .before .before .if1 .left)) (c .before .before .before .before .before .before .before .if4 .taken)) (c .before .before .before .before .before .before .before .before .before .before .before .before .before .before .place-at .ensures .value) (c .before .before .before .before .before .before .before .before .before .before .before .before .place-at2 .ensures .value) (c .before .before .before .modest-bindings .ensures) (c .of-bindings3 .ensures)
+judge-in-returns-4 t c = λ has. case-judged has (c .before .before .before .before .before .before .before .before .before .before .before .has-room .ensures .room (not-false _ (c .before .before .before .before .before .before .before .before .before .before .if1 .left)) modestFrame (c .before .before .before .before .before .before .before .if4 .taken) (omega arith)) (c .before .before .before .before .before .before .before .before .before .before .before .before .before .before .place-at .ensures .value) (c .before .before .before .before .before .before .before .before .before .before .before .before .place-at2 .ensures .value) (c .before .before .before .modest-bindings .ensures) (c .of-bindings3 .ensures)
 
 judge-in-plain-bindings-requires : (t : ℕ) → judge-in-lts.Need-plain-bindings-requires (judge-in-claims t) (judge-in-at t) judge-in.Post
 judge-in-plain-bindings-requires t c κs = search needs
@@ -105,7 +106,7 @@ judge-in-same-length-5 : (t : ℕ) → judge-in-lts.Need-same-length-5 (judge-in
 judge-in-same-length-5 t c = search needs
 
 judge-in-returns-5 : (t : ℕ) → judge-in-lts.Need-returns-5 (judge-in-claims t) (judge-in-at t) judge-in.Post
-judge-in-returns-5 t c = λ has. case-judged has (c .before .before .before .before .before .before .before .before .before .before .before .before .has-room .ensures .plain (not-false _ (c .before .before .before .before .before .before .before .before .before .before .before .if1 .left)) (c .before .before .before .before .before .before .before .if5 .taken)) (c .before .before .before .before .before .before .before .before .before .before .before .before .before .before .before .place-at .ensures .value) (c .before .before .before .before .before .before .before .before .before .before .before .before .before .place-at2 .ensures .value) (c .before .before .before .plain-bindings .ensures) (c .of-bindings4 .ensures)
+judge-in-returns-5 t c = λ has. case-judged has (c .before .before .before .before .before .before .before .before .before .before .before .before .has-room .ensures .room (not-false _ (c .before .before .before .before .before .before .before .before .before .before .before .if1 .left)) plainFrame (c .before .before .before .before .before .before .before .if5 .taken) (omega arith)) (c .before .before .before .before .before .before .before .before .before .before .before .before .before .before .before .place-at .ensures .value) (c .before .before .before .before .before .before .before .before .before .before .before .before .before .place-at2 .ensures .value) (c .before .before .before .plain-bindings .ensures) (c .of-bindings4 .ensures)
 
 judge-in-broad-bindings-requires : (t : ℕ) → judge-in-lts.Need-broad-bindings-requires (judge-in-claims t) (judge-in-at t) judge-in.Post
 judge-in-broad-bindings-requires t c κs = search needs
@@ -117,7 +118,7 @@ judge-in-same-length-6 : (t : ℕ) → judge-in-lts.Need-same-length-6 (judge-in
 judge-in-same-length-6 t c = search needs
 
 judge-in-returns-6 : (t : ℕ) → judge-in-lts.Need-returns-6 (judge-in-claims t) (judge-in-at t) judge-in.Post
-judge-in-returns-6 t c = λ has. case-judged has (c .before .before .before .before .before .before .before .before .before .before .before .before .before .has-room .ensures .broad (not-false _ (c .before .before .before .before .before .before .before .before .before .before .before .before .if1 .left)) (c .before .before .before .before .before .before .before .if6 .taken)) (c .before .before .before .before .before .before .before .before .before .before .before .before .before .before .before .before .place-at .ensures .value) (c .before .before .before .before .before .before .before .before .before .before .before .before .before .before .place-at2 .ensures .value) (c .before .before .before .broad-bindings .ensures) (c .of-bindings5 .ensures)
+judge-in-returns-6 t c = λ has. case-judged has (c .before .before .before .before .before .before .before .before .before .before .before .before .before .has-room .ensures .room (not-false _ (c .before .before .before .before .before .before .before .before .before .before .before .before .if1 .left)) broadFrame (c .before .before .before .before .before .before .before .if6 .taken) (omega arith)) (c .before .before .before .before .before .before .before .before .before .before .before .before .before .before .before .before .place-at .ensures .value) (c .before .before .before .before .before .before .before .before .before .before .before .before .before .before .place-at2 .ensures .value) (c .before .before .before .broad-bindings .ensures) (c .of-bindings5 .ensures)
 
 judge-in-middle-bindings-requires : (t : ℕ) → judge-in-lts.Need-middle-bindings-requires (judge-in-claims t) (judge-in-at t) judge-in.Post
 judge-in-middle-bindings-requires t c κs = search needs
@@ -129,7 +130,7 @@ judge-in-same-length-7 : (t : ℕ) → judge-in-lts.Need-same-length-7 (judge-in
 judge-in-same-length-7 t c = search needs
 
 judge-in-returns-7 : (t : ℕ) → judge-in-lts.Need-returns-7 (judge-in-claims t) (judge-in-at t) judge-in.Post
-judge-in-returns-7 t c = λ has. case-judged has (c .before .before .before .before .before .before .before .before .before .before .before .before .before .before .has-room .ensures .middle (not-false _ (c .before .before .before .before .before .before .before .before .before .before .before .before .before .if1 .left)) (c .before .before .before .before .before .before .before .if7 .taken)) (c .before .before .before .before .before .before .before .before .before .before .before .before .before .before .before .before .before .place-at .ensures .value) (c .before .before .before .before .before .before .before .before .before .before .before .before .before .before .before .place-at2 .ensures .value) (c .before .before .before .middle-bindings .ensures) (c .of-bindings6 .ensures)
+judge-in-returns-7 t c = λ has. case-judged has (c .before .before .before .before .before .before .before .before .before .before .before .before .before .before .has-room .ensures .room (not-false _ (c .before .before .before .before .before .before .before .before .before .before .before .before .before .if1 .left)) middleFrame (c .before .before .before .before .before .before .before .if7 .taken) (omega arith)) (c .before .before .before .before .before .before .before .before .before .before .before .before .before .before .before .before .before .place-at .ensures .value) (c .before .before .before .before .before .before .before .before .before .before .before .before .before .before .before .place-at2 .ensures .value) (c .before .before .before .middle-bindings .ensures) (c .of-bindings6 .ensures)
 
 judge-in-wide-bindings-requires : (t : ℕ) → judge-in-lts.Need-wide-bindings-requires (judge-in-claims t) (judge-in-at t) judge-in.Post
 judge-in-wide-bindings-requires t c κs = search needs
@@ -141,7 +142,7 @@ judge-in-same-length-8 : (t : ℕ) → judge-in-lts.Need-same-length-8 (judge-in
 judge-in-same-length-8 t c = search needs
 
 judge-in-returns-8 : (t : ℕ) → judge-in-lts.Need-returns-8 (judge-in-claims t) (judge-in-at t) judge-in.Post
-judge-in-returns-8 t c = λ has. case-judged has (c .before .before .before .before .before .before .before .before .before .before .before .before .before .before .before .has-room .ensures .wide (not-false _ (c .before .before .before .before .before .before .before .before .before .before .before .before .before .before .if1 .left)) (c .before .before .before .before .before .before .before .if8 .taken)) (c .before .before .before .before .before .before .before .before .before .before .before .before .before .before .before .before .before .before .place-at .ensures .value) (c .before .before .before .before .before .before .before .before .before .before .before .before .before .before .before .before .place-at2 .ensures .value) (c .before .before .before .wide-bindings .ensures) (c .of-bindings7 .ensures)
+judge-in-returns-8 t c = λ has. case-judged has (c .before .before .before .before .before .before .before .before .before .before .before .before .before .before .before .has-room .ensures .room (not-false _ (c .before .before .before .before .before .before .before .before .before .before .before .before .before .before .if1 .left)) wideFrame (c .before .before .before .before .before .before .before .if8 .taken) (omega arith)) (c .before .before .before .before .before .before .before .before .before .before .before .before .before .before .before .before .before .before .place-at .ensures .value) (c .before .before .before .before .before .before .before .before .before .before .before .before .before .before .before .before .place-at2 .ensures .value) (c .before .before .before .wide-bindings .ensures) (c .of-bindings7 .ensures)
 
 judge-in-all-bindings-requires : (t : ℕ) → judge-in-lts.Need-all-bindings-requires (judge-in-claims t) (judge-in-at t) judge-in.Post
 judge-in-all-bindings-requires t c κs = search needs
