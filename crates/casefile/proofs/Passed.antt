@@ -20,12 +20,13 @@ use Rattle.casefile.specs.Refusals.{Refusal, Test, refuse_at_when_, firs
 use Rattle.casefile.specs.Cases.{Case, refusedCase, bindingCase, pathCase, unlessRefused, acceptedCase, caseFrom, caseOf}
 use Rattle.casefile.specs.Promises.{Passed, nothing, also}
 
--- the records before are among all
-pub count-fewer : (k : Kind) (xs ys : List Record) → count k xs ≤ count k (xs ++ ys)
+-- the records of a kind in two parts, and that those before are among all
+pub count-append : (k : Kind) (xs ys : List Record) → count k (xs ++ ys) ≡ count k xs + count k ys
 unfolding count ofKind
-count-fewer k xs ys =
-    let e = ap length (select-append (λ (r : Record). eqb (r .kind) (number k)) xs ys) ∙ length-append (ofKind k xs) (ofKind k ys) in
-    omega arith
+count-append k xs ys = ap length (select-append (λ (r : Record). eqb (r .kind) (number k)) xs ys) ∙ length-append (ofKind k xs) (ofKind k ys)
+
+pub count-fewer : (k : Kind) (xs ys : List Record) → count k xs ≤ count k (xs ++ ys)
+count-fewer k xs ys = let e = count-append k xs ys in omega arith
 
 -- no test in a list was met
 pub first-none : (n p : ℕ) (b : Bool) (ts : List Test) → first ((refuse n at p when b) ∷ ts) ≡ none → (b ≡ false) × (first ts ≡ none)

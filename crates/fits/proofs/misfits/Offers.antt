@@ -11,14 +11,14 @@ use lib.ListN.{length, getD, length-append, List·getD-append}
 use lib.Seq.{getD-append-seam}
 use Rattle.scheme.specs.Lists.{select}
 use Rattle.scheme.specs.Sorts.{o}
-use Rattle.scheme.proofs.Lists.{or-false, select-append}
+use Rattle.scheme.proofs.Lists.{or-false}
 use Rattle.casefile.specs.Fields.{word}
 use Rattle.casefile.specs.Records.{Record}
 use Rattle.casefile.specs.Kinds.{Kind, sort, nonterminal, type, binding, number, ofKind, payloads, count}
 use Rattle.casefile.specs.Tables.{sortFrom, sortsOf}
 use Rattle.casefile.specs.Refusals.{wrongLength, outOfRange}
 use Rattle.casefile.proofs.Growth.{grow-length}
-use Rattle.casefile.proofs.Passed.{Tested, passed-tested, payloads-more, payloads-other}
+use Rattle.casefile.proofs.Passed.{count-fewer, Tested, passed-tested, payloads-more, payloads-other}
 use Rattle.casefile.specs.Promises.{Passed, nothing, also}
 use Rattle.casefile.proofs.TypeTable.{count-payloads}
 use Rattle.index.specs.layout.Layout.{maxBindings}
@@ -53,14 +53,6 @@ module _ (k : Kind) (Q : List Record → List ℕ → Type 0)
               let here : getD (payloads k (rs ++ (r ∷ []))) i [] ≡ r .payload = more ∙ ap (λ j. getD (payloads k rs ++ (r .payload ∷ [])) j []) last ∙ getD-append-seam (payloads k rs) (r .payload) [] [] in
               stays rs r (getD (payloads k (rs ++ (r ∷ []))) i []) (subst (Q rs) (sym here) (tested rs (r .payload) (passed-tested rs r k e f)))
 
--- one record more takes none away
-count-stays : (k : Kind) (rs : List Record) (r : Record) → count k rs ≤ count k (rs ++ (r ∷ []))
-unfolding count ofKind
-count-stays k rs r =
-    let test : Record → Bool = λ x. eqb (x .kind) (number k) in
-    let n = ap length (select-append test rs (r ∷ [])) ∙ length-append (select test rs) (select test (r ∷ [])) in
-    omega arith
-
 sorts-counted : (rs : List Record) → length (sortsOf rs) ≡ suc (count sort rs)
 unfolding sortsOf
 sorts-counted rs = let a = grow-length sortFrom (o ∷ []) (payloads sort rs) in let b = count-payloads sort rs in omega arith
@@ -74,7 +66,7 @@ module _ {rs : List Record} (ok : Passed rs) where
   unfolding outOfRange
   binding-numbers =
       each binding (λ rs p. (word p 0 < count nonterminal rs) × (word p 2 < count type rs))
-      (λ rs r p q. let a = count-stays nonterminal rs r in let b = count-stays type rs r in (omega arith, omega arith))
+      (λ rs r p q. let a = count-fewer nonterminal rs (r ∷ []) in let b = count-fewer type rs (r ∷ []) in (omega arith, omega arith))
       (λ rs p t. let (a, b) = or-false (leb (count nonterminal rs) (word p 0)) (leb (count type rs) (word p 2)) (t .ranges) in
       (leb-false (count nonterminal rs) (word p 0) a, leb-false (count type rs) (word p 2) b)) ok
 
@@ -82,7 +74,7 @@ module _ {rs : List Record} (ok : Passed rs) where
   unfolding outOfRange
   nonterminal-sort =
       each nonterminal (λ rs p. word p 0 ≤ count sort rs)
-      (λ rs r p q. let a = count-stays sort rs r in omega arith)
+      (λ rs r p q. let a = count-fewer sort rs (r ∷ []) in omega arith)
       (λ rs p t. let a = leb-false (length (sortsOf rs)) (word p 0) (t .ranges) in let b = sorts-counted rs in omega arith) ok
 
   -- so the first misfit of such records is found by the index and a table that has their types and sorts

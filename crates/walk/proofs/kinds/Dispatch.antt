@@ -5,16 +5,14 @@ use mathlib.Core.Path.{_≡_, sym, ap, subst, _∙_}
 use mathlib.Core.Bool.{false}
 use mathlib.Core.List.{List, [], _∷_, _++_}
 use borrow.Author.Tests.{leb-false}
-use lib.Dec.{eqb}
-use lib.ListN.{length, getD, length-append}
-use Rattle.scheme.proofs.Lists.{select-append}
+use lib.ListN.{length, getD}
 use Rattle.scheme.specs.Sorts.{o}
 use Rattle.casefile.specs.Fields.{word}
 use Rattle.casefile.specs.Records.{Record}
-use Rattle.casefile.specs.Kinds.{Kind, sort, constructor, nonterminal, rule, states, transition, type, binding, number, kindOf, ofKind, payloads, count}
+use Rattle.casefile.specs.Kinds.{Kind, sort, constructor, nonterminal, rule, states, transition, type, binding, number, kindOf, payloads, count}
 use Rattle.casefile.specs.Tables.{sortsOf, sortFrom, stateCount}
 use Rattle.casefile.specs.Refusals.{wrongLength, outOfRange}
-use Rattle.casefile.proofs.Passed.{entry, kindOf-number}
+use Rattle.casefile.proofs.Passed.{count-append, entry, kindOf-number}
 use Rattle.casefile.specs.Promises.{Passed}
 use Rattle.casefile.proofs.Growth.{grow-length}
 use Rattle.casefile.proofs.TypeTable.{count-payloads}
@@ -30,10 +28,6 @@ use Rattle.walk.specs.kinds.Codes.{codeAs}
 pub sorts-length : (rs : List Record) → length (sortsOf rs) ≡ suc (count sort rs)
 unfolding sortsOf
 sorts-length rs = grow-length sortFrom (o ∷ []) (payloads sort rs) ∙ (let a = count-payloads sort rs in omega arith)
-
-count-append : (k : Kind) (xs ys : List Record) → count k (xs ++ ys) ≡ count k xs + count k ys
-unfolding count ofKind
-count-append k xs ys = ap length (select-append (λ (r : Record). eqb (r .kind) (number k)) xs ys) ∙ length-append (ofKind k xs) (ofKind k ys)
 
 module _ (file index lens counts : List ℕ) (rs : List Record) (known : Known file index lens counts rs) (ok : Passed rs) where
   -- how many of a kind
