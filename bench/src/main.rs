@@ -81,7 +81,7 @@ fn test_names(named: &[String], classes: &[Class]) -> Result<(), String> {
 fn check<'a>(judge: &mut Judge, classes: impl Iterator<Item = &'a Class>) -> Result<(), String> {
     let mut files = 0;
     for line in ground::lines() {
-        agree(judge, line.name, &line.file, line.lent)?;
+        agree(judge, &line.name, &line.file, line.lent)?;
         files += 1;
     }
     for subject in classes.flat_map(|class| &class.subjects) {

@@ -1,12 +1,12 @@
 -- Facts about fields, for any width.
 use Prim.Native.Nat.{ℕ, zero, suc, _+_, _*_, _^_, _<_, _≤_}
 use mathlib.Core.Path.{_≡_, refl, sym, ap, subst, _∙_}
-use mathlib.Core.List.{List}
+use mathlib.Core.List.{List, _++_}
 use native.Mathlib.Nat.{zero-add, add-zero, suc-add, mul-assoc, mul-le-mul-left, one-le-pow, pow-succ', le-of-suc-le-suc, not-suc-le-zero}
 use native.Mathlib.Omega.{arith}
-use lib.ListN.{length, getD, take, drop, List·getD-eq-default}
+use lib.ListN.{length, getD, take, drop, List·getD-append, List·getD-eq-default}
 use lib.Pow.{pow-add}
-use lib.Seq.{getD-take, getD-drop}
+use lib.Seq.{getD-take, getD-drop, getD-append-add}
 use Rattle.casefile.specs.Fields.{field, IsField}
 use Rattle.casefile.specs.Promises.{Bytes}
 
@@ -53,6 +53,17 @@ field-part zero s k n i h = refl
 field-part (suc w) s k n i h =
     rw (getD-take n (drop k s) i 0 (omega arith), getD-drop, field-part w s k n (i + 1) (omega arith))
     (ap (λ m. getD s (k + i) 0 + 256 * field w s m) (omega arith))
+
+-- a field of two lists one behind the other: in the first, and in the second
+pub field-front : (w : ℕ) (a b : List ℕ) (i : ℕ) → i + w ≤ length a → field w (a ++ b) i ≡ field w a i
+unfolding field
+field-front zero a b i h = refl
+field-front (suc w) a b i h = rw (List·getD-append a b 0 i (omega arith), field-front w a b (i + 1) (omega arith)) refl
+
+pub field-behind : (w : ℕ) (a b : List ℕ) (i : ℕ) → field w (a ++ b) (length a + i) ≡ field w b i
+unfolding field
+field-behind zero a b i = refl
+field-behind (suc w) a b i = rw (getD-append-add, ← field-behind w a b (i + 1)) (ap (λ m. getD b i 0 + 256 * field w (a ++ b) m) (omega arith))
 
 -- a field past the end is 0
 pub field-out : (w : ℕ) (s : List ℕ) (i : ℕ) → length s ≤ i → field w s i ≡ 0

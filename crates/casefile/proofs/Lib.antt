@@ -16,3 +16,6 @@ pub mod Walk
 pub mod Bodies
 pub mod Small
 pub mod Replays
+pub mod Counting
+pub mod Remarks
+pub mod Alike

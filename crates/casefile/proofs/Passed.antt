@@ -63,7 +63,7 @@ kindOf-number binding = refl
 kindOf-number path = refl
 
 -- a record that passed is of a known kind, no lower than the one before
-passed-kind : (rs : List Record) (r : Record) → refuseRecord rs r ≡ none → (ltb (r .kind) (lastKind rs) ≡ false) × ((k : Kind) × (kindOf (r .kind) ≡ some k) × (refuseAs rs r k ≡ none))
+pub passed-kind : (rs : List Record) (r : Record) → refuseRecord rs r ≡ none → (ltb (r .kind) (lastKind rs) ≡ false) × ((k : Kind) × (kindOf (r .kind) ≡ some k) × (refuseAs rs r k ≡ none))
 unfolding refuseRecord refuseKind
 passed-kind rs r e = go (ltb (r .kind) (lastKind rs)) (kindOf (r .kind)) refl e
   where

@@ -1,4 +1,4 @@
--- The walk over the records: its three cases, and that its bound on the number of records does not show.
+-- Whole records, and the walk over the records: its three cases, and that its bound on the number of records does not show.
 use Prim.Native.Nat.{ℕ, zero, suc, _+_, _<_, _≤_}
 use mathlib.Core.Path.{_≡_, refl, sym, ap, _∙_}
 use mathlib.Core.Bool.{Bool, true, false}
@@ -6,9 +6,38 @@ use mathlib.Core.List.{List}
 use native.Mathlib.Omega.{arith}
 use borrow.Author.Tests.{le-leb, lt-leb, leb-true, leb-false}
 use lib.Dec.{leb}
-use lib.ListN.{length}
+use lib.ListN.{length, drop, length-drop}
+use lib.Seq.{length-take-le}
+use Rattle.scheme.proofs.Lists.{and-no}
 use Rattle.casefile.specs.Fields.{word}
 use Rattle.casefile.specs.Records.{whole, end, cut, next, walk, recordAt}
+
+module _ (s : List ℕ) (at : ℕ) where
+  -- a record is whole where its last byte is inside
+  pub whole-fits : at + 4 + word s at ≤ length s → whole s at ≡ true
+  unfolding whole
+  whole-fits h = simp (le-leb (at + 4) (length s) (omega arith), le-leb (at + 4 + word s at) (length s) h)
+
+  pub whole-cut : length s < at + 4 + word s at → whole s at ≡ false
+  unfolding whole
+  whole-cut h = rw (lt-leb (at + 4 + word s at) (length s) h) (and-no (leb (at + 4) (length s)))
+
+  whole-last : (b : Bool) → leb (at + 4 + word s at) (length s) ≡ b → whole s at ≡ true → at + 4 + word s at ≤ length s
+  whole-last true e w = leb-true (at + 4 + word s at) (length s) e
+  whole-last false e w =
+      let f : whole s at ≡ false = whole-cut (leb-false (at + 4 + word s at) (length s) e) in
+      let z : _≡_ {A = ℕ} 0 1 = cc in
+      absurd (omega arith)
+
+  pub whole-end : whole s at ≡ true → at + 4 + word s at ≤ length s
+  whole-end w = whole-last (leb (at + 4 + word s at) (length s)) refl w
+
+  -- the payload of a whole record is as long as its header says
+  pub payload-length : whole s at ≡ true → length (recordAt s at .payload) ≡ word s at
+  unfolding recordAt
+  payload-length w =
+      let h = whole-end w in
+      length-take-le (word s at) (drop (at + 4) s) (rw length-drop (omega arith))
 
 module _ (s : List ℕ) where
   pub walk-end : (n at : ℕ) → length s ≤ at → walk n s at ≡ end

@@ -1,4 +1,4 @@
--- Records and the walk over a file. Section "The case file" of the scope.
+-- Records and the walk over a file. Section "The case file" of the scope; remarks: Note 1 of the change requests.
 use Prim.Native.Nat.{ℕ, zero, suc, _+_}
 use mathlib.Core.Bool.{Bool, _&&_}
 use mathlib.Core.List.{List, [], _∷_}
@@ -34,9 +34,19 @@ walk (suc n) s at =
     let rest = walk n s (at + 4 + word s at) in
     if leb (length s) at then end else (if whole s at then next (recordAt s at) rest else cut at)
 
+-- "Kinds 8000 (hexadecimal) and above are remarks"
+unfoldable pub isRemark : ℕ → Bool
+isRemark kind = leb 0x8000 kind
+
+-- a walk over the records that count: remarks "are stepped over"; one that runs past the end is met as any other record
+unfoldable pub counting : Walk → Walk
+counting end = end
+counting (cut at) = cut at
+counting (next r w) = let rest = counting w in if isRemark (r .kind) then rest else next r rest
+
 -- the walk over a file; a record fills at least four bytes, so there are no more records than bytes
 unfoldable pub recordsOf : List ℕ → Walk
-recordsOf s = walk (length s) s 0
+recordsOf s = counting (walk (length s) s 0)
 
 -- the whole records of a walk, up to its end or to the first that is cut
 unfoldable pub listed : Walk → List Record

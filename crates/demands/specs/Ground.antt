@@ -114,9 +114,9 @@ planG = signature ++ ruleS ++ ruleH ++ automaton
 abbrev pub E : List ℕ
 E = planE ++ types01 ++ bindS0 ++ bindF1
 
--- a record of a kind below 256
+-- a record of a kind
 abbrev pub recordOf : ℕ → List ℕ → List ℕ
-recordOf kind payload = length payload % 256 ∷ length payload / 256 ∷ kind ∷ 0 ∷ payload
+recordOf kind payload = length payload % 256 ∷ length payload / 256 ∷ kind % 256 ∷ kind / 256 ∷ payload
 
 -- a path record
 abbrev pub path : List ℕ → List ℕ
@@ -146,7 +146,8 @@ starred =
     record { file = planB ++ path (0 ∷ 0 ∷ 2 ∷ 1 ∷ 0 ∷ 1 ∷ []); lent = 7 ∷ []; says = refused 13 5; flags = 7 ∷ [] } ∷
     record { file = planB ++ path (0 ∷ 0 ∷ 3 ∷ []); lent = 7 ∷ []; says = refused 13 2; flags = 7 ∷ [] } ∷ []
 
--- The small inputs of the table of refusals, 1 to 15, and the lines of the ground case that bear no star.
+-- The small inputs of the table of refusals, 1 to 15, and the lines of the ground case that bear no star; then remarks, Note 1 of
+-- the change requests.
 abbrev pub small : List Line
 small =
     -- 60,001 zero bytes
@@ -173,4 +174,22 @@ small =
     -- 4,096 nodes are allowed
     record { file = planG ++ zeros 2048; lent = 7 ∷ []; says = refused 15 2048; flags = 7 ∷ [] } ∷
     record { file = planLoop ++ zeros 4096; lent = 7 ∷ []; says = refused 15 4096; flags = 7 ∷ [] } ∷
-    record { file = planLoop ++ zeros 4097; lent = 7 ∷ []; says = refused 5 19; flags = 7 ∷ [] } ∷ []
+    record { file = planLoop ++ zeros 4097; lent = 7 ∷ []; says = refused 5 19; flags = 7 ∷ [] } ∷
+    -- remarks of the lowest and of the highest kind around E, and one between its bindings
+    record { file = recordOf 0x8000 [] ++ E ++ recordOf 0xFFFF (1 ∷ 2 ∷ []); lent = 7 ∷ 7 ∷ 7 ∷ []; says = proved 2 2 0; flags = 1 ∷ 1 ∷ 7 ∷ [] } ∷
+    record { file = planE ++ types01 ++ bindS0 ++ recordOf 0x8001 (7 ∷ []) ++ bindF1; lent = 7 ∷ 7 ∷ 7 ∷ []; says = proved 2 2 0; flags = 1 ∷ 1 ∷ 7 ∷ [] } ∷
+    -- B, path 0 0 2 1 0, a remark before it
+    record { file = planB ++ recordOf 0x8000 (9 ∷ []) ++ path (0 ∷ 0 ∷ 2 ∷ 1 ∷ 0 ∷ []); lent = 7 ∷ []; says = refuted 5 1 0; flags = 7 ∷ [] } ∷
+    -- 7FFF is the highest kind that is none
+    record { file = recordOf 0x7FFF []; lent = 7 ∷ []; says = refused 3 0; flags = 7 ∷ [] } ∷
+    record { file = recordOf 0x8000 [] ++ recordOf 0x7FFF []; lent = 7 ∷ []; says = refused 3 4; flags = 7 ∷ [] } ∷
+    -- kinds 2, remark, 1: the order is judged without the remark
+    record { file = recordOf 2 (0 ∷ []) ++ recordOf 0x8000 [] ++ recordOf 1 (0 ∷ 0 ∷ 0 ∷ 0 ∷ []); lent = 7 ∷ []; says = refused 3 9; flags = 7 ∷ [] } ∷
+    -- places count the bytes of remarks: E's last record twice, a remark between them
+    record { file = E ++ recordOf 0xFFFF (1 ∷ 2 ∷ []) ++ bindF1; lent = 7 ∷ 7 ∷ 7 ∷ []; says = refused 7 160; flags = 7 ∷ 7 ∷ 7 ∷ [] } ∷
+    -- a remark can meet 2 and 1
+    record { file = E ++ (0xFF ∷ 0xFF ∷ 0xFF ∷ 0xFF ∷ []); lent = 7 ∷ 7 ∷ []; says = refused 2 154; flags = 7 ∷ 7 ∷ [] } ∷
+    record { file = recordOf 0x8000 (replicate 59997 0); lent = 7 ∷ []; says = refused 1 0; flags = 7 ∷ [] } ∷
+    -- remarks alone
+    record { file = recordOf 0x8000 [] ++ recordOf 0xFFFF (1 ∷ 2 ∷ 3 ∷ []); lent = 7 ∷ []; says = refused 8 0; flags = 7 ∷ [] } ∷
+    record { file = recordOf 0x8000 (replicate 59996 0); lent = 7 ∷ []; says = refused 8 0; flags = 7 ∷ [] } ∷ []

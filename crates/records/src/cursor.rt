@@ -2,6 +2,9 @@
 use crate::fields::HEADER;
 use crate::fields::word_at;
 ghost use mathlib.Core.Path.{_≡_};
+ghost use mathlib.Core.Bool.{not};
+ghost use Prim.Native.Nat.{_<_};
+ghost use Rattle.casefile.specs.Records.{isRemark};
 ghost use Rattle.records.specs.cursor.Reading.{readAt, partOf};
 ghost use Rattle.records.specs.declared.cursor.Read.the-variants.{Refused};
 
@@ -10,7 +13,7 @@ pub struct Cursor {
     pub at: usize,
 }
 
-// What stands at a place: a record, whose payload is the len bytes from start, a refusal, or the end.
+// What is read from a place on: a record, whose payload is the len bytes from start, a refusal, or the end.
 pub enum Read {
     Record {
         place: usize,
@@ -33,32 +36,43 @@ fn cut(place: usize) -> Read
     Read::Refused { number: 2, place }
 }
 
+// Whether a record of a kind counts: remarks, of kind 8000 (hexadecimal) and above, do not.
+fn counts(kind: usize) -> bool
+    ensures { λ r. ⌜ (kind < 65536 → r ≡ not (isRemark kind)) ⌝ }
+{
+    match kind {
+        1..=9 => true,
+        0x8000..=0xFFFF => false,
+        _ => true,
+    }
+}
+
 impl Cursor {
-    // The record at the cursor, refusal 2 where it runs past the end, the end where nothing is left.
+    // The next record that counts, from the cursor on; refusal 2 where a record or a remark runs past the end; the end where
+    // nothing is left.
     pub fn next(self, file: &[u8]) -> Read
         ensures { λ r. ⌜ r ≡ readAt (now (file .entry)) (self .at) ⌝ }
     {
-        let at = self.at;
-        if file.len() <= at {
-            return Read::End;
-        }
-        if file.len() - at < HEADER {
-            return cut(at);
-        }
-        let len = word_at(file, at);
-        let kind = word_at(file, at + 2);
-        let start = at + HEADER;
-        if len <= file.len() - start {
-            Read::Record {
-                place: at,
-                start,
-                len,
-                kind,
-                next: Cursor { at: start + len },
+        let mut at = self.at;
+        while at < file.len() {
+            let len = word_at(file, at);
+            if file.len() - at < HEADER + len {
+                return cut(at);
             }
-        } else {
-            cut(at)
+            let kind = word_at(file, at + 2);
+            let start = at + HEADER;
+            if counts(kind) {
+                return Read::Record {
+                    place: at,
+                    start,
+                    len,
+                    kind,
+                    next: Cursor { at: start + len },
+                };
+            }
+            at = start + len;
         }
+        Read::End
     }
 }
 

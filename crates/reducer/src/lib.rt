@@ -372,6 +372,11 @@ fn size(cells: &mut [u16], term: usize) -> usize {
     4097
 }
 
+// Whether the record at an offset is the transition from a state for a constructor.
+fn moves_by(file: &[u8], at: usize, state: usize, constructor: usize) -> bool {
+    word(file, at, 2) == 6 && byte(file, at, 4) == state && byte(file, at, 5) == constructor
+}
+
 // The record of the transition from a state for a constructor, or 0.
 fn transition(file: &[u8], plan: Plan, state: usize, constructor: usize) -> usize {
     let path = plan.path;
@@ -380,10 +385,10 @@ fn transition(file: &[u8], plan: Plan, state: usize, constructor: usize) -> usiz
         if 60000 < at {
             return 0;
         }
-        if byte(file, at, 4) == state && byte(file, at, 5) == constructor {
+        if moves_by(file, at, state, constructor) {
             return at;
         }
-        at = at + 10;
+        at = at + 4 + word(file, at, 0);
     }
     0
 }

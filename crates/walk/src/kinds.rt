@@ -232,10 +232,7 @@ pub(crate) fn take(
         TYPE => take_type(file, index, counts, start, p),
         BINDING => take_binding(file, index, counts, start, p),
         PATH => take_path(index, counts, start, p),
-        // Kinds that no record has.
-        0 | 10..=0x7FFF => 3,
-        // Kinds from 8000 (hexadecimal) on, which are unknown too.
-        0x8000..=0xFFFF => 3,
+        // Kinds that no record has; the reader hands on no remark.
         _ => 3,
     }
 }

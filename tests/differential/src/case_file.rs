@@ -48,6 +48,9 @@ pub struct CaseFile {
     pub path: Option<Vec<u8>>,
 }
 
+/// The lowest kind of remarks, which are stepped over.
+pub const FIRST_REMARK: u16 = 0x8000;
+
 #[derive(Clone)]
 pub struct Record {
     pub kind: u16,
@@ -63,6 +66,26 @@ pub fn bytes_of(records: &[Record]) -> Vec<u8> {
         bytes.extend(&record.payload);
     }
     bytes
+}
+
+/// The places before, between and behind the records, up to the first that is cut.
+pub fn borders(bytes: &[u8]) -> Vec<usize> {
+    let mut borders = vec![0];
+    let mut at = 0;
+    while let Some(header) = bytes.get(at..at + 4) {
+        at += 4 + usize::from(u16::from_le_bytes([header[0], header[1]]));
+        if at > bytes.len() {
+            break;
+        }
+        borders.push(at);
+    }
+    borders
+}
+
+/// Whether a remark stands in a file, before the first record that is cut.
+pub fn has_remark(bytes: &[u8]) -> bool {
+    let whole = borders(bytes);
+    whole.windows(2).any(|pair| u16::from_le_bytes([bytes[pair[0] + 2], bytes[pair[0] + 3]]) >= FIRST_REMARK)
 }
 
 fn words(words: &[u16]) -> Vec<u8> {

@@ -14,6 +14,8 @@ use check::{Found, Hint, FEW, HINTS, OWN_HINTS};
 use replay::{Cell, CELLS};
 use sets::{Set, WORDS};
 
+/// Kinds from this one on are remarks.
+const FIRST_REMARK: usize = 0x8000;
 const MOST_NODES: usize = 15_000;
 const MOST_SORTS: usize = 64;
 const MOST_TYPES: usize = 1_024;
@@ -304,19 +306,30 @@ impl Judge {
         Ok(())
     }
 
+    /// All records; a remark stops the walk, which goes on behind it.
     fn walk(&mut self, file: &[u8]) -> Result<(), Refusal> {
-        let mut at = 0;
-        let mut last_kind = 1;
+        let (mut at, mut last_kind) = (0, 1);
+        while let Err(((number, place), last)) = self.walk_from(file, at, last_kind) {
+            if number != 3 || word(file, place + 2) < FIRST_REMARK {
+                return Err((number, place));
+            }
+            (at, last_kind) = (place + 4 + word(file, place), last);
+        }
+        Ok(())
+    }
+
+    /// The records from a place on, behind one of the kind `last_kind`; with a refusal it gives the last kind.
+    fn walk_from(&mut self, file: &[u8], mut at: usize, mut last_kind: usize) -> Result<(), (Refusal, usize)> {
         while at < file.len() {
             let Some(header) = file.get(at..at + 4) else {
-                return Err((2, at));
+                return Err(((2, at), last_kind));
             };
             let (length, kind) = (word(header, 0), word(header, 2));
             let Some(payload) = file.get(at + 4..at + 4 + length) else {
-                return Err((2, at));
+                return Err(((2, at), last_kind));
             };
             if kind < last_kind || kind > 9 {
-                return Err((3, at));
+                return Err(((3, at), last_kind));
             }
             last_kind = kind;
             let entered = match kind {
@@ -331,7 +344,7 @@ impl Judge {
                 _ => self.path(payload, at),
             };
             if let Err(number) = entered {
-                return Err((number, at));
+                return Err(((number, at), last_kind));
             }
             at += 4 + length;
         }

@@ -1,10 +1,11 @@
-//! Files drawn by a seed: well-formed plans of all shapes with bindings or a path, and files with faults.
+//! Files drawn by a seed: well-formed plans of all shapes with bindings or a path, files with faults, and both with remarks.
 
 mod damage;
 mod evidence;
 mod families;
 mod path;
 mod plan;
+mod remarks;
 
 use crate::case_file::{CaseFile, TypeRecord};
 use crate::hostile;
@@ -25,7 +26,10 @@ pub fn draw(seed: u64, number: u64) -> Drawn {
     let file = draw_case(random);
     let flags = draw_flags(random, file.bindings.len());
     let spoilt = random.percent(40);
-    let bytes = if spoilt { damage::damage(random, file) } else { file.bytes() };
+    let mut bytes = if spoilt { damage::damage(random, file) } else { file.bytes() };
+    if random.percent(35) {
+        bytes = remarks::scatter(random, &bytes);
+    }
     Drawn { bytes, flags }
 }
 

@@ -1,11 +1,12 @@
 //! The lines of the scope that say what a file is answered: the ground case E and its variants, and the small inputs of the
-//! table of refusals.
+//! table of refusals; and lines of the change requests.
 
-use crate::case_file::{CaseFile, Node, TypeRecord, CONSTRUCTOR, NONTERMINAL, PARAMETER};
+use crate::case_file::{bytes_of, CaseFile, Node, Record, TypeRecord, CONSTRUCTOR, FIRST_REMARK, NONTERMINAL, PARAMETER};
 
 /// A file, the flags lent for it, the line that it is answered with, and the flags that it leaves.
+#[derive(Clone)]
 pub struct Line {
-    pub name: &'static str,
+    pub name: String,
     pub file: Vec<u8>,
     pub lent: usize,
     pub answer: &'static str,
@@ -115,11 +116,12 @@ pub fn lines() -> Vec<Line> {
     let mut lines = bindings();
     lines.extend(paths());
     lines.extend(refusals());
+    lines.extend(remarks());
     lines
 }
 
-fn line(name: &'static str, file: Vec<u8>, answer: &'static str, flags: &'static [u8]) -> Line {
-    Line { name, file, lent: 16, answer, flags }
+fn line(name: &str, file: Vec<u8>, answer: &'static str, flags: &'static [u8]) -> Line {
+    Line { name: name.to_string(), file, lent: 16, answer, flags }
 }
 
 fn bindings() -> Vec<Line> {
@@ -177,4 +179,55 @@ fn refusals() -> Vec<Line> {
         refusal("G, 2,049 zeros", with_path(g(), &[0; 2_049]).bytes(), "refused 14 at 2048"),
         refusal("E, path of no letters", with_path(e(), &[]).bytes(), "refused 15 at 0"),
     ]
+}
+
+/// A record with a payload of so many bytes.
+fn record(kind: u16, length: usize) -> Vec<u8> {
+    bytes_of(&[Record { kind, payload: vec![3; length] }])
+}
+
+/// E with a remark before the first record, behind the last and between every two: each of them in a file of its own, and all in
+/// one file.
+fn e_with_remarks(kind: u16, length: usize) -> Vec<Line> {
+    let records: Vec<Vec<u8>> = e().records().into_iter().map(|one| bytes_of(&[one])).collect();
+    let remark = record(kind, length);
+    let answer = |name: &str, file| line(name, file, "proved 2 of 2 rounds 0", &[1, 1]);
+    let mut lines: Vec<Line> = (0..=records.len())
+        .map(|place| {
+            let (before, behind) = records.split_at(place);
+            let file = [before.concat(), remark.clone(), behind.concat()].concat();
+            answer(&format!("E, a remark of {length} bytes before record {place}"), file)
+        })
+        .collect();
+    if length < 2 {
+        let file = [remark.clone(), records.join(&remark[..]), remark].concat();
+        lines.push(answer(&format!("E, a remark of {length} bytes everywhere"), file));
+    }
+    lines
+}
+
+/// Request 1: kinds from 8000 (hexadecimal) on are remarks.
+fn remarks() -> Vec<Line> {
+    let e_and = |more: &[u8]| [&E, more].concat();
+    let loop_and = |more: &[u8]| [&s_is_s().bytes(), more].concat();
+    let refusal = |name, file, answer| line(name, file, answer, &[]);
+    let (empty, longest) = (record(FIRST_REMARK, 0), 60_000 - E.len() - 4);
+    let mut lines = [
+        e_with_remarks(FIRST_REMARK, 0),
+        e_with_remarks(0x8001, 1),
+        e_with_remarks(0xFFFF, longest),
+    ]
+    .concat();
+    lines.extend([
+        line("500 remarks, then E", [empty.repeat(500), E.to_vec()].concat(), "proved 2 of 2 rounds 0", &[1, 1]),
+        line("S is S and 59,846 bytes", loop_and(&record(0xFFFF, 59_846)), "proved 1 of 1 rounds 0", &[1]),
+        refusal("E and 59,846 bytes", e_and(&record(0xFFFF, 59_846)), "refused 1 at 0"),
+        refusal("E and a byte too many", e_and(&record(0xFFFF, longest + 1)), "refused 1 at 0"),
+        refusal("E and a remark past the end", e_and(&[0xFF, 0xFF, 0xFF, 0xFF]), "refused 2 at 154"),
+        refusal("E and half a header of a remark", e_and(&[0, 0, 0]), "refused 2 at 154"),
+        refusal("E and kind 7FFF", e_and(&record(0x7FFF, 0)), "refused 3 at 154"),
+        refusal("kinds 2, remark, 1", [record(2, 1), empty.clone(), record(1, 4)].concat(), "refused 3 at 9"),
+        refusal("remarks only", [empty, record(0xFFFF, 3)].concat(), "refused 8 at 0"),
+    ]);
+    lines
 }

@@ -6,6 +6,7 @@
 //! `differential [COUNT [SEED [THREADS]]]` draws COUNT files; `differential --file FILE [FLAGS]` compares one file;
 //! `differential --limits [NAME..]` judges hostile files at the limits alone, and `differential --write FOLDER` writes them.
 
+use differential::case_file::has_remark;
 use differential::random::Random;
 use differential::verdict::Verdict;
 use differential::{generate, ground, hostile, library, reference, stack};
@@ -137,6 +138,8 @@ struct Tally {
     verdicts: [u64; 4],
     refusals: [u64; REFUSALS + 1],
     bytes: u64,
+    /// Files with remarks that are not refused.
+    with_remarks: u64,
     longest_accepted: usize,
     bindings: u64,
     kept: u64,
@@ -147,6 +150,8 @@ impl Tally {
     fn count(&mut self, file: &[u8], compared: &Compared) {
         self.bytes += file.len() as u64;
         self.verdicts[compared.reference.numbers()[0] as usize] += 1;
+        let refused = matches!(compared.reference, Verdict::Refused { .. });
+        self.with_remarks += u64::from(!refused && has_remark(file));
         match compared.reference {
             Verdict::Refused { number, .. } => self.refusals[number as usize] += 1,
             Verdict::Refuted { .. } => self.longest_accepted = self.longest_accepted.max(file.len()),
@@ -167,6 +172,7 @@ impl Tally {
         self.passed += other.passed;
         self.failed += other.failed;
         self.bytes += other.bytes;
+        self.with_remarks += other.with_remarks;
         self.bindings += other.bindings;
         self.kept += other.kept;
         self.longest_accepted = self.longest_accepted.max(other.longest_accepted);
@@ -185,6 +191,7 @@ impl Tally {
         }
         println!("kept {} of {} bindings; at most {} rounds", self.kept, self.bindings, self.most_rounds);
         println!("longest file that is not refused: {} bytes", self.longest_accepted);
+        println!("not refused and with remarks: {}", self.with_remarks);
     }
 }
 
@@ -239,7 +246,7 @@ fn compare_many(numbers: &[u64]) -> Result<bool, String> {
         println!("the library is not linked: only the reference is run");
     }
     let (mut passed, mut failed) = in_thread(compare_lines)?;
-    println!("lines of the scope: {passed} passed, {failed} failed");
+    println!("lines of the scope and the requests: {passed} passed, {failed} failed");
     if library::LINKED {
         let (fit, wrong) = in_thread(stack::try_files)??;
         let (met, missed) = in_thread(|| stack::try_limits(&[]))??;

@@ -10,6 +10,8 @@ use std::hash::Hash;
 use std::rc::Rc;
 
 const MOST_BYTES: usize = 60_000;
+/// The kinds of remarks, which are stepped over.
+const REMARKS: std::ops::RangeInclusive<usize> = 0x8000..=0xFFFF;
 const MOST_SORTS: usize = 64;
 const MOST_SORT_ARGUMENTS: usize = 8;
 const MOST_CONSTRUCTORS: usize = 32;
@@ -408,7 +410,9 @@ pub fn examine(file: &[u8], flags: usize) -> Result<Case, Refusal> {
     let mut place = 0;
     while place < file.len() {
         let record = record_at(file, place)?;
-        entries.enter(&record).map_err(|number| Refusal { number, place })?;
+        if !REMARKS.contains(&record.kind) {
+            entries.enter(&record).map_err(|number| Refusal { number, place })?;
+        }
         place += 4 + record.payload.len();
     }
     let bodies = entries.bodies()?;

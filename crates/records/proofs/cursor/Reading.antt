@@ -1,44 +1,37 @@
--- What reading at a place tells of the walk over the records.
-use Prim.Native.Nat.{ℕ, suc, _+_, _<_, _≤_}
-use mathlib.Core.Path.{_≡_, refl, ap}
-use mathlib.Core.Bool.{Bool, true, false}
+-- What reading from a place on tells of the walk over the records.
+use Prim.Native.Nat.{ℕ, _+_, _<_, _≤_}
+use mathlib.Core.Path.{_≡_, refl, sym, ap, ap₂, subst, _∙_}
+use mathlib.Core.Bool.{true, false}
 use mathlib.Core.List.{List, []}
 use native.Mathlib.Omega.{arith}
-use borrow.Author.Tests.{le-leb, lt-leb, leb-true, leb-false}
-use lib.Dec.{leb}
-use lib.ListN.{length, take, drop, length-drop}
-use lib.Seq.{length-take-le}
-use Rattle.scheme.proofs.Lists.{and-no}
+use borrow.Author.Tests.{le-leb, lt-leb}
+use lib.ListN.{length, take, drop}
 use Rattle.casefile.specs.Fields.{word}
-use Rattle.casefile.specs.Records.{whole, end, cut, next, walk, recordAt}
-use Rattle.records.specs.cursor.Reading.{readRecord, readAt, partOf}
+use Rattle.casefile.specs.Records.{Record, Walk, end, cut, next, whole, recordAt, isRemark}
+use Rattle.casefile.specs.Promises.{recordsFrom}
+use Rattle.casefile.proofs.Walk.{whole-end, payload-length}
+use Rattle.casefile.proofs.Counting.{from-end, from-cut, from-remark, from-record, First, first-counts}
+use Rattle.records.specs.cursor.Reading.{readRecord, readFirst, readAt, partOf}
 use Rattle.records.specs.declared.cursor.Cursor.{Cursor}
-use Rattle.records.specs.declared.cursor.Read.the-variants.{Record, Refused, End}
-use Rattle.casefile.proofs.Walk.{walk-end, walk-cut, walk-next}
+use Rattle.records.specs.declared.cursor.Read.{Read}
+use Rattle.records.specs.declared.cursor.Read.the-variants as read
 
--- what is known of a record that was read
+-- what is known of a record that was read from a place on
 pub record RecordRead (s : List ℕ) (at place start len kind : ℕ) (c : Cursor) : Type 0 where
-  pub inside : at < length s
-  pub fits : whole s at ≡ true
-  pub place-is : place ≡ at
-  pub start-is : start ≡ at + 4
-  pub len-is : len ≡ word s at
-  pub kind-is : kind ≡ word s (at + 2)
-  pub next-is : c .at ≡ at + 4 + word s at
+  pub onward : at ≤ place
+  pub inside : place < length s
+  pub fits : whole s place ≡ true
+  pub start-is : start ≡ place + 4
+  pub kind-is : kind ≡ word s (place + 2)
+  pub next-is : c .at ≡ place + 4 + word s place
   pub next-fits : c .at ≤ length s
-  pub payload-is : partOf s start len ≡ recordAt s at .payload
-  pub walk-is : (n : ℕ) → walk (suc n) s at ≡ next (recordAt s at) (walk n s (c .at))
+  pub payload-is : partOf s start len ≡ recordAt s place .payload
+  pub walk-is : recordsFrom s at ≡ next (recordAt s place) (recordsFrom s (c .at))
 
 -- what is known of a record that was refused
 pub record RecordRefused (s : List ℕ) (at number place : ℕ) : Type 0 where
   pub number-is : number ≡ 2
-  pub place-is : place ≡ at
-  pub walk-is : (n : ℕ) → walk (suc n) s at ≡ cut at
-
--- what is known where the end was read
-pub record EndRead (s : List ℕ) (at : ℕ) : Type 0 where
-  pub passed : length s ≤ at
-  pub walk-is : (n : ℕ) → walk n s at ≡ end
+  pub walk-is : recordsFrom s at ≡ cut place
 
 -- the parts of a list
 module _ (s : List ℕ) (start len : ℕ) where
@@ -51,111 +44,76 @@ module _ (s : List ℕ) (start len : ℕ) where
   part-out h = simp (lt-leb (start + len) (length s) h)
 
 module _ (s : List ℕ) (at : ℕ) where
-  -- a record is whole where its last byte is inside
-  pub whole-fits : at + 4 + word s at ≤ length s → whole s at ≡ true
-  unfolding whole
-  whole-fits h = simp (le-leb (at + 4) (length s) (omega arith), le-leb (at + 4 + word s at) (length s) h)
+  -- the cases of reading: past the end, a record that is cut, a remark, a record that counts
+  pub read-past : length s ≤ at → readAt s at ≡ read.End
+  unfolding readAt readFirst
+  read-past h = ap readFirst (from-end s at h)
 
-  pub whole-cut : length s < at + 4 + word s at → whole s at ≡ false
-  unfolding whole
-  whole-cut h = rw (lt-leb (at + 4 + word s at) (length s) h) (and-no (leb (at + 4) (length s)))
+  pub read-cut : at < length s → whole s at ≡ false → readAt s at ≡ read.Refused 2 at
+  unfolding readAt readFirst
+  read-cut h w = ap readFirst (from-cut s at h w)
 
-  whole-last : (b : Bool) → leb (at + 4 + word s at) (length s) ≡ b → whole s at ≡ true → at + 4 + word s at ≤ length s
-  whole-last true e w = leb-true (at + 4 + word s at) (length s) e
-  whole-last false e w =
-      let f : whole s at ≡ false = whole-cut (leb-false (at + 4 + word s at) (length s) e) in
-      let z : _≡_ {A = ℕ} 0 1 = cc in
-      absurd (omega arith)
-
-  pub whole-end : whole s at ≡ true → at + 4 + word s at ≤ length s
-  whole-end w = whole-last (leb (at + 4 + word s at) (length s)) refl w
-
-  -- the payload of a whole record is as long as its header says
-  pub payload-length : whole s at ≡ true → length (recordAt s at .payload) ≡ word s at
-  unfolding recordAt
-  payload-length w =
-      let h = whole-end w in
-      length-take-le (word s at) (drop (at + 4) s) (rw length-drop (omega arith))
-
-  -- the three cases of reading
-  pub read-past : length s ≤ at → readAt s at ≡ End
+  pub read-remark : at < length s → whole s at ≡ true → isRemark (word s (at + 2)) ≡ true → readAt s at ≡ readAt s (at + 4 + word s at)
   unfolding readAt
-  read-past h = simp (le-leb (length s) at h)
+  read-remark h w e = ap readFirst (from-remark s at h w e)
 
-  pub read-whole : at < length s → whole s at ≡ true → readAt s at ≡ readRecord s at
-  unfolding readAt
-  read-whole h w = simp (lt-leb (length s) at h, w)
-
-  pub read-cut : at < length s → whole s at ≡ false → readAt s at ≡ Refused 2 at
-  unfolding readAt
-  read-cut h w = simp (lt-leb (length s) at h, w)
+  pub read-whole : at < length s → whole s at ≡ true → isRemark (word s (at + 2)) ≡ false → readAt s at ≡ read.Record at (at + 4) (word s at) (word s (at + 2)) (record { at = at + 4 + word s at })
+  unfolding readAt readFirst recordAt
+  read-whole h w e =
+      ap readFirst (from-record s at h w e) ∙ ap (λ n. read.Record at (at + 4) n (word s (at + 2)) (record { at = at + 4 + n })) (payload-length s at w)
 
   -- from what was read to the walk
-  module _ (place start len kind : ℕ) (c : Cursor) (e : readAt s at ≡ Record place start len kind c) where
-    record-cases : (a b : Bool) → leb (length s) at ≡ a → whole s at ≡ b → RecordRead s at place start len kind c
+  module _ (place start len kind : ℕ) (c : Cursor) where
+    told : (r : Record) (w : Walk) → recordsFrom s at ≡ next r w → readRecord r ≡ read.Record place start len kind c → RecordRead s at place start len kind c
     unfolding recordAt
-    record-cases true b p q =
-        let f : readAt s at ≡ End = read-past (leb-true (length s) at p) in
-        let z : _≡_ {A = ℕ} 0 1 = cc in
-        absurd (omega arith)
-    record-cases false false p q =
-        let f : readAt s at ≡ Refused 2 at = read-cut (leb-false (length s) at p) q in
-        let z : _≡_ {A = ℕ} 0 1 = cc in
-        absurd (omega arith)
-    record-cases false true p q =
-        let h = leb-false (length s) at p in
-        let f : readAt s at ≡ readRecord s at = read-whole h q in
-        let es : start ≡ at + 4 = cc in
-        let el : len ≡ word s at = cc in
-        let ec : c ≡ record { at = at + 4 + word s at } = cc in
-        let en : c .at ≡ at + 4 + word s at = ap (λ (x : Cursor). x .at) ec in
+    told r w e f =
+        let known = first-counts s at r w e in
+        let there : r .place ≡ place = cc in
+        let begins : start ≡ r .place + 4 = cc in
+        let long : length (r .payload) ≡ len = cc in
+        let behind : c ≡ record { at = r .place + 4 + length (r .payload) } = cc in
+        let is : r ≡ recordAt s place = known .is ∙ ap (recordAt s) there in
+        let fits : whole s place ≡ true = subst (λ p. whole s p ≡ true) there (known .fits) in
+        let len-is : len ≡ word s place = sym long ∙ ap (λ (x : Record). length (x .payload)) is ∙ payload-length s place fits in
+        let start-is : start ≡ place + 4 = begins ∙ ap (λ p. p + 4) there in
+        let next-is : c .at ≡ place + 4 + word s place = ap (λ (x : Cursor). x .at) behind ∙ (let a = len-is in omega arith) in
+        let behind-is : r .place + 4 + word s (r .place) ≡ c .at = ap (λ p. p + 4 + word s p) there ∙ sym next-is in
+        let room = whole-end s place fits in
         record {
-          inside = h;
-          fits = q;
-          place-is = cc;
-          start-is = es;
-          len-is = el;
-          kind-is = cc;
-          next-is = en;
-          next-fits = omega (arith, whole-end q);
-          payload-is = rw (es, el) (part-of s (at + 4) (word s at) (whole-end q));
-          walk-is = λ n. rw en (walk-next s n at h q);
+          onward = (let o = known .onward in omega arith);
+          inside = (let i = known .inside in omega arith);
+          fits = fits;
+          start-is = start-is;
+          kind-is = (let k : r .kind ≡ kind = cc in sym k ∙ ap (λ (x : Record). x .kind) is);
+          next-is = next-is;
+          next-fits = omega arith;
+          payload-is = rw (start-is, len-is) (part-of s (place + 4) (word s place) room);
+          walk-is = e ∙ ap₂ next is (known .behind ∙ ap (recordsFrom s) behind-is);
         }
 
-    pub read-record : RecordRead s at place start len kind c
-    read-record = record-cases (leb (length s) at) (whole s at) refl refl
+    pub read-record : readAt s at ≡ read.Record place start len kind c → RecordRead s at place start len kind c
+    unfolding readAt readFirst
+    read-record f = by (recordsFrom s at) refl f
+      where
+        by : (w : Walk) → recordsFrom s at ≡ w → readFirst w ≡ read.Record place start len kind c → RecordRead s at place start len kind c
+        by end e g = absurd (let z : _≡_ {A = ℕ} 0 1 = cc in omega arith)
+        by (cut p) e g = absurd (let z : _≡_ {A = ℕ} 0 1 = cc in omega arith)
+        by (next r w) e g = told r w e g
 
-  module _ (number place : ℕ) (e : readAt s at ≡ Refused number place) where
-    refused-cases : (a b : Bool) → leb (length s) at ≡ a → whole s at ≡ b → RecordRefused s at number place
-    refused-cases true b p q =
-        let f : readAt s at ≡ End = read-past (leb-true (length s) at p) in
-        let z : _≡_ {A = ℕ} 0 1 = cc in
-        absurd (omega arith)
-    refused-cases false true p q =
-        let f : readAt s at ≡ readRecord s at = read-whole (leb-false (length s) at p) q in
-        let z : _≡_ {A = ℕ} 0 1 = cc in
-        absurd (omega arith)
-    refused-cases false false p q =
-        let h = leb-false (length s) at p in
-        let f : readAt s at ≡ Refused 2 at = read-cut h q in
-        record { number-is = cc; place-is = cc; walk-is = λ n. walk-cut s n at h q }
+  pub read-refused : (number place : ℕ) → readAt s at ≡ read.Refused number place → RecordRefused s at number place
+  unfolding readAt readFirst
+  read-refused number place f = by (recordsFrom s at) refl f
+    where
+      by : (w : Walk) → recordsFrom s at ≡ w → readFirst w ≡ read.Refused number place → RecordRefused s at number place
+      by end e g = absurd (let z : _≡_ {A = ℕ} 0 1 = cc in omega arith)
+      by (cut p) e g = record { number-is = cc; walk-is = cc }
+      by (next r w) e g = absurd (let z : _≡_ {A = ℕ} 0 1 = cc in omega arith)
 
-    pub read-refused : RecordRefused s at number place
-    read-refused = refused-cases (leb (length s) at) (whole s at) refl refl
-
-  module _ (e : readAt s at ≡ End) where
-    end-cases : (a b : Bool) → leb (length s) at ≡ a → whole s at ≡ b → EndRead s at
-    end-cases true b p q =
-        let h = leb-true (length s) at p in
-        record { passed = h; walk-is = λ n. walk-end s n at h }
-    end-cases false true p q =
-        let f : readAt s at ≡ readRecord s at = read-whole (leb-false (length s) at p) q in
-        let z : _≡_ {A = ℕ} 0 1 = cc in
-        absurd (omega arith)
-    end-cases false false p q =
-        let f : readAt s at ≡ Refused 2 at = read-cut (leb-false (length s) at p) q in
-        let z : _≡_ {A = ℕ} 0 1 = cc in
-        absurd (omega arith)
-
-    pub read-end : EndRead s at
-    read-end = end-cases (leb (length s) at) (whole s at) refl refl
+  pub read-end : readAt s at ≡ read.End → recordsFrom s at ≡ end
+  unfolding readAt readFirst
+  read-end f = by (recordsFrom s at) refl f
+    where
+      by : (w : Walk) → recordsFrom s at ≡ w → readFirst w ≡ read.End → recordsFrom s at ≡ end
+      by end e g = e
+      by (cut p) e g = absurd (let z : _≡_ {A = ℕ} 0 1 = cc in omega arith)
+      by (next r w) e g = absurd (let z : _≡_ {A = ℕ} 0 1 = cc in omega arith)

@@ -7,14 +7,13 @@ use mathlib.Core.List.{List, [], _∷_, _++_}
 use borrow.Author.Tests.{leb-true, leb-false}
 use lib.Dec.{leb, eqb}
 use lib.ListN.{length}
-use Rattle.scheme.specs.Lists.{select}
+use Rattle.scheme.specs.Lists.{if_then_else_, select}
 use Rattle.casefile.specs.Fields.{word}
-use Rattle.casefile.specs.Records.{Record, whole, Walk, walk, recordsOf, listed}
+use Rattle.casefile.specs.Records.{Record, whole, Walk, end, cut, next, walk, isRemark, counting, recordsOf, listed}
 use Rattle.casefile.specs.Promises.{Passed, nothing, also}
 use Rattle.casefile.specs.Kinds.{Kind, rule, number, ofKind, payloads, count}
-use Rattle.casefile.proofs.Walk.{walk-end, walk-cut, walk-next}
+use Rattle.casefile.proofs.Walk.{whole-end, payload-length, walk-end, walk-cut, walk-next}
 use Rattle.casefile.proofs.Passed.{payloads-more, payloads-other}
-use Rattle.records.proofs.cursor.Reading.{whole-end, payload-length}
 use Rattle.index.specs.entries.Known.{room, Known}
 use Rattle.rules.specs.reading.RuleBodies.{nodesIn}
 
@@ -32,6 +31,17 @@ nodes-more : (ps : List (List ℕ)) (p : List ℕ) → nodesIn (ps ++ (p ∷ [])
 unfolding nodesIn
 nodes-more [] p = omega arith
 nodes-more (q ∷ ps) p = let i = nodes-more ps p in omega arith
+
+-- those that count take no more bytes than all
+counting-fewer : (w : Walk) → bytesOf (listed (counting w)) ≤ bytesOf (listed w)
+unfolding counting listed bytesOf
+counting-fewer end = omega arith
+counting-fewer (cut p) = omega arith
+counting-fewer (next r w) = go (isRemark (r .kind)) (counting-fewer w)
+  where
+    go : (b : Bool) → bytesOf (listed (counting w)) ≤ bytesOf (listed w) → bytesOf (listed (if b then counting w else next r (counting w))) ≤ 4 + length (r .payload) + bytesOf (listed w)
+    go true ih = omega arith
+    go false ih = omega arith
 
 -- The records of a file take no more bytes than it has.
 module _ (s : List ℕ) where
@@ -54,7 +64,7 @@ module _ (s : List ℕ) where
 
   records-within : bytesOf (listed (recordsOf s)) ≤ length s
   unfolding recordsOf
-  records-within = let w = within (length s) 0 (omega arith) in omega arith
+  records-within = let w = within (length s) 0 (omega arith) in let f = counting-fewer (walk (length s) s 0) in omega arith
 
 -- the nodes of records take no more bytes than these
 none-least : 4 * nodesIn (payloads rule []) ≤ bytesOf []

@@ -96,7 +96,3 @@ module _ (file index lens counts : List ℕ) (kind start : ℕ) (p : List ℕ) w
       by rs (suc (suc (suc (suc (suc (suc (suc (suc zero)))))))) a b c d e f g h i = absurd (h refl)
       by rs (suc (suc (suc (suc (suc (suc (suc (suc (suc zero))))))))) a b c d e f g h i = absurd (i refl)
       by rs (suc (suc (suc (suc (suc (suc (suc (suc (suc (suc n)))))))))) a b c d e f g h i = refl
-
-  -- kind 0
-  pub no-kind : kind ≡ 0 → Taken file index lens counts kind start p index lens counts 3
-  no-kind z = unknown (λ e. omega arith) (λ e. omega arith) (λ e. omega arith) (λ e. omega arith) (λ e. omega arith) (λ e. omega arith) (λ e. omega arith) (λ e. omega arith) (λ e. omega arith)

@@ -18,7 +18,8 @@ use Rattle.casefile.specs.Fields.{field, word}
 use Rattle.casefile.specs.Records.{Record, whole, recordAt}
 use Rattle.casefile.proofs.Fields.{field-part}
 use Rattle.records.specs.cursor.Reading.{partOf}
-use Rattle.records.proofs.cursor.Reading.{payload-length, whole-end, part-of}
+use Rattle.casefile.proofs.Walk.{whole-end, payload-length}
+use Rattle.records.proofs.cursor.Reading.{part-of}
 use Rattle.casefile.specs.Kinds.{Kind, sort, constructor, nonterminal, rule, states, transition, type, binding, path, number, ofKind, payloads, count, placeOf}
 use Rattle.casefile.specs.Tables.{grow, sortFrom, sortsOf}
 use Rattle.casefile.proofs.Passed.{payloads-more, payloads-other}

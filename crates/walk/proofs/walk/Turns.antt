@@ -19,19 +19,19 @@ use lib.Seq.{getD-set-same}
 use Rattle.scheme.specs.Lists.{if_then_else_, lastOr, select}
 use Rattle.scheme.specs.Sorts.{o, arguments}
 use Rattle.casefile.specs.Fields.{word}
-use Rattle.casefile.specs.Records.{Record, recordAt, end, next, walk, recordsOf, listed}
+use Rattle.casefile.specs.Records.{Record, recordAt, end, next, recordsOf, listed}
 use Rattle.records.specs.cursor.Reading.{readAt, partOf}
 use Rattle.records.specs.reader.Parts.{payloadOf}
 use Rattle.records.specs.declared.cursor.Cursor.{Cursor}
 use Rattle.records.specs.declared.cursor.Read.the-variants as read
 use Rattle.records.proofs.cursor.Read.{the-type}
-use Rattle.records.proofs.cursor.Reading.{RecordRead, read-record, read-refused, read-end, read-past}
+use Rattle.records.proofs.cursor.Reading.{RecordRead, read-record, read-refused, read-end}
 use Rattle.casefile.specs.Kinds.{Kind, sort, constructor, nonterminal, rule, states, transition, type, binding, path, number, kindOf, payloads, count, ofKind}
 use Rattle.casefile.specs.Tables.{grow, sortsOf, signaturesOf}
 use Rattle.casefile.specs.Refusals.{Refusal, first, wrongLength, tooMany, tooLarge, outOfRange, misplaced, refuseAs, refuseKind, lastKind, refuseRecord, refuseWhole}
 use Rattle.casefile.specs.Cases.{refusedCase, unlessRefused, acceptedCase, caseFrom}
 use Rattle.casefile.proofs.Passed.{Tested, passed-tested}
-use Rattle.casefile.specs.Promises.{Passed, nothing, also}
+use Rattle.casefile.specs.Promises.{recordsFrom, Passed, nothing, also}
 use Rattle.casefile.proofs.Plans.{signatures-length}
 use Rattle.walk.proofs.kinds.Dispatch.{sorts-length}
 use Rattle.scheme.proofs.Lists.{or-false, and-false, last-more}
@@ -90,8 +90,6 @@ starts file index lens lens′ counts counts′ hi hz hl hc ec el =
       passed = nothing;
       lastly = refl;
       inside = omega arith;
-      fuel = length file;
-      enough = omega arith;
       same = λ flags. refl;
       all = refl;
       index-long = hi;
@@ -208,17 +206,13 @@ module _ {file index lens counts : List ℕ} {at last : ℕ} (w : Walking file i
   pub ends : (g : Rattle.records.specs.declared.cursor.Read.Read) → OneOf (1 ∷ 2 ∷ []) (tagOf the-type g) → g ≡ readAt file at → (r : Walked) → r ≡ endOf g → WalkEnds file index lens counts r
   unfolding WalkEnds caseFrom listed
   ends (read.Record place start len kind c) h e r er = absurd (⊎-elim (λ (e : 0 ≡ 1). omega arith) (λ (e : 0 ≡ 2). omega arith) h)
-  ends (read.Refused n p) h e r er = subst (WalkEnds file index lens counts) (sym er) (λ flags. sym (w .same flags) ∙ by flags (w .fuel) (w .enough))
-    where
-      by : (flags f : ℕ) → length file ≤ at + f → caseFrom flags (walk f file at) (w .rs) ≡ refusedCase (record { number = n; place = p })
-      by flags zero l = absurd (let q = read-past file at (omega arith) in let z : _≡_ {A = ℕ} 0 1 = cc in omega arith)
-      by flags (suc f) l =
-          let rr = read-refused file at n p (sym e) in
-          ap (λ z. caseFrom flags z (w .rs)) (rr .walk-is f) ∙ ap₂ (λ x y. refusedCase (record { number = x; place = y })) (sym (rr .number-is)) (sym (rr .place-is))
+  ends (read.Refused n p) h e r er = subst (WalkEnds file index lens counts) (sym er) (λ flags.
+      let rr = read-refused file at n p (sym e) in
+      sym (w .same flags) ∙ ap (λ z. caseFrom flags z (w .rs)) (rr .walk-is) ∙ ap (λ x. refusedCase (record { number = x; place = p })) (sym (rr .number-is)))
   ends read.End h e r er = subst (WalkEnds file index lens counts) (sym er) (record { passed = subst Passed is (w .passed); known = subst (Known file index lens counts) is (w .known); left = λ flags. sym (w .same flags) ∙ ap (λ z. caseFrom flags z (w .rs)) done ∙ ap (λ z. unlessRefused (refuseWhole z flags) (acceptedCase z (payloads path z))) is })
     where
-      done : walk (w .fuel) file at ≡ end
-      done = read-end file at (sym e) .walk-is (w .fuel)
+      done : recordsFrom file at ≡ end
+      done = read-end file at (sym e)
 
       is : w .rs ≡ listed (recordsOf file)
       is = sym (append-nil (w .rs)) ∙ ap (λ z. w .rs ++ listed z) (sym done) ∙ w .all
@@ -228,7 +222,7 @@ module _ {file index lens counts : List ℕ} {at last : ℕ} (w : Walking file i
     rr = read-record file at place start len kind c (sym e)
 
     r : Record
-    r = recordAt file at
+    r = recordAt file place
 
     r-kind : r .kind ≡ kind
     unfolding r recordAt
@@ -236,27 +230,16 @@ module _ {file index lens counts : List ℕ} {at last : ℕ} (w : Walking file i
 
     r-place : r .place ≡ place
     unfolding r recordAt
-    r-place = sym (rr .place-is)
+    r-place = refl
 
     -- one step of the walk
-    step-of : (f : ℕ) → length file ≤ at + f → (g : ℕ) × (f ≡ suc g)
-    step-of zero l = absurd (let h = rr .inside in omega arith)
-    step-of (suc g) l = (g, refl)
-
-    left : ℕ
-    left = step-of (w .fuel) (w .enough) .0
-
-    left-is : w .fuel ≡ suc left
-    unfolding left
-    left-is = step-of (w .fuel) (w .enough) .1
-
-    stepped : walk (w .fuel) file at ≡ next r (walk left file (c .at))
-    unfolding left r
-    stepped = ap (λ f. walk f file at) (step-of (w .fuel) (w .enough) .1) ∙ rr .walk-is left
+    stepped : recordsFrom file at ≡ next r (recordsFrom file (c .at))
+    unfolding r
+    stepped = rr .walk-is
 
     refuses : (x : Refusal) → refuseRecord (w .rs) r ≡ some x → (flags : ℕ) → caseFrom flags (recordsOf file) [] ≡ refusedCase x
     unfolding caseFrom unlessRefused
-    refuses x f flags = sym (w .same flags) ∙ ap (λ z. caseFrom flags z (w .rs)) stepped ∙ ap (λ z. unlessRefused z (caseFrom flags (walk left file (c .at)) (w .rs ++ (r ∷ [])))) f
+    refuses x f flags = sym (w .same flags) ∙ ap (λ z. caseFrom flags z (w .rs)) stepped ∙ ap (λ z. unlessRefused z (caseFrom flags (recordsFrom file (c .at)) (w .rs ++ (r ∷ [])))) f
 
     as-place : (n : ℕ) → refuseRecord (w .rs) r ≡ some (record { number = n; place = r .place }) → WalkEnds file index lens counts (walked.Refused n place)
     unfolding WalkEnds
@@ -324,7 +307,7 @@ module _ {file index lens counts : List ℕ} {at last : ℕ} (w : Walking file i
       counts-is : counts′ ≡ set counts (number k) (n + 1)
       counts-is = ec ∙ ap (λ z. stored counts z (getD counts z 0 + 1)) is-kind ∙ stored-set counts (number k) (getD counts (number k) 0 + 1) (let h = room-few k in let m = many in omega arith)
 
-      r-is : r ≡ recordAt file at
+      r-is : r ≡ recordAt file place
       unfolding r
       r-is = refl
 
@@ -356,22 +339,22 @@ module _ {file index lens counts : List ℕ} {at last : ℕ} (w : Walking file i
       known-next = by (ℕ-discrete (number k) 1) (ℕ-discrete (number k) 7)
         where
           by : Dec (number k ≡ 1) → Dec (number k ≡ 7) → Known file index′ lens′ counts′ next-records
-          by (no ne) (no ne′) = as-told (set index (base k + n) start) lens (index-other ne′) (lens-kept ne) (known-more file index lens counts (w .rs) (w .known) r at start r-is (rr .fits) (rr .start-is) k (r-kind ∙ is-kind) many (w .index-long) (w .counts-long) ne ne′)
+          by (no ne) (no ne′) = as-told (set index (base k + n) start) lens (index-other ne′) (lens-kept ne) (known-more file index lens counts (w .rs) (w .known) r place start r-is (rr .fits) (rr .start-is) k (r-kind ∙ is-kind) many (w .index-long) (w .counts-long) ne ne′)
           by (no ne) (yes e) =
-              let before = chained-before file index lens counts (w .rs) (w .known) r at start r-is (rr .fits) (rr .start-is) k (r-kind ∙ is-kind) many (w .index-long) (w .counts-long) e in
+              let before = chained-before file index lens counts (w .rs) (w .known) r place start r-is (rr .fits) (rr .start-is) k (r-kind ∙ is-kind) many (w .index-long) (w .counts-long) e in
               let small = before .heads (hashOf (r .payload)) (hash-few (r .payload)) in
               let below = latest-few (payloads type (w .rs)) (hashOf (r .payload)) n in
               let rooms = room-few k in
               let m = many in
               as-told _ lens (index-is ∙ chains-set (set index (base k + n) start) kind n (r .payload) (is-kind ∙ e) (omega arith) (omega arith)) (lens-kept ne)
-              (known-type file index lens counts (w .rs) (w .known) r at start r-is (rr .fits) (rr .start-is) k (r-kind ∙ is-kind) many (w .index-long) (w .counts-long) e)
+              (known-type file index lens counts (w .rs) (w .known) r place start r-is (rr .fits) (rr .start-is) k (r-kind ∙ is-kind) many (w .index-long) (w .counts-long) e)
           by (yes e) d =
               let is-sort : k ≡ sort = number-inj k sort e in
               let (listed-to, few-arguments) = arguments-few is-sort in
               let len = getD lens (word (r .payload) 2) 0 + 1 in
               as-told (set index (base k + n) start) (set lens (n + 1) len) (index-other (λ f. let z : _≡_ {A = ℕ} 1 7 = sym e ∙ f in omega arith))
               (el ∙ ap₂ (λ x y. lensAfter lens kind (getD counts x 0) y) is-kind (r-payload p ep) ∙ simp (eq-eqb kind 1 (is-kind ∙ e)) (stored-set lens (n + 1) len (omega arith)))
-              (known-sort file index lens counts (w .rs) (w .known) r at start r-is (rr .fits) (rr .start-is) k (r-kind ∙ is-kind) many (w .index-long) (w .counts-long) is-sort len listed-to refl (w .lens-long))
+              (known-sort file index lens counts (w .rs) (w .known) r place start r-is (rr .fits) (rr .start-is) k (r-kind ∙ is-kind) many (w .index-long) (w .counts-long) is-sort len listed-to refl (w .lens-long))
 
       pub goes-on : Walking file index′ lens′ counts′ (c .at) kind
       unfolding caseFrom unlessRefused listed
@@ -382,10 +365,8 @@ module _ {file index lens counts : List ℕ} {at last : ℕ} (w : Walking file i
             passed = also r (w .passed) (passes .0);
             lastly = last-kind (w .rs) r ∙ r-kind;
             inside = rr .next-fits;
-            fuel = left;
-            enough = let a = w .enough in let b = step-of (w .fuel) (w .enough) .1 in let d = rr .next-is in omega (arith, left-is);
-            same = λ flags. sym (ap (λ z. unlessRefused z (caseFrom flags (walk left file (c .at)) next-records)) (passes .0)) ∙ sym (ap (λ z. caseFrom flags z (w .rs)) stepped) ∙ w .same flags;
-            all = append-assoc (w .rs) (r ∷ []) (listed (walk left file (c .at))) ∙ sym (ap (λ z. w .rs ++ listed z) stepped) ∙ w .all;
+            same = λ flags. sym (ap (λ z. unlessRefused z (caseFrom flags (recordsFrom file (c .at)) next-records)) (passes .0)) ∙ sym (ap (λ z. caseFrom flags z (w .rs)) stepped) ∙ w .same flags;
+            all = append-assoc (w .rs) (r ∷ []) (listed (recordsFrom file (c .at))) ∙ sym (ap (λ z. w .rs ++ listed z) stepped) ∙ w .all;
             index-long = subst (λ z. placesAt ≤ z) (sym (ap length index-is ∙ chains-length (set index (base k + n) start) kind n (r .payload) ∙ length-set index (base k + n) start)) (w .index-long);
             lens-long = ap length el ∙ lens-length lens kind (getD counts kind 0) p ∙ w .lens-long;
             counts-long = ap length counts-is ∙ length-set counts (number k) (n + 1) ∙ w .counts-long;
@@ -416,7 +397,7 @@ module _ {file index lens counts : List ℕ} {last : ℕ} where
             let rr = read-record file at place start len kind c (sym (sym is ∙ eg)) in
             let told = taken .entered ez in
             record {
-              less = (let a = rr .inside in let b = rr .next-is in let d = rr .next-fits in omega arith);
+              less = (let a = rr .inside in let b = rr .next-is in let d = rr .next-fits in let f = rr .onward in omega arith);
               walking = λ few w. goes-on w place start len kind c (sym is ∙ eg) p index′ lens′ counts′ (ep ∙ ap (payloadOf file) is) up (sym ez ∙ taken .code (w .rs) (w .known) (w .passed)) few (told .index-is) (told .lens-are) (told .counts-are);
             };
       }

@@ -1,17 +1,17 @@
 -- What our own crates promise each other; nothing here has to be believed.
 -- The walk over a file, and how it ends.
-use Prim.Native.Nat.{ℕ, _+_, _-_, _<_, _≤_}
+use Prim.Native.Nat.{ℕ, _-_, _<_, _≤_}
 use mathlib.Core.Path.{_≡_}
 use mathlib.Core.Bool.{Bool, true, false}
 use mathlib.Core.List.{List, [], _++_}
 use lib.ListN.{length}
-use Rattle.casefile.specs.Records.{Record, walk, recordsOf, listed}
+use Rattle.casefile.specs.Records.{Record, recordsOf, listed}
 use Rattle.records.specs.cursor.Reading.{readAt}
 use Rattle.records.specs.reader.Parts.{payloadOf}
 use Rattle.casefile.specs.Kinds.{Kind, payloads}
 use Rattle.casefile.specs.Refusals.{lastKind, refuseWhole}
 use Rattle.casefile.specs.Cases.{refusedCase, unlessRefused, acceptedCase, caseFrom}
-use Rattle.casefile.specs.Promises.{Passed}
+use Rattle.casefile.specs.Promises.{recordsFrom, Passed}
 use Rattle.index.specs.layout.Layout.{maxFile, placesAt, kinds, allSorts}
 use Rattle.index.specs.entries.Known.{Known}
 use Rattle.walk.specs.declared.walk.Walked.{Walked}
@@ -25,10 +25,8 @@ pub record Walking (file index lens counts : List ℕ) (at last : ℕ) : Type 0 
   pub passed : Passed rs
   pub lastly : lastKind rs ≡ last
   pub inside : at ≤ length file
-  pub fuel : ℕ
-  pub enough : length file ≤ at + fuel
-  pub same : (flags : ℕ) → caseFrom flags (walk fuel file at) rs ≡ caseFrom flags (recordsOf file) []
-  pub all : rs ++ listed (walk fuel file at) ≡ listed (recordsOf file)
+  pub same : (flags : ℕ) → caseFrom flags (recordsFrom file at) rs ≡ caseFrom flags (recordsOf file) []
+  pub all : rs ++ listed (recordsFrom file at) ≡ listed (recordsOf file)
   pub index-long : placesAt ≤ length index
   pub lens-long : length lens ≡ allSorts
   pub counts-long : length counts ≡ kinds

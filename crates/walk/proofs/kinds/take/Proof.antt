@@ -1,5 +1,5 @@
 use Rattle.casefile.specs.Kinds.{Kind, number}
-use Rattle.walk.proofs.kinds.Taking.{of-kind, unknown, no-kind}
+use Rattle.walk.proofs.kinds.Taking.{of-kind, unknown}
 use borrow.Author.Needs.{needs}
 use Rattle.walk.proofs.kinds.take.Statement.{statement}
 use Rattle.walk.proofs.kinds.take.Tie as tie
@@ -128,16 +128,7 @@ unfolding number
 returns-9 c = of-kind _ _ _ _ _ _ _ _ _ _ Kind.path _ (c .before .before .before .before .before .before .before .match .keys9) (c .before .before .before .before .take-path .ensures _ _)
 
 returns-10 : tie.Need-returns-10
-returns-10 c = let m = c .before .before .match .rest .0 in unknown _ _ _ _ _ _ _ (m .0 .0 .0 .0 .0 .0 .0 .0 .1) (m .0 .0 .0 .0 .0 .0 .0 .1) (m .0 .0 .0 .0 .0 .0 .1) (m .0 .0 .0 .0 .0 .1) (m .0 .0 .0 .0 .1) (m .0 .0 .0 .1) (m .0 .0 .1) (m .0 .1) (m .1)
-
-returns-11 : tie.Need-returns-11
-returns-11 c = let m = c .before .before .match .rest .0 in unknown _ _ _ _ _ _ _ (m .0 .0 .0 .0 .0 .0 .0 .0 .1) (m .0 .0 .0 .0 .0 .0 .0 .1) (m .0 .0 .0 .0 .0 .0 .1) (m .0 .0 .0 .0 .0 .1) (m .0 .0 .0 .0 .1) (m .0 .0 .0 .1) (m .0 .0 .1) (m .0 .1) (m .1)
-
-returns-12 : tie.Need-returns-12
-returns-12 c = no-kind _ _ _ _ _ _ _ (c .match .keys10)
-
-returns-13 : tie.Need-returns-13
-returns-13 c = let m = c .before .match .rest .0 in unknown _ _ _ _ _ _ _ (m .0 .0 .0 .0 .0 .0 .0 .0 .1) (m .0 .0 .0 .0 .0 .0 .0 .1) (m .0 .0 .0 .0 .0 .0 .1) (m .0 .0 .0 .0 .0 .1) (m .0 .0 .0 .0 .1) (m .0 .0 .0 .1) (m .0 .0 .1) (m .0 .1) (m .1)
+returns-10 c = let m = c .match .rest in unknown _ _ _ _ _ _ _ (m .0 .0 .0 .0 .0 .0 .0 .0 .1) (m .0 .0 .0 .0 .0 .0 .0 .1) (m .0 .0 .0 .0 .0 .0 .1) (m .0 .0 .0 .0 .0 .1) (m .0 .0 .0 .0 .1) (m .0 .0 .0 .1) (m .0 .0 .1) (m .0 .1) (m .1)
 
 pub take-spec : {M : Type 1} → statement M
 take-spec =
@@ -181,7 +172,4 @@ take-spec =
     same-length-19
     same-length-20
     returns-9
-    returns-10
-    returns-11
-    returns-12
-    returns-13)
+    returns-10)
