@@ -97,6 +97,16 @@ module _ (s : List ℕ) (at : ℕ) (q : whole s at ≡ true) where
         walk-next joined n (length before) (omega arith) (whole-fits joined (length before) (omega arith))
         ∙ ap₂ (λ t x. next (recordAt joined (length before)) (walk n t x)) (sym (append-assoc before (part s at) rest)) (omega arith)
 
+-- the bytes that records fill: four, and the payload
+unfoldable pub bytesOf : List Record → ℕ
+bytesOf [] = 0
+bytesOf (r ∷ rs) = 4 + length (r .payload) + bytesOf rs
+
+few-records : (rs : List Record) → length rs ≤ bytesOf rs
+unfolding bytesOf
+few-records [] = omega arith
+few-records (r ∷ rs) = let h = few-records rs in omega arith
+
 -- The records that count.
 -- r is a whole record of the file, at a place or behind it, and no remark
 record CountsIn (s : List ℕ) (at : ℕ) (r : Record) : Type 0 where
@@ -147,16 +157,17 @@ module _ (s : List ℕ) where
         counted = rw counts (ap (next there) (ih .counted));
       })
 
-  -- the copies are no fewer bytes than records, and no more than what is left of the file
-  copied-length : {at : ℕ} {rs : List Record} → AllCount s at rs → at ≤ length s → (length rs ≤ length (copied s rs)) × (at + length (copied s rs) ≤ length s)
-  unfolding copied
-  copied-length nothing h = omega arith
+  -- the copies have the bytes of the records, and these are no more than what is left of the file
+  copied-length : {at : ℕ} {rs : List Record} → AllCount s at rs → at ≤ length s → (length (copied s rs) ≡ bytesOf rs) × (at + bytesOf rs ≤ length s)
+  unfolding copied bytesOf recordAt
+  copied-length nothing h = (refl, omega arith)
   copied-length (also {r = r} {rs = rs} c cs) h =
       let e = ap length (bytes-of c) ∙ part-length s (r .place) (c .fits) in
+      let p = ap (λ (x : Record). length (x .payload)) (c .is) ∙ payload-length s (r .place) (c .fits) in
       let l = length-append (bytesAt s r) (copied s rs) in
       let i = copied-length cs (whole-end s (r .place) (c .fits)) in
       let o = c .onward in
-      omega arith
+      (omega arith, omega arith)
 
   counted-all : AllCount s 0 (listed (recordsOf s))
   unfolding recordsOf
@@ -164,7 +175,10 @@ module _ (s : List ℕ) where
 
   without-walk : Copy (listed (recordsOf s)) (walk (length (withoutRemarks s)) (withoutRemarks s) 0)
   unfolding withoutRemarks
-  without-walk = copied-walk counted-all [] (length (copied s (listed (recordsOf s)))) (copied-length counted-all (omega arith) .0)
+  without-walk =
+      let h = copied-length counted-all (omega arith) in
+      let n = few-records (listed (recordsOf s)) in
+      copied-walk counted-all [] (length (copied s (listed (recordsOf s)))) (omega arith)
 
   -- all records of the file without its remarks say what the file says: no remark is among them
   pub without-all : told (walk (length (withoutRemarks s)) (withoutRemarks s) 0) ≡ contents s
@@ -184,3 +198,7 @@ module _ (s : List ℕ) where
   pub without-short : length (withoutRemarks s) ≤ length s
   unfolding withoutRemarks
   without-short = let h = copied-length counted-all (omega arith) in omega arith
+
+  -- the records of a file that count take no more bytes than it has
+  pub records-within : bytesOf (listed (recordsOf s)) ≤ length s
+  records-within = let h = copied-length counted-all (omega arith) in omega arith

@@ -40,7 +40,8 @@ impl<'a> Reader<'a> {
         Reader { file, at: 0 }
     }
 
-    // The record at the reader, refusal 2 where it runs past the end, the end where nothing is left.
+    // The next record that counts, from the reader on; refusal 2 where a record or a remark runs past the end; the end where
+    // nothing is left.
     pub fn next(self) -> Read
         ensures { λ r. ⌜ r ≡ readAt (now (self .entry .file)) (self .entry .at) ⌝ }
     {
