@@ -4,11 +4,12 @@ use mathlib.Core.List.{List, [], _∷_, _++_, map}
 use lib.ListN.{length, take, drop}
 use Rattle.casefile.specs.Records.{Record, Walk, recordsOf, listed}
 
--- what a record says: all but its place
+-- a kind and a payload
 pub record Content : Type 0 where
   pub kind : ℕ
   pub payload : List ℕ
 
+-- what a record says: all but its place
 unfoldable pub contentOf : Record → Content
 contentOf r = record { kind = r .kind; payload = r .payload }
 
