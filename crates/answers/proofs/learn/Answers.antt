@@ -1,0 +1,26 @@
+-- `learn` meets its contract.
+use native.Mathlib.Omega.{arith}
+use mathlib.Core.Logic.{⊎_elim, inl, inr}
+use lib.Bits.{and_le_l}
+use lib.ListN.{length-set}
+use Rattle.answers.proofs.Answers.{learns_nothing, learns}
+use borrow.Author.Rules.{rules}
+use Rattle.answers.proofs.learn.Goals as goal
+
+pub returns-then-cell-ge-ANSWERS : goal.returns-then-cell-ge-ANSWERS
+returns-then-cell-ge-ANSWERS c = learns_nothing _ _ _ _ _ _ _
+
+pub returns-then-memo-cell : goal.returns-then-memo-cell
+returns-then-memo-cell c = learns_nothing _ _ _ _ _ _ _
+
+pub bounds-memo-cell-3 : goal.bounds-memo-cell-3
+bounds-memo-cell-3 c = simp length-set (omega (arith, c.if-memo-cell.false))
+
+pub overflow_sub-memo : goal.overflow_sub-memo
+overflow_sub-memo c = and_le_l _ _
+
+pub bounds-memo-cell-4 : goal.bounds-memo-cell-4
+bounds-memo-cell-4 c = simp length-set (omega (arith, c.if-memo-cell.false))
+
+pub returns : goal.returns
+returns c = learns _ _ _ _ _ _ _ _ _ _ c.cell_of-cell.ensures c.if-cell-ge-ANSWERS.false c.if-memo-cell.false (⊎_elim (λ w. inl (record { stamped = w.0.taken; same_known = w.3; same-had = w.4 })) (λ w. inr w.1) c.if-memo-cell-2.branch)

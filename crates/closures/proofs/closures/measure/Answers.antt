@@ -1,0 +1,38 @@
+-- `measure` meets its contract. The invariant: the terms that are left stand from `next` on.
+use Prim.Native.Nat.{◌-◌}
+use native.Mathlib.Omega.{arith}
+use mathlib.Core.Path.{refl}
+use Rattle.closures.proofs.closures.Measuring.{Measuring, measure_start, measure_done, measure_far, measure_next}
+use borrow.Author.Rules.{rules}
+use Rattle.index.specs.layout.Layout.{place_units}
+use Rattle.closures.proofs.closures.measure.Goals as goal
+
+pub loop-need-init : goal.loop-need-init
+loop-need-init c = measure_start _ _ _ _ _
+
+pub returns-then-next-ge-PLACE_UNITS : goal.returns-then-next-ge-PLACE_UNITS
+returns-then-next-ge-PLACE_UNITS c = measure_far c.loop-need.invariant c.if-next-ge-PLACE_UNITS.true c.loop-need-test.true
+
+pub overflow_add-nodes : goal.overflow_add-nodes
+overflow_add-nodes c = let w = c.loop-need.invariant.sums in let v = c.weigh-nodes.ensures.small in omega arith
+
+pub overflow_sub-need : goal.overflow_sub-need
+overflow_sub-need c = omega arith
+
+pub overflow_add-next : goal.overflow_add-next
+overflow_add-next c = omega arith
+
+pub overflow_add-need : goal.overflow_add-need
+overflow_add-need c = let w = c.loop-need.invariant.needs in let v = c.byte_at.ensures.bound in omega arith
+
+pub overflow_add-next-in-loop-need : goal.overflow_add-next-in-loop-need
+overflow_add-next-in-loop-need c = omega arith
+
+pub loop-need-smaller : goal.loop-need-smaller
+loop-need-smaller c = omega arith
+
+pub loop-need-preserved : goal.loop-need-preserved
+loop-need-preserved c = measure_next c.loop-need.invariant c.loop-need-test.true _ _ c.weigh-nodes.ensures c.byte_at.ensures.value c.byte_at.ensures.bound _ _ _ refl refl refl
+
+pub returns : goal.returns
+returns c = measure_done c.loop-need.invariant (omega arith)

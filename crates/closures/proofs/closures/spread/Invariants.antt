@@ -1,0 +1,13 @@
+-- `spread` meets its contract. The invariant: the first i closures are written, and their nodes summed.
+use Prim.Native.Nat.{◌-◌}
+use native.Mathlib.Omega.{arith}
+use mathlib.Core.Path.{refl}
+use Rattle.closures.proofs.closures.Spreading.{Spreading, spread_start, spread_over, spread_end, spread_next}
+use borrow.Author.Rules.{rules}
+use Rattle.closures.proofs.closures.spread.Given as goal
+
+abbrev pub invariant-loop-i : goal.invariant-loop-i
+invariant-loop-i l = Spreading l.file l.initial.cells l.at l.m l.block l.count l.low l.cells l.i l.next l.total
+
+abbrev pub decreases-loop-i : goal.decreases-loop-i
+decreases-loop-i l = l.m - l.i

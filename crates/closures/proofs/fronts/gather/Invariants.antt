@@ -1,0 +1,12 @@
+-- `gather` meets its contract. The invariant: the term is the node at `place` with its frame, and the arguments gathered.
+use native.Mathlib.Omega.{arith}
+use mathlib.Core.Path.{refl, ◌∙◌}
+use Rattle.closures.proofs.fronts.Gathering.{Gathering, gather_start, gather_high, gather_far, gather_over, gather_head, gather_free, gather_rising, gather_next}
+use borrow.Author.Rules.{rules}
+use Rattle.closures.proofs.fronts.gather.Given as goal
+
+abbrev pub invariant-loop-place : goal.invariant-loop-place
+invariant-loop-place l = Gathering l.file l.initial.cells l.at l.block l.count l.top l.cells l.free l.place l.under l.known l.total
+
+abbrev pub decreases-loop-place : goal.decreases-loop-place
+decreases-loop-place l = l.under

@@ -1,0 +1,14 @@
+-- `unions_of` meets its contract. The invariant: what each union lacks still is in the bits that are left.
+use Prim.Native.Nat.{◌-◌, ◌≤◌}
+use mathlib.Core.Path.{refl}
+use native.Mathlib.Omega.{arith}
+use lib.Bits.{and_le_l, and_le_r}
+use Rattle.fits.proofs.masks.Bits.{lowest}
+use Rattle.fits.proofs.masks.Uniting.{UnitedTo, united_none, united_more, united_all}
+use Rattle.fits.proofs.masks.unions_of.Given as goal
+
+abbrev pub invariant-loop-left : goal.invariant-loop-left
+invariant-loop-left l = (l.left ≤ l.word) × UnitedTo l.tos l.word l.results l.left × UnitedTo l.froms l.word l.arguments l.left
+
+abbrev pub decreases-loop-left : goal.decreases-loop-left
+decreases-loop-left l = l.left

@@ -1,0 +1,13 @@
+-- `fits_sort` meets its contract.
+use borrow.Author.Rules.{rules}
+use Rattle.fits.proofs.misfits.Misfits.{tree_tested, unlisted_tested, listed_tested}
+use Rattle.fits.proofs.misfits.fits_sort.Goals as goal
+
+pub returns-then-s-eq0 : goal.returns-then-s-eq0
+returns-then-s-eq0 c = tree_tested _ _ c.args.fit.now _ _ _ _ c.if-s-eq0.true c.place_at.ensures.value c.length_at.ensures
+
+pub returns-then-s-gt-MAX_SORTS : goal.returns-then-s-gt-MAX_SORTS
+returns-then-s-gt-MAX_SORTS c = unlisted_tested _ _ c.args.fit.now _ _ _ c.if-s-gt-MAX_SORTS.true
+
+pub returns : goal.returns
+returns c = listed_tested _ _ c.args.fit.now _ _ _ c.if-s-eq0.false c.mask_at-sorts.ensures

@@ -1,0 +1,14 @@
+-- `next_marked` meets its contract. The invariant: no number from the first on and below n is marked.
+use Prim.Native.Nat.{◌+◌, ◌-◌, ◌/◌, ◌%◌, ◌^◌}
+use native.Mathlib.Omega.{arith}
+use borrow.Author.Rules.{rules}
+use lib.Count.{trailing_le}
+use Rattle.marks.proofs.Sets.{passed_none, passed_word, passed_zeros}
+use Rattle.marks.proofs.briefs.Passing.{Passes, passes_none, passes_on, marked_end, marked_here, brief_past, brief_ends, passes_brief}
+use Rattle.marks.proofs.briefs.next_marked.Given as goal
+
+abbrev pub invariant-loop-n : goal.invariant-loop-n
+invariant-loop-n l = Passes l.words l.at l.brief l.from l.n
+
+abbrev pub decreases-loop-n : goal.decreases-loop-n
+decreases-loop-n l = l.end - l.n

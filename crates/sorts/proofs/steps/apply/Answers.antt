@@ -1,0 +1,20 @@
+-- `apply` meets its contract.
+use mathlib.Core.Path.{◌∙◌}
+use Rattle.sorts.proofs.steps.Offs.{off_tree_misfit, off_tree, off_none, off_misfit, off_listed}
+use borrow.Author.Rules.{rules}
+use Rattle.sorts.proofs.steps.apply.Goals as goal
+
+pub returns-then-argument-ne0 : goal.returns-then-argument-ne0
+returns-then-argument-ne0 c = λ sorts s t w ch ca. off_tree_misfit w c.if-head-gt-UNLISTED.true c.if-argument-ne0.true ch ca
+
+pub returns-then-head-gt-UNLISTED : goal.returns-then-head-gt-UNLISTED
+returns-then-head-gt-UNLISTED c = λ sorts s t w ch ca. off_tree w _ c.if-head-gt-UNLISTED.true c.if-argument-ne0.false c.place_at.ensures.value ch ca
+
+pub returns-then-head-eq0 : goal.returns-then-head-eq0
+returns-then-head-eq0 c = λ sorts s t w ch ca. off_none w c.if-head-eq0.true ch
+
+pub returns-then-argument-from : goal.returns-then-argument-from
+returns-then-argument-from c = λ sorts s t w ch ca. off_misfit w c.if-head-gt-UNLISTED.false c.if-head-eq0.false (λ e. c.if-argument-from.true (rw c.place_at-from.ensures.value e)) ch ca
+
+pub returns : goal.returns
+returns c = λ sorts s t w ch ca. let v = c.place_at-from.ensures.value in off_listed w _ c.if-head-gt-UNLISTED.false c.if-head-eq0.false (c.if-argument-from.false ∙ v) c.place_at-2.ensures.value ch ca

@@ -1,0 +1,13 @@
+use Rattle.transitions.proofs.table.Meaning.{all_rows}
+use Prim.Native.Nat.{◌-◌}
+use native.Mathlib.Omega.{arith}
+use borrow.Author.Rules.{rules}
+use Rattle.transitions.specs.table.Moves.{Sofar}
+use Rattle.transitions.proofs.table.Filling.{sofar_none, sofar_put, sofar_state, sofar_constructor}
+use Rattle.transitions.proofs.table.moves.Given as goal
+
+abbrev pub invariant-loop-k : goal.invariant-loop-k
+invariant-loop-k l = Sofar l.file l.index l.n l.t l.k
+
+abbrev pub decreases-loop-k : goal.decreases-loop-k
+decreases-loop-k l = l.k
