@@ -97,8 +97,10 @@ def read(path):
 
 
 def is_own(path):
-    """Whether a file of antt is one of specs/ or a file of lemmas."""
-    return os.path.basename(path) not in ("Proof.antt", "Answers.antt", "Invariants.antt")
+    """Whether a file of antt is one of specs/ or a file of lemmas, and no function's own proof."""
+    if os.path.basename(path) not in ("Proof.antt", "Answers.antt", "Invariants.antt"):
+        return True
+    return os.path.basename(os.path.dirname(path)) in ("specs", "proofs")
 
 
 def spelled(name):

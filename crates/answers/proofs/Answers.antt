@@ -23,14 +23,14 @@ pub fresh : (memo : List ℕ) (wide stamp at goal : ℕ) (b : Bool) → Under me
 fresh memo wide stamp at goal b u s = let low = u (at * wide + goal / 32) in let is = s.stamped in omega arith
 
 -- the test of the first word of a cell
-pub not-stamped : (memo : List ℕ) (cell stamp : ℕ) → Stamped memo cell stamp false
-not-stamped memo cell stamp = record { in_cells = λ e. absurd (never e); room = λ e. absurd (never e); first = λ e. absurd (never e) }
+pub not_stamped : (memo : List ℕ) (cell stamp : ℕ) → Stamped memo cell stamp false
+not_stamped memo cell stamp = record { in_cells = λ e. absurd (never e); room = λ e. absurd (never e); first = λ e. absurd (never e) }
   where
     never : false ≡ true → ⊥
     never e = let z : ◌≡◌ {A = ℕ} 0 1 = cc in omega arith
 
-pub stamped-is : (memo : List ℕ) (cell stamp : ℕ) → cell < 25344 → cell + 3 ≤ length memo → Stamped memo cell stamp (eqb (get_or memo cell 0) stamp)
-stamped-is memo cell stamp h room = record { in_cells = λ e. h; room = λ e. room; first = eqb-true (get_or memo cell 0) stamp }
+pub stamped_is : (memo : List ℕ) (cell stamp : ℕ) → cell < 25344 → cell + 3 ≤ length memo → Stamped memo cell stamp (eqb (get_or memo cell 0) stamp)
+stamped_is memo cell stamp h room = record { in_cells = λ e. h; room = λ e. room; first = eqb-true (get_or memo cell 0) stamp }
 
 -- an answer, read from its cell
 pub says : (memo : List ℕ) (wide stamp at goal cell : ℕ) (b : Bool) → Covered wide at goal → cell ≡ cell_at wide at goal → get_or memo cell 0 ≡ stamp → bit_of (goal % 32) (get_or memo (cell + 1) 0) ≡ 1 → bit_of (goal % 32) (get_or memo (cell + 2) 0) ≡ bit b → Says memo wide stamp at goal b
@@ -44,10 +44,10 @@ says memo wide stamp at goal cell b c e s k a =
 
 -- goals of one word stand in one cell
 word_cell : (wide at goal h : ℕ) → h / 32 ≡ goal / 32 → Covered wide at goal → Covered wide at h × (cell_at wide at goal ≡ cell_at wide at h)
-word_cell wide at goal h e c = (record { narrow = c.narrow; node_in = c.node-in; goal-in = omega (arith, c.goal-in) }, ap (λ x. (at * wide + x) * 3) (sym e))
+word_cell wide at goal h e c = (record { narrow = c.narrow; node_in = c.node_in; goal_in = omega (arith, c.goal_in) }, ap (λ x. (at * wide + x) * 3) (sym e))
 
-pub looks-nothing : (memo : List ℕ) (wide stamp at goal : ℕ) (r : Outlook) → r.had ≡ 0 → r.lacked ≡ 0 → Looks memo wide stamp at goal r
-looks-nothing memo wide stamp at goal r a b =
+pub looks_nothing : (memo : List ℕ) (wide stamp at goal : ℕ) (r : Outlook) → r.had ≡ 0 → r.lacked ≡ 0 → Looks memo wide stamp at goal r
+looks_nothing memo wide stamp at goal r a b =
     record {
       yes = λ h w e. let z = ap (bit_of (h % 32)) a in let n = zero_bit (h % 32) in absurd (omega arith);
       no = λ h w e. let z = ap (bit_of (h % 32)) b in let n = zero_bit (h % 32) in absurd (omega arith);
@@ -84,22 +84,22 @@ learns_nothing memo wide stamp at goal known had = record { long = refl; told = 
 pub record Kept (memo : List ℕ) (cell stamp old said : ℕ) : Type 0 where
   pub stamped : get_or memo cell 0 ≡ stamp
   pub same_known : old ≡ get_or memo (cell + 1) 0
-  pub same-had : said ≡ get_or memo (cell + 2) 0
+  pub same_had : said ≡ get_or memo (cell + 2) 0
 
 -- what is had of what was known and of what is known now: a new answer stands in place of an old one
 abbrev pub joined : ℕ → ℕ → ℕ → ℕ
 joined said known had = bit_or (said - bit_and said known) (bit_and had known)
 
 module _ (k said known had : ℕ) where
-  joined-old : bit_of k known ≡ 0 → bit_of k (joined said known had) ≡ bit_of k said
-  joined-old z =
+  joined_old : bit_of k known ≡ 0 → bit_of k (joined said known had) ≡ bit_of k said
+  joined_old z =
       let o = or_bit k (said - bit_and said known) (bit_and had known) in
       let m = minus_bit k said known in
       let a = and_bit k had known in
       omega arith
 
-  joined-new : bit_of k known ≡ 1 → bit_of k (joined said known had) ≡ bit_of k had
-  joined-new e =
+  joined_new : bit_of k known ≡ 1 → bit_of k (joined said known had) ≡ bit_of k had
+  joined_new e =
       let o = or_bit k (said - bit_and said known) (bit_and had known) in
       let m = minus_bit k said known in
       let a = and_bit k had known in
@@ -125,8 +125,8 @@ module _ (memo : List ℕ) (wide stamp at goal cell known had old said : ℕ) (v
   stays : (j h x : ℕ) → (cell_at wide j h ≡ cell → ⊥) → x ≤ 2 → get_or after (cell_at wide j h + x) 0 ≡ get_or memo (cell_at wide j h + x) 0
   stays j h x d l = written_other memo cell stamp second third (cell_at wide j h + x) (λ f. omega arith) (λ f. omega arith) (λ f. omega arith)
 
-  told-other : (s j h : ℕ) (c : Bool) → (cell_at wide j h ≡ cell → ⊥) → Says after wide s j h c → Says memo wide s j h c
-  told-other s j h c d y =
+  told_other : (s j h : ℕ) (c : Bool) → (cell_at wide j h ≡ cell → ⊥) → Says after wide s j h c → Says memo wide s j h c
+  told_other s j h c d y =
       record {
         covered = y.covered;
         stamped = sym (written_other memo cell stamp second third (cell_at wide j h) d (λ f. omega arith) (λ f. omega arith)) ∙ y.stamped;
@@ -136,8 +136,8 @@ module _ (memo : List ℕ) (wide stamp at goal cell known had old said : ℕ) (v
 
   -- an answer of this cell is a new one, or it was there before
   module _ (s j h : ℕ) (c : Bool) (f : cell_at wide j h ≡ cell) (y : Says after wide s j h c) where
-    is-stamp : s ≡ stamp
-    is-stamp = sym y.stamped ∙ ap (λ x. get_or after x 0) f ∙ written_first memo cell stamp second third room
+    is_stamp : s ≡ stamp
+    is_stamp = sym y.stamped ∙ ap (λ x. get_or after x 0) f ∙ written_first memo cell stamp second third room
 
     is_known : bit_of (h % 32) second ≡ 1
     is_known = ap (bit_of (h % 32)) (sym (ap (λ x. get_or after (x + 1) 0) f ∙ written_second memo cell stamp second third room)) ∙ y.known
@@ -146,38 +146,38 @@ module _ (memo : List ℕ) (wide stamp at goal cell known had old said : ℕ) (v
     is_answer = ap (bit_of (h % 32)) (sym (ap (λ x. get_or after (x + 2) 0) f ∙ written_third memo cell stamp second third room)) ∙ y.answer
 
     is_place : (j ≡ at) × (h / 32 ≡ goal / 32)
-    is_place = let w = y.covered.goal-in in let w' = v.goal-in in same_place wide j (h / 32) at (goal / 32) w w' (omega arith)
+    is_place = let w = y.covered.goal_in in let w' = v.goal_in in same_place wide j (h / 32) at (goal / 32) w w' (omega arith)
 
-    told-old : bit_of (h % 32) known ≡ 0 → Says memo wide s j h c
-    told-old z = go kept
+    told_old : bit_of (h % 32) known ≡ 0 → Says memo wide s j h c
+    told_old z = go kept
       where
         before : bit_of (h % 32) old ≡ 1
         before = let o = or_bit (h % 32) old known in let k = is_known in omega arith
 
         go : Kept memo cell stamp old said ⊎ (old ≡ 0) → Says memo wide s j h c
         go (inr n) = let o = ap (bit_of (h % 32)) n in let k = zero_bit (h % 32) in let w = before in absurd (omega arith)
-        go (inl o) = says memo wide s j h cell c y.covered (sym f) (o.stamped ∙ sym is-stamp) (ap (bit_of (h % 32)) (sym o.same_known) ∙ before) (ap (bit_of (h % 32)) (sym o.same-had) ∙ sym (joined-old (h % 32) said known had z) ∙ is_answer)
+        go (inl o) = says memo wide s j h cell c y.covered (sym f) (o.stamped ∙ sym is_stamp) (ap (bit_of (h % 32)) (sym o.same_known) ∙ before) (ap (bit_of (h % 32)) (sym o.same_had) ∙ sym (joined_old (h % 32) said known had z) ∙ is_answer)
 
     told_here : Says memo wide s j h c ⊎ Entered s j h c
     told_here = go (bit_two (h % 32) known)
       where
         go : (bit_of (h % 32) known ≡ 0) ⊎ (bit_of (h % 32) known ≡ 1) → Says memo wide s j h c ⊎ Entered s j h c
-        go (inl z) = inl (told-old z)
-        go (inr k) = inr (is-stamp, is_place.0, is_place.1, k, sym (joined-new (h % 32) said known had k) ∙ is_answer)
+        go (inl z) = inl (told_old z)
+        go (inr k) = inr (is_stamp, is_place.0, is_place.1, k, sym (joined_new (h % 32) said known had k) ∙ is_answer)
 
-  under-after : (bound : ℕ) → stamp < bound → Under memo bound → Under after bound
-  under-after bound l u i = go (ℕ_discrete (i * 3) cell)
+  under_after : (bound : ℕ) → stamp < bound → Under memo bound → Under after bound
+  under_after bound l u i = go (ℕ_discrete (i * 3) cell)
     where
       go : Dec (i * 3 ≡ cell) → get_or after (i * 3) 0 < bound
       go (yes f) = let x = ap (λ x. get_or after x 0) f ∙ written_first memo cell stamp second third room in omega arith
       go (no d) = let x = written_other memo cell stamp second third (i * 3) d (λ f. omega arith) (λ f. omega arith) in let o = u i in omega arith
 
-  told-all : (s j h : ℕ) (c : Bool) → Says after wide s j h c → Dec (cell_at wide j h ≡ cell) → Says memo wide s j h c ⊎ Entered s j h c
-  told-all s j h c y (yes f) = told_here s j h c f y
-  told-all s j h c y (no d) = inl (told-other s j h c d y)
+  told_all : (s j h : ℕ) (c : Bool) → Says after wide s j h c → Dec (cell_at wide j h ≡ cell) → Says memo wide s j h c ⊎ Entered s j h c
+  told_all s j h c y (yes f) = told_here s j h c f y
+  told_all s j h c y (no d) = inl (told_other s j h c d y)
 
   entered : Learns memo wide stamp at goal known had after
-  entered = record { long = written_long memo cell stamp second third; told = λ s j h c y. told-all s j h c y (ℕ_discrete (cell_at wide j h) cell); under = under-after }
+  entered = record { long = written_long memo cell stamp second third; told = λ s j h c y. told_all s j h c y (ℕ_discrete (cell_at wide j h) cell); under = under_after }
 
 pub learns : (memo : List ℕ) (wide stamp at goal cell known had old said : ℕ) → IsCell wide at goal cell → cell < 25344 → cell + 3 ≤ length memo → Kept memo cell stamp old said ⊎ (old ≡ 0)
     → Learns memo wide stamp at goal known had (written memo cell stamp (bit_or old known) (joined said known had))

@@ -16,7 +16,7 @@ product_small wide at h k = mul-le-mul {n₁ = at} {m₁ = wide} {n₂ = 255} {m
 pub is_cell : (wide at goal : ℕ) → Covered wide at goal → IsCell wide at goal (cell_at wide at goal)
 is_cell wide at goal c =
     let small = product_small wide at c.node_in c.narrow in
-    record { within = omega (arith, c.goal-in, c.narrow); cell = λ h. (c, refl) }
+    record { within = omega (arith, c.goal_in, c.narrow); cell = λ h. (c, refl) }
 
 -- the cells of later nodes stand behind those of earlier ones
 later : (wide at g at' g' : ℕ) → g < wide → at < at' → at * wide + g ≡ at' * wide + g' → ⊥

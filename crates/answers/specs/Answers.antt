@@ -14,7 +14,7 @@ cell_at wide at goal = (at * wide + goal / word_bits) * cell_words
 pub record Covered (wide at goal : ℕ) : Type 0 where
   pub narrow : wide ≤ max_cells
   pub node_in : at < max_nodes
-  pub goal-in : goal / word_bits < wide
+  pub goal_in : goal / word_bits < wide
 
 -- r is where the cell begins, or a place behind all cells
 pub record IsCell (wide at goal r : ℕ) : Type 0 where

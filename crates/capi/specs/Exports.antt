@@ -1,6 +1,6 @@
 -- A verdict as numbers, for callers in other languages.
 use Rattle.std.specs.Prelude.{ℕ, ◌≡◌, List, [], ◌∷◌, length, get_or}
-use Rattle.demands.specs.Answers.{Answer, proved, unproved, refuted, refused, answer, flagsAfter}
+use Rattle.demands.specs.Answers.{Answer, proved, unproved, refuted, refused, answer, flags_after}
 use Rattle.demands.specs.Demands.{Demand2, Demand3}
 use Rattle.demands.specs.Explanations.{Explains}
 
@@ -18,7 +18,7 @@ pub record Judges (file lent marks out : List ℕ) (r : ℕ) : Type 0 where
   pub is_answer : a ≡ (answer file (length lent)).answer
   pub are_words : out ≡ words_of a
   pub is_number : r ≡ get_or (words_of a) 0 0
-  pub are_marks : marks ≡ flagsAfter file lent
+  pub are_marks : marks ≡ flags_after file lent
   pub demand2 : Demand2 file lent a marks
   pub demand3 : Demand3 file a
 

@@ -23,7 +23,7 @@ use Rattle.casefile.proofs.Passed.{binding_case_law}
 use Rattle.casefile.proofs.Repeats.{get_d_mem}
 use Rattle.casefile.proofs.Listed.{Listed, wanted_listed}
 use Rattle.casefile.proofs.Explanations.{explained_long, explained_at, explained_kept, explained_dropped, number_listed}
-use Rattle.demands.specs.Answers.{Answer, answer, flagsAfter}
+use Rattle.demands.specs.Answers.{Answer, answer, flags_after}
 use Rattle.demands.specs.Demands.{offered_in, Demand3}
 use Rattle.demands.specs.Explanations.{most_bindings, numbers_of, numbers_after, Names, a_state, a_type, TrueExplanation, TrueOf, is_kept_law, is_dropped, Explains}
 use Rattle.demands.proofs.PlainWords.{over, over_past}
@@ -96,7 +96,7 @@ safe_with : (file : List ℕ) (n : ℕ) (a : Answer) → a ≡ (answer file n).a
 safe_with file n a e =
     let lent : List ℕ = replicate n 0 in
     let same : n ≡ length lent = sym (length-replicate n 0) in
-    demand3 file lent a (flagsAfter file lent) (demand1 file lent a (flagsAfter file lent) (subst (λ m. a ≡ (answer file m).answer) same e) refl)
+    demand3 file lent a (flags_after file lent) (demand1 file lent a (flags_after file lent) (subst (λ m. a ≡ (answer file m).answer) same e) refl)
 
 module _ (file lent : List ℕ) where
   untouched_by : (c : Case) → ((rs : List Record) → c ≡ binding_case rs → ⊥) → over (numbers_of c) lent ≡ lent

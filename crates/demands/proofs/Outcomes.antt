@@ -31,7 +31,7 @@ use Rattle.casefile.specs.Cases.{Case, refused_case, binding_case, path_case, ca
 use Rattle.casefile.proofs.Passed.{binding_case_law, path_case_law}
 use Rattle.casefile.specs.PathCases.{node_limit, path_answer, replayed}
 use Rattle.casefile.specs.BindingCases.{shrunk}
-use Rattle.demands.specs.Answers.{Answer, proved, unproved, refuted, Outcome, refusal, bindingOutcome, pathOutcome, outcomeOf, answer, flagsAfter}
+use Rattle.demands.specs.Answers.{Answer, proved, unproved, refuted, Outcome, refusal, binding_outcome, path_outcome, outcome_of, answer, flags_after}
 use Rattle.demands.specs.Demands.{plan_in, automaton_in, letters_in, Shrinks, PathJudged, Demand1, Demand2, Demand3}
 use Rattle.demands.proofs.PlainWords.{over, answer_of, binding_says, not_refuted}
 
@@ -43,8 +43,8 @@ module _ (aut : Automaton) (plan : Plan) (offered : List Binding) where
   verdict_by k r true e = inl (accepts_out aut plan offered e, refl)
   verdict_by k r false e = inr (λ m. false≢true (sym e ∙ accepts_in aut plan offered m), refl)
 
-  shrinks : (rest : List ℕ) → Shrinks aut plan offered (kept_flags (binding_holds aut plan) offered ++ rest) (bindingOutcome (shrunk aut plan offered)).answer
-  unfolding bindingOutcome shrunk
+  shrinks : (rest : List ℕ) → Shrinks aut plan offered (kept_flags (binding_holds aut plan) offered ++ rest) (binding_outcome (shrunk aut plan offered)).answer
+  unfolding binding_outcome shrunk
   shrinks rest =
       let test = binding_holds aut plan in
       record {
@@ -65,8 +65,8 @@ module _ (aut : Automaton) (plan : Plan) (offered : List Binding) where
         verdict = verdict_by (length (kept test offered)) (rounds test offered) (accepts aut plan offered) refl;
       }
 
-  proved_accepts : (k n r : ℕ) → (bindingOutcome (shrunk aut plan offered)).answer ≡ proved k n r → accepts aut plan offered ≡ true
-  unfolding bindingOutcome shrunk
+  proved_accepts : (k n r : ℕ) → (binding_outcome (shrunk aut plan offered)).answer ≡ proved k n r → accepts aut plan offered ≡ true
+  unfolding binding_outcome shrunk
   proved_accepts k n r e = by (length (kept (binding_holds aut plan) offered)) (rounds (binding_holds aut plan) offered) (accepts aut plan offered) e
     where
       by : (m c : ℕ) (b : Bool) → (if b then proved m (length offered) c else unproved m (length offered) c) ≡ proved k n r → b ≡ true
@@ -74,15 +74,15 @@ module _ (aut : Automaton) (plan : Plan) (offered : List Binding) where
       by m c false f = cc
 
 -- Path cases.
-ending_refuted : (e : Ending) (n q c : ℕ) → (pathOutcome (path_answer e)).answer ≡ refuted n q c → e ≡ refutes n q c
-unfolding pathOutcome path_answer refusal
+ending_refuted : (e : Ending) (n q c : ℕ) → (path_outcome (path_answer e)).answer ≡ refuted n q c → e ≡ refutes n q c
+unfolding path_outcome path_answer refusal
 ending_refuted (refutes m p d) n q c f = cc
 ending_refuted (lost k) n q c f = cc
 ending_refuted (outgrown k) n q c f = cc
 ending_refuted (elsewhere k) n q c f = cc
 
-ending_not_proved : (e : Ending) (k n r : ℕ) → (pathOutcome (path_answer e)).answer ≡ proved k n r → ⊥
-unfolding pathOutcome path_answer refusal
+ending_not_proved : (e : Ending) (k n r : ℕ) → (path_outcome (path_answer e)).answer ≡ proved k n r → ⊥
+unfolding path_outcome path_answer refusal
 ending_not_proved (refutes m p d) k n r f = let z : ◌≡◌ {A = ℕ} 0 1 = cc in omega arith
 ending_not_proved (lost l) k n r f = let z : ◌≡◌ {A = ℕ} 0 1 = cc in omega arith
 ending_not_proved (outgrown l) k n r f = let z : ◌≡◌ {A = ℕ} 0 1 = cc in omega arith
@@ -93,8 +93,8 @@ unfolding nodes
 start_fits = omega arith
 
 module _ (aut : Automaton) (plan : Plan) (letters : List ℕ) where
-  replays : PathJudged aut plan letters (pathOutcome (replayed aut plan letters)).answer
-  unfolding replayed Ends pathOutcome path_answer
+  replays : PathJudged aut plan letters (path_outcome (replayed aut plan letters)).answer
+  unfolding replayed Ends path_outcome path_answer
   replays =
       let e = replay node_limit aut plan 0 letters start 0 in
       let ends = replay_ends aut plan node_limit 0 letters starting start_fits in
@@ -108,20 +108,20 @@ module _ (aut : Automaton) (plan : Plan) (letters : List ℕ) where
         says = refl;
       }
     where
-      refuted_by : (q c : ℕ) → replay node_limit aut plan 0 letters start 0 ≡ refutes (0 + length letters) q c → (pathOutcome (path_answer (replay node_limit aut plan 0 letters start 0))).answer ≡ refuted (length letters) q c
-      refuted_by q c f = ap (λ e. (pathOutcome (path_answer e)).answer) f ∙ ap (λ n. refuted n q c) (zero-add (length letters))
+      refuted_by : (q c : ℕ) → replay node_limit aut plan 0 letters start 0 ≡ refutes (0 + length letters) q c → (path_outcome (path_answer (replay node_limit aut plan 0 letters start 0))).answer ≡ refuted (length letters) q c
+      refuted_by q c f = ap (λ e. (path_outcome (path_answer e)).answer) f ∙ ap (λ n. refuted n q c) (zero-add (length letters))
 
-of_binding_case : (rs : List Record) (lent : List ℕ) → Shrinks (automaton_of rs) (plan_of rs) (bindings_of rs) (over (outcomeOf (binding_case rs)).written lent) (outcomeOf (binding_case rs)).answer
-unfolding outcomeOf bindingOutcome shrunk
+of_binding_case : (rs : List Record) (lent : List ℕ) → Shrinks (automaton_of rs) (plan_of rs) (bindings_of rs) (over (outcome_of (binding_case rs)).written lent) (outcome_of (binding_case rs)).answer
+unfolding outcome_of binding_outcome shrunk
 of_binding_case rs lent = shrinks (automaton_of rs) (plan_of rs) (bindings_of rs) (drop (length (kept_flags (binding_holds (automaton_of rs) (plan_of rs)) (bindings_of rs))) lent)
 
-of_path_case : (rs : List Record) (ls : List ℕ) → PathJudged (automaton_of rs) (plan_of rs) ls (outcomeOf (path_case rs ls)).answer
-unfolding outcomeOf
+of_path_case : (rs : List Record) (ls : List ℕ) → PathJudged (automaton_of rs) (plan_of rs) ls (outcome_of (path_case rs ls)).answer
+unfolding outcome_of
 of_path_case rs ls = replays (automaton_of rs) (plan_of rs) ls
 
 module _ (file lent : List ℕ) where
   pub meets2 : (a : Answer) (marks : List ℕ) → Demand1 file lent a marks → Demand2 file lent a marks
-  unfolding flagsAfter
+  unfolding flags_after
   meets2 a marks d =
       record {
         of_bindings_law = λ rs e.
@@ -146,8 +146,8 @@ module _ (file lent : List ℕ) where
   refusal_not_proved r k n m e = let z : ◌≡◌ {A = ℕ} 0 1 = cc in omega arith
 
   -- demand 3, by the case of the file
-  safe_by : (c : Case) → case_of file (length lent) ≡ c → (k n m : ℕ) → (outcomeOf c).answer ≡ proved k n m → SafetyRule (automaton_in file) (plan_in file)
-  unfolding outcomeOf replayed
+  safe_by : (c : Case) → case_of file (length lent) ≡ c → (k n m : ℕ) → (outcome_of c).answer ≡ proved k n m → SafetyRule (automaton_in file) (plan_in file)
+  unfolding outcome_of replayed
   safe_by (refused_case r) e k n m p = absurd (refusal_not_proved r k n m p)
   safe_by (binding_case rs) e k n m p =
       let (known, none-there) = binding_case_law (length lent) file rs e in
@@ -160,12 +160,12 @@ module _ (file lent : List ℕ) where
       safe_by (case_of file (length lent)) refl k n m (ap (λ (z : Outcome). z.answer) (sym (answer_of file lent (case_of file (length lent)) refl)) ∙ sym d.is_answer ∙ p)
 
 -- Never both.
-refuted_error : (file : List ℕ) (flags : ℕ) (n q c : ℕ) (x : Case) → case_of file flags ≡ x → (outcomeOf x).answer ≡ refuted n q c → is_error_path (automaton_in file) (plan_in file) (letters_in file) start 0 ≡ true
-unfolding outcomeOf replayed refusal nodes
+refuted_error : (file : List ℕ) (flags : ℕ) (n q c : ℕ) (x : Case) → case_of file flags ≡ x → (outcome_of x).answer ≡ refuted n q c → is_error_path (automaton_in file) (plan_in file) (letters_in file) start 0 ≡ true
+unfolding outcome_of replayed refusal nodes
 refuted_error file flags n q c (refused_case r) e p = absurd (let z : ◌≡◌ {A = ℕ} 0 1 = cc in omega arith)
 refuted_error file flags n q c (binding_case rs) e p =
     let s = shrunk (automaton_of rs) (plan_of rs) (bindings_of rs) in
-    absurd (not_refuted (bindingOutcome s).answer n q c (binding_says s) p)
+    absurd (not_refuted (binding_outcome s).answer n q c (binding_says s) p)
 refuted_error file flags n q c (path_case rs ls) e p =
     let (known, first_path) = path_case_law flags file rs ls e in
     let err = refutes_error (automaton_of rs) (plan_of rs) node_limit 0 ls n q c start_fits (ending_refuted (replay node_limit (automaton_of rs) (plan_of rs) 0 ls start 0) n q c p) in

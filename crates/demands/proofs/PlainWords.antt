@@ -19,7 +19,7 @@ use Rattle.casefile.specs.BindingCases.{Shrunk, shrunk}
 use Rattle.casefile.proofs.Passed.{binding_case_law, path_there}
 use Rattle.casefile.proofs.Plans.{bindings_many, enough_flags}
 use Rattle.casefile.proofs.Numbers.{InTable, case_numbered, path_numbered}
-use Rattle.demands.specs.Answers.{Answer, proved, unproved, refuted, refused, Outcome, refusal, bindingOutcome, pathOutcome, outcomeOf, answer, flagsAfter}
+use Rattle.demands.specs.Answers.{Answer, proved, unproved, refuted, refused, Outcome, refusal, binding_outcome, path_outcome, outcome_of, answer, flags_after}
 use Rattle.demands.specs.Demands.{paths_in, offered_in, IsProved, IsUnproved, IsRefuted, IsRefused, InPlainWords, Demand1}
 
 -- the lent bytes after some were written
@@ -36,8 +36,8 @@ over_past w lent i h =
     subst (λ k. get_or (over w lent) k 0 ≡ get_or lent k 0) j e
 
 -- an answer to bindings is proved or unproved
-pub binding_says : (s : Shrunk) → IsProved (bindingOutcome s).answer ⊎ IsUnproved (bindingOutcome s).answer
-unfolding bindingOutcome
+pub binding_says : (s : Shrunk) → IsProved (binding_outcome s).answer ⊎ IsUnproved (binding_outcome s).answer
+unfolding binding_outcome
 binding_says s = by s.accepted
   where
     by : (b : Bool) → IsProved (if b then proved s.kept s.total s.rounds else unproved s.kept s.total s.rounds)
@@ -56,9 +56,9 @@ not_refuted a n q c (inr (k, t, r, e)) f = let z : ◌≡◌ {A = ℕ} 0 1 = cc 
 
 module _ (file lent : List ℕ) where
   -- the outcome of a file is that of its case
-  pub answer_of : (c : Case) → case_of file (length lent) ≡ c → answer file (length lent) ≡ outcomeOf c
+  pub answer_of : (c : Case) → case_of file (length lent) ≡ c → answer file (length lent) ≡ outcome_of c
   unfolding answer
-  answer_of c e = ap outcomeOf e
+  answer_of c e = ap outcome_of e
 
   -- an answer that leaves all bytes as they were
   leaves : (a : Answer) → ((n p : ℕ) → a ≡ refused n p → InTable n) → (paths_in file ≡ [] → IsRefused a ⊎ (IsProved a ⊎ IsUnproved a)) → ((paths_in file ≡ [] → ⊥) → IsRefused a ⊎ IsRefuted a)
@@ -79,8 +79,8 @@ module _ (file lent : List ℕ) where
   refuses m k h = leaves (refused m k) (λ n p e. let f : m ≡ n = cc in subst InTable f h) (λ e. inl (m, k, refl)) (λ e. inl (m, k, refl))
 
   path_words : (rs : List Record) (ls : List ℕ) → case_of file (length lent) ≡ path_case rs ls → (x : PathAnswer) → replayed (automaton_of rs) (plan_of rs) ls ≡ x
-      → InPlainWords file lent (pathOutcome x).answer (over (pathOutcome x).written lent)
-  unfolding pathOutcome refusal
+      → InPlainWords file lent (path_outcome x).answer (over (path_outcome x).written lent)
+  unfolding path_outcome refusal
   path_words rs ls e (refuted_path n q c) f =
       leaves (refuted n q c)
       (λ m p g. absurd (let z : ◌≡◌ {A = ℕ} 0 1 = cc in omega arith))
@@ -89,7 +89,7 @@ module _ (file lent : List ℕ) where
   path_words rs ls e (refused_path r) f = refuses r.number r.place (path_numbered (automaton_of rs) (plan_of rs) ls r f)
 
   binding_words : (rs : List Record) → case_of file (length lent) ≡ binding_case rs → (s : Shrunk) → length s.flags ≡ length (bindings_of rs)
-      → InPlainWords file lent (bindingOutcome s).answer (over s.flags lent)
+      → InPlainWords file lent (binding_outcome s).answer (over s.flags lent)
   binding_words rs e s long =
       let (known, none-there) = binding_case_law (length lent) file rs e in
       let many = bindings_many rs in
@@ -97,25 +97,25 @@ module _ (file lent : List ℕ) where
       let all : length (bindings_of rs) ≡ length (offered_in file) = ap (λ z. length (bindings_of z)) known.all_records in
       let says = binding_says s in
       record {
-        refused_number = λ n p f. absurd (not_refused (bindingOutcome s).answer n p says f);
-        refused_untouched = λ n p f. absurd (not_refused (bindingOutcome s).answer n p says f);
-        refuted_untouched = λ n q c f. absurd (not_refuted (bindingOutcome s).answer n q c says f);
+        refused_number = λ n p f. absurd (not_refused (binding_outcome s).answer n p says f);
+        refused_untouched = λ n p f. absurd (not_refused (binding_outcome s).answer n p says f);
+        refuted_untouched = λ n q c f. absurd (not_refuted (binding_outcome s).answer n q c says f);
         without_path = λ f. inr says;
         with_path = λ there. absurd (there (subst (λ z. payloads Kind.path z ≡ []) known.all_records none-there));
         same_length = over_length s.flags lent (omega arith);
         past_untouched = λ i h. over_past s.flags lent i (omega arith);
       }
 
-  words : (c : Case) → case_of file (length lent) ≡ c → InPlainWords file lent (outcomeOf c).answer (over (outcomeOf c).written lent)
-  unfolding outcomeOf refusal bindingOutcome shrunk
+  words : (c : Case) → case_of file (length lent) ≡ c → InPlainWords file lent (outcome_of c).answer (over (outcome_of c).written lent)
+  unfolding outcome_of refusal binding_outcome shrunk
   words (refused_case r) e = refuses r.number r.place (case_numbered file (length lent) r e)
   words (binding_case rs) e =
       binding_words rs e (shrunk (automaton_of rs) (plan_of rs) (bindings_of rs)) (kept_flags_length (binding_holds (automaton_of rs) (plan_of rs)) (bindings_of rs))
   words (path_case rs ls) e = path_words rs ls e (replayed (automaton_of rs) (plan_of rs) ls) refl
 
   -- DEMAND 1 of whatever equals the answer and the flags of the definitions
-  pub meets1 : (a : Answer) (marks : List ℕ) → a ≡ (answer file (length lent)).answer → marks ≡ flagsAfter file lent → Demand1 file lent a marks
-  unfolding flagsAfter
+  pub meets1 : (a : Answer) (marks : List ℕ) → a ≡ (answer file (length lent)).answer → marks ≡ flags_after file lent → Demand1 file lent a marks
+  unfolding flags_after
   meets1 a marks ea em =
       let c = case_of file (length lent) in
       let said = subst (λ (z : Outcome). InPlainWords file lent z.answer (over z.written lent)) (sym (answer_of c refl)) (words c refl) in

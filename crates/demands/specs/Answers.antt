@@ -27,28 +27,28 @@ unfoldable pub refusal : Refusal → Outcome
 refusal r = record { answer = refused r.number r.place; written = [] }
 
 -- "`proved` (the start nonterminal with the state type 0 is kept) or `unproved`"; a flag for each binding
-unfoldable pub bindingOutcome : Shrunk → Outcome
-bindingOutcome s =
+unfoldable pub binding_outcome : Shrunk → Outcome
+binding_outcome s =
     record {
       answer = if s.accepted then proved s.kept s.total s.rounds else unproved s.kept s.total s.rounds;
       written = s.flags;
     }
 
 -- "`refuted` with letters, state and constructor, flags untouched"
-unfoldable pub pathOutcome : PathAnswer → Outcome
-pathOutcome (refuted_path n q c) = record { answer = refuted n q c; written = [] }
-pathOutcome (refused_path r) = refusal r
+unfoldable pub path_outcome : PathAnswer → Outcome
+path_outcome (refuted_path n q c) = record { answer = refuted n q c; written = [] }
+path_outcome (refused_path r) = refusal r
 
 -- the outcome of each case
-unfoldable pub outcomeOf : Case → Outcome
-outcomeOf (refused_case r) = refusal r
-outcomeOf (binding_case rs) = bindingOutcome (shrunk (automaton_of rs) (plan_of rs) (bindings_of rs))
-outcomeOf (path_case rs letters) = pathOutcome (replayed (automaton_of rs) (plan_of rs) letters)
+unfoldable pub outcome_of : Case → Outcome
+outcome_of (refused_case r) = refusal r
+outcome_of (binding_case rs) = binding_outcome (shrunk (automaton_of rs) (plan_of rs) (bindings_of rs))
+outcome_of (path_case rs letters) = path_outcome (replayed (automaton_of rs) (plan_of rs) letters)
 
 -- the outcome for the bytes of a file, where `flags` flag bytes are lent
 unfoldable pub answer : List ℕ → ℕ → Outcome
-answer s flags = outcomeOf (case_of s flags)
+answer s flags = outcome_of (case_of s flags)
 
 -- the lent flags afterwards: those written, "bytes past the count are untouched"
-unfoldable pub flagsAfter : List ℕ → List ℕ → List ℕ
-flagsAfter s lent = let w = (answer s (length lent)).written in w ++ drop (length w) lent
+unfoldable pub flags_after : List ℕ → List ℕ → List ℕ
+flags_after s lent = let w = (answer s (length lent)).written in w ++ drop (length w) lent

@@ -16,7 +16,7 @@ use Rattle.casefile.specs.Kinds.{Kind, payloads}
 use Rattle.casefile.specs.Tables.{plan_of, automaton_of, bindings_of}
 use Rattle.casefile.specs.Cases.{binding_case, path_case, case_of}
 use Rattle.casefile.specs.PathCases.{node_limit, path_answer}
-use Rattle.demands.specs.Answers.{Answer, proved, unproved, refuted, refused, answer, pathOutcome, flagsAfter}
+use Rattle.demands.specs.Answers.{Answer, proved, unproved, refuted, refused, answer, path_outcome, flags_after}
 
 -- the plan of a file: "plan and automaton are that file's kinds 1 to 6"
 abbrev pub plan_in : List ℕ → Plan
@@ -101,12 +101,12 @@ pub record PathJudged (aut : Automaton) (plan : Plan) (letters : List ℕ) (a : 
   -- and 13, 14 and 15 are said of the letters that `Ends` says
   pub ending : Ending
   pub ends : Ends aut plan node_limit 0 letters starting ending
-  pub says : a ≡ (pathOutcome (path_answer ending)).answer
+  pub says : a ≡ (path_outcome (path_answer ending)).answer
 
 -- DEMAND 1: the answer is that of the definition, and so is every lent byte afterwards.
 pub record Demand1 (file lent : List ℕ) (a : Answer) (marks : List ℕ) : Type 0 where
   pub is_answer : a ≡ (answer file (length lent)).answer
-  pub are_marks : marks ≡ flagsAfter file lent
+  pub are_marks : marks ≡ flags_after file lent
   -- and so, among other things
   pub in_words : InPlainWords file lent a marks
 

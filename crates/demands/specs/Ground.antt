@@ -41,8 +41,8 @@ rule_f =
     0x00 ∷ 0x02 ∷ 0x00 ∷ 0x01 ∷ 0x01 ∷ 0x01 ∷ 0x00 ∷ 0x01 ∷ 0x02 ∷ 0x00 ∷ 0x00 ∷ 0x00 ∷ []
 
 -- in B, F x is br x (open (F x))
-abbrev pub rule_fB : List ℕ
-rule_fB =
+abbrev pub rule_f_b : List ℕ
+rule_f_b =
     0x14 ∷ 0x00 ∷ 0x04 ∷ 0x00 ∷ 0x00 ∷ 0x00 ∷ 0x00 ∷ 0x02 ∷ 0x02 ∷ 0x00 ∷ 0x00 ∷ 0x00 ∷ 0x00 ∷ 0x01 ∷ 0x00 ∷ 0x01 ∷
     0x01 ∷ 0x01 ∷ 0x00 ∷ 0x01 ∷ 0x02 ∷ 0x00 ∷ 0x00 ∷ 0x00 ∷ []
 
@@ -110,7 +110,7 @@ plan_e = signature ++ rule_s ++ rule_f ++ automaton
 
 -- plan and automaton of B
 abbrev pub plan_b : List ℕ
-plan_b = signature ++ rule_s ++ rule_fB ++ automaton
+plan_b = signature ++ rule_s ++ rule_f_b ++ automaton
 
 -- plan and automaton of G
 abbrev pub plan_g : List ℕ
@@ -201,8 +201,8 @@ small =
     record { file = record_of 0x8000 (replicate 59996 0); lent = 7 ∷ []; says = refused 8 0; flags = 7 ∷ [] } ∷ []
 
 -- S is F (open end)
-abbrev pub rule_sOpen : List ℕ
-rule_sOpen = record_of 4 (0x01 ∷ 0x01 ∷ 0x00 ∷ 0x01 ∷ 0x00 ∷ 0x01 ∷ 0x00 ∷ 0x01 ∷ 0x00 ∷ 0x03 ∷ 0x00 ∷ 0x00 ∷ [])
+abbrev pub rule_s_open : List ℕ
+rule_s_open = record_of 4 (0x01 ∷ 0x01 ∷ 0x00 ∷ 0x01 ∷ 0x00 ∷ 0x01 ∷ 0x00 ∷ 0x01 ∷ 0x00 ∷ 0x03 ∷ 0x00 ∷ 0x00 ∷ [])
 
 -- S is G (K end), G f is f end, K x y is br x y; sorts 1 to 3 are o to o, (o to o) to o and o to o to o
 abbrev pub plan_k : List ℕ
@@ -229,7 +229,7 @@ reasons =
     -- T2 takes {T1} to T0 and T3 takes {T0} to T0, where T1 is state 1: S takes T2, though (F, T2) falls in the same round, and is
     -- stopped at open, node 1; by T3 it would be at end, node 2
     record {
-      file = signature ++ rule_sOpen ++ rule_f ++ automaton ++ type0 ++ record_of 7 (1 ∷ []) ++ record_of 7 (0 ∷ 0 ∷ 1 ∷ 0 ∷ []) ++ record_of 7 (0 ∷ 0 ∷ 0 ∷ 0 ∷ []) ++ bind_s0 ++ bind_f2 ++ record_of 8 (1 ∷ 0 ∷ 3 ∷ 0 ∷ []);
+      file = signature ++ rule_s_open ++ rule_f ++ automaton ++ type0 ++ record_of 7 (1 ∷ []) ++ record_of 7 (0 ∷ 0 ∷ 1 ∷ 0 ∷ []) ++ record_of 7 (0 ∷ 0 ∷ 0 ∷ 0 ∷ []) ++ bind_s0 ++ bind_f2 ++ record_of 8 (1 ∷ 0 ∷ 3 ∷ 0 ∷ []);
       lent = replicate 13 7;
       says = unproved 1 3 1;
       numbers = 1 ∷ 1 ∷ 1 ∷ 0 ∷ 1 ∷ 1 ∷ 0 ∷ 0 ∷ 0 ∷ 0 ∷ 0 ∷ 0 ∷ 7 ∷ [];

@@ -27,7 +27,7 @@ use Rattle.replay.specs.declared.replay.Replayed.{Replayed}
 use Rattle.replay.specs.declared.replay.Replayed.TheVariants.{Refuted as Refuted', Refused as Refused'}
 use Rattle.casefile.specs.BindingCases.{Shrunk, shrunk}
 use Rattle.binding_cases.specs.Judging.{IsShrunk}
-use Rattle.demands.specs.Answers.{Answer, proved, unproved, refused, refusal, bindingOutcome, pathOutcome, outcomeOf, answer, flagsAfter}
+use Rattle.demands.specs.Answers.{Answer, proved, unproved, refused, refusal, binding_outcome, path_outcome, outcome_of, answer, flags_after}
 use Rattle.demands.specs.Demands.{Demand1, Demand2, Demand3}
 use Rattle.demands.specs.Explanations.{most_bindings, numbers_of, numbers_after, Explains}
 use Rattle.demands.proofs.Demands.{demand1, demand2, demand3}
@@ -56,18 +56,18 @@ module _ (p : Replayed) where
   unfolding of_path_spec
   path_refused n k e = sym (ap of_path_spec e)
 
-answer_path : (p : Replayed) → answer_as (of_path_spec p) ≡ (pathOutcome (path_as p)).answer
-unfolding answer_as of_path_spec path_as pathOutcome refusal
+answer_path : (p : Replayed) → answer_as (of_path_spec p) ≡ (path_outcome (path_as p)).answer
+unfolding answer_as of_path_spec path_as path_outcome refusal
 answer_path (Refuted' n q c) = refl
 answer_path (Refused' n k) = refl
 
-path_writes : (p : PathAnswer) → (pathOutcome p).written ≡ []
-unfolding pathOutcome refusal
+path_writes : (p : PathAnswer) → (path_outcome p).written ≡ []
+unfolding path_outcome refusal
 path_writes (refuted_path n q c) = refl
 path_writes (refused_path r) = refl
 
-answer_bindings : (s : Shrunk) (lent marks : List ℕ) (b : Bool) (k t r : ℕ) → IsShrunk s lent marks b k t r → answer_as (of_bindings_spec b k t r) ≡ (bindingOutcome s).answer
-unfolding bindingOutcome answer_as of_bindings_spec
+answer_bindings : (s : Shrunk) (lent marks : List ℕ) (b : Bool) (k t r : ℕ) → IsShrunk s lent marks b k t r → answer_as (of_bindings_spec b k t r) ≡ (binding_outcome s).answer
+unfolding binding_outcome answer_as of_bindings_spec
 answer_bindings s lent marks b k t r w =
     (λ i. answer_as (of_bindings_spec (w.accepted_is i) (w.kept_is i) (w.total_is i) (w.rounds_are i))) ∙ by s.accepted
   where
@@ -111,12 +111,12 @@ short file e = ltb-false max_file (length file) e
 
 module _ (file lent : List ℕ) where
   -- the outcome of the file's case is the answer
-  meets1 : (c : Cases.Case) → case_of file (length lent) ≡ c → (a : Answer) (marks : List ℕ) → a ≡ (outcomeOf c).answer → marks ≡ (outcomeOf c).written ++ drop (length (outcomeOf c).written) lent → Demand1 file lent a marks
-  unfolding answer flagsAfter
+  meets1 : (c : Cases.Case) → case_of file (length lent) ≡ c → (a : Answer) (marks : List ℕ) → a ≡ (outcome_of c).answer → marks ≡ (outcome_of c).written ++ drop (length (outcome_of c).written) lent → Demand1 file lent a marks
+  unfolding answer flags_after
   meets1 c e a marks ea em =
       demand1 file lent a marks
-      (ea ∙ ap (λ x. (outcomeOf x).answer) (sym e))
-      (em ∙ ap (λ x. (outcomeOf x).written ++ drop (length (outcomeOf x).written) lent) (sym e))
+      (ea ∙ ap (λ x. (outcome_of x).answer) (sym e))
+      (em ∙ ap (λ x. (outcome_of x).written ++ drop (length (outcome_of x).written) lent) (sym e))
 
   -- and its numbers are those that are written
   numbers_by : (c : Cases.Case) → case_of file (length lent) ≡ c → (was now : List ℕ) → (reasons_size ≤ length was → now ≡ numbers_of c ++ drop (length (numbers_of c)) was) → Explained file (length lent) was now
@@ -124,13 +124,13 @@ module _ (file lent : List ℕ) where
 
   module _ {index lens counts ends : List ℕ} {r : Case} (w : CaseFound file (length lent) index lens counts ends r) (reasons : List ℕ) where
     judged_refused : (n p : ℕ) → r ≡ RefusedCase n p → (v : Verdict) → v ≡ Refused n p → Demand1 file lent (answer_as v) lent × Explained file (length lent) reasons reasons
-    unfolding case_as outcomeOf refusal answer_as numbers_of
+    unfolding case_as outcome_of refusal answer_as numbers_of
     judged_refused n p e v ev =
         let is = sym w.is_case ∙ ap (case_as file) e in
         (meets1 (refused_case (record { number = n; place = p })) is (answer_as v) lent (ap answer_as ev) refl, numbers_by (refused_case (record { number = n; place = p })) is reasons reasons (λ room. refl))
 
     pub judged_bindings : r ≡ BindingCase → {marks now : List ℕ} (v : Verdict) → JudgesBindingCase file index counts ends lent marks reasons now v → Demand1 file lent (answer_as v) marks × Explained file (length lent) reasons now
-    unfolding case_as outcomeOf Leaves bindingOutcome numbers_of number
+    unfolding case_as outcome_of Leaves binding_outcome numbers_of number
     judged_bindings e {marks} {now} v judges =
         let rs = listed (records_of file) in
         let is : case_of file (length lent) ≡ binding_case rs = sym w.is_case ∙ ap (case_as file) e in
@@ -145,7 +145,7 @@ module _ (file lent : List ℕ) where
         )
 
     judged_path : r ≡ Path → (p : Replayed) → ReplaysPath file index counts p → (v : Verdict) → v ≡ of_path_spec p → Demand1 file lent (answer_as v) lent × Explained file (length lent) reasons reasons
-    unfolding case_as outcomeOf Leaves numbers_of
+    unfolding case_as outcome_of Leaves numbers_of
     judged_path e p replays v ev =
         let rs = listed (records_of file) in
         let letters = get_or (payloads Kind.path rs) 0 [] in
@@ -153,9 +153,9 @@ module _ (file lent : List ℕ) where
         let (tables, there) = subst (Leaves file index lens counts ends) e w.tables in
         let accepted = (path_case_law (length lent) file rs letters is).0 in
         let found : path_as p ≡ replayed (automaton_of rs) (plan_of rs) letters = replays.answer lens rs (length lent) tables.known tables.passed accepted.whole_file there in
-        let none_written : (pathOutcome (replayed (automaton_of rs) (plan_of rs) letters)).written ≡ [] = path_writes (replayed (automaton_of rs) (plan_of rs) letters) in (
+        let none_written : (path_outcome (replayed (automaton_of rs) (plan_of rs) letters)).written ≡ [] = path_writes (replayed (automaton_of rs) (plan_of rs) letters) in (
           meets1 (path_case rs letters) is (answer_as v) lent
-              (ap answer_as ev ∙ answer_path p ∙ ap (λ x. (pathOutcome x).answer) found)
+              (ap answer_as ev ∙ answer_path p ∙ ap (λ x. (path_outcome x).answer) found)
               (sym (ap (λ l. l ++ drop (length l) lent) none_written)),
           numbers_by (path_case rs letters) is reasons reasons (λ room. refl),
         )

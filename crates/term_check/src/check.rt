@@ -26,7 +26,7 @@ use tables::reading::{
 };
 
 // Whether the term at a node has a goal. What its yes rests on is noted.
-#[cycle(all_args_all_members_all_targets_args_again_check_args_check_bound_check_each_check_given_check_listed_check_states_check_term_find_bound_find_given_find_states_one_target_try_one)]
+#[cycle(term)]
 pub fn check_term(t: &[u16], r: &[u32], w: &mut [u32], at: usize, goal: usize) -> bool
     ensures { (length w.new ≡ length w.old) × ChecksTerm (case_of t.now r.now) (answers_of r.now w.old) (users_of r.now w.old) at goal (answers_of r.now w.new) (users_of r.now w.new) result }
 {
@@ -56,7 +56,7 @@ pub fn check_term(t: &[u16], r: &[u32], w: &mut [u32], at: usize, goal: usize) -
 
 // Whether the `count` arguments from node `at` on have their targets, four bits each. Where the last one is a constructor, its own
 // arguments take its place.
-#[cycle(all_args_all_members_all_targets_args_again_check_args_check_bound_check_each_check_given_check_listed_check_states_check_term_find_bound_find_given_find_states_one_target_try_one)]
+#[cycle(term)]
 fn all_targets(t: &[u16], r: &[u32], w: &mut [u32], at: usize, count: usize, targets: usize) -> bool
     ensures { (length w.new ≡ length w.old) × ChecksTargets (case_of t.now r.now) (answers_of r.now w.old) (users_of r.now w.old) at count targets (answers_of r.now w.new) (users_of r.now w.new) result }
 {
@@ -89,7 +89,7 @@ fn all_targets(t: &[u16], r: &[u32], w: &mut [u32], at: usize, count: usize, tar
 }
 
 // Whether the argument at a node has its target. Of a parameter that stands alone it is known.
-#[cycle(all_args_all_members_all_targets_args_again_check_args_check_bound_check_each_check_given_check_listed_check_states_check_term_find_bound_find_given_find_states_one_target_try_one)]
+#[cycle(term)]
 fn one_target(t: &[u16], r: &[u32], w: &mut [u32], at: usize, goal: usize, node: Node) -> bool
     ensures { (length w.new ≡ length w.old) × (node ≡ node_at t.now (base_in r.now) at → ChecksTerm (case_of t.now r.now) (answers_of r.now w.old) (users_of r.now w.old) at goal (answers_of r.now w.new) (users_of r.now w.new) result) }
 {
@@ -107,7 +107,7 @@ fn one_target(t: &[u16], r: &[u32], w: &mut [u32], at: usize, goal: usize, node:
 
 // Whether a nonterminal's term has a goal: one of its kept bindings leads to it, and the arguments have what its type asks for. The
 // binding that served last is tried first.
-#[cycle(all_args_all_members_all_targets_args_again_check_args_check_bound_check_each_check_given_check_listed_check_states_check_term_find_bound_find_given_find_states_one_target_try_one)]
+#[cycle(term)]
 fn check_bound(t: &[u16], r: &[u32], w: &mut [u32], at: usize, goal: usize, node: Node) -> bool
     requires { at < max_nodes }
     ensures { (length w.new ≡ length w.old) × (node ≡ node_at t.now (base_in r.now) at → node.tag ≡ 1 → ChecksTerm (case_of t.now r.now) (answers_of r.now w.old) (users_of r.now w.old) at goal (answers_of r.now w.new) (users_of r.now w.new) result) }
@@ -120,7 +120,7 @@ fn check_bound(t: &[u16], r: &[u32], w: &mut [u32], at: usize, goal: usize, node
 }
 
 // Whether binding c serves: it is kept, it leads to the goal, and the arguments have what its type asks for. That it serves is noted.
-#[cycle(all_args_all_members_all_targets_args_again_check_args_check_bound_check_each_check_given_check_listed_check_states_check_term_find_bound_find_given_find_states_one_target_try_one)]
+#[cycle(term)]
 fn try_one(
     t: &[u16],
     r: &[u32],
@@ -145,7 +145,7 @@ fn try_one(
 }
 
 // Whether one of the kept bindings of a nonterminal that lead to a goal serves. That it serves is noted, and is a hint.
-#[cycle(all_args_all_members_all_targets_args_again_check_args_check_bound_check_each_check_given_check_listed_check_states_check_term_find_bound_find_given_find_states_one_target_try_one)]
+#[cycle(term)]
 fn check_listed(t: &[u16], r: &[u32], w: &mut [u32], at: usize, goal: usize, node: Node) -> bool
     requires { at < max_nodes }
     ensures { (length w.new ≡ length w.old) × (node ≡ node_at t.now (base_in r.now) at → node.tag ≡ 1 → ChecksTerm (case_of t.now r.now) (answers_of r.now w.old) (users_of r.now w.old) at goal (answers_of r.now w.new) (users_of r.now w.new) result) }
@@ -172,7 +172,7 @@ fn check_listed(t: &[u16], r: &[u32], w: &mut [u32], at: usize, goal: usize, nod
 }
 
 // Whether a parameter's term has a goal: one of the members given for it leads to it.
-#[cycle(all_args_all_members_all_targets_args_again_check_args_check_bound_check_each_check_given_check_listed_check_states_check_term_find_bound_find_given_find_states_one_target_try_one)]
+#[cycle(term)]
 fn check_given(t: &[u16], r: &[u32], w: &mut [u32], at: usize, goal: usize, node: Node) -> bool
     requires { at < max_nodes }
     ensures { (length w.new ≡ length w.old) × (node ≡ node_at t.now (base_in r.now) at → (node.tag ≡ 0 → ⊥) → (node.tag ≡ 1 → ⊥) → ChecksTerm (case_of t.now r.now) (answers_of r.now w.old) (users_of r.now w.old) at goal (answers_of r.now w.new) (users_of r.now w.new) result) }
@@ -196,7 +196,7 @@ fn check_given(t: &[u16], r: &[u32], w: &mut [u32], at: usize, goal: usize, node
 }
 
 // Whether the `count` arguments from node `at` on have what a type asks for; where there are none, they have.
-#[cycle(all_args_all_members_all_targets_args_again_check_args_check_bound_check_each_check_given_check_listed_check_states_check_term_find_bound_find_given_find_states_one_target_try_one)]
+#[cycle(term)]
 fn check_args(t: &[u16], r: &[u32], w: &mut [u32], at: usize, count: usize, ty: usize) -> bool
     ensures { (length w.new ≡ length w.old) × ChecksArgs (case_of t.now r.now) (answers_of r.now w.old) (users_of r.now w.old) at count ty (answers_of r.now w.new) (users_of r.now w.new) result }
 {
@@ -207,7 +207,7 @@ fn check_args(t: &[u16], r: &[u32], w: &mut [u32], at: usize, count: usize, ty: 
 }
 
 // The same, one argument after another.
-#[cycle(all_args_all_members_all_targets_args_again_check_args_check_bound_check_each_check_given_check_listed_check_states_check_term_find_bound_find_given_find_states_one_target_try_one)]
+#[cycle(term)]
 fn all_args(t: &[u16], r: &[u32], w: &mut [u32], at: usize, count: usize, ty: usize) -> bool
     ensures { (length w.new ≡ length w.old) × ChecksArgs (case_of t.now r.now) (answers_of r.now w.old) (users_of r.now w.old) at count ty (answers_of r.now w.new) (users_of r.now w.new) result }
 {
@@ -231,7 +231,7 @@ fn all_args(t: &[u16], r: &[u32], w: &mut [u32], at: usize, count: usize, ty: us
 }
 
 // Whether the argument at a node has all members of an arrow. What is found is remembered.
-#[cycle(all_args_all_members_all_targets_args_again_check_args_check_bound_check_each_check_given_check_listed_check_states_check_term_find_bound_find_given_find_states_one_target_try_one)]
+#[cycle(term)]
 fn all_members(t: &[u16], r: &[u32], w: &mut [u32], at: usize, ty: usize, node: Node) -> bool
     ensures { (length w.new ≡ length w.old) × (node ≡ node_at t.now (base_in r.now) at → ChecksMembers (case_of t.now r.now) (answers_of r.now w.old) (users_of r.now w.old) at ty (answers_of r.now w.new) (users_of r.now w.new) result) }
 {
@@ -259,7 +259,7 @@ fn all_members(t: &[u16], r: &[u32], w: &mut [u32], at: usize, ty: usize, node: 
 
 // Whether the term at a node has all goals of a set of states: first what is found at once, then the others, one by one. What is found
 // is remembered.
-#[cycle(all_args_all_members_all_targets_args_again_check_args_check_bound_check_each_check_given_check_listed_check_states_check_term_find_bound_find_given_find_states_one_target_try_one)]
+#[cycle(term)]
 fn check_states(t: &[u16], r: &[u32], w: &mut [u32], at: usize, asked: u32, node: Node) -> bool
     ensures { (length w.new ≡ length w.old) × (node ≡ node_at t.now (base_in r.now) at → ChecksAll (case_of t.now r.now) (answers_of r.now w.old) (users_of r.now w.old) at asked (answers_of r.now w.new) (users_of r.now w.new) result) }
 {
@@ -286,7 +286,7 @@ fn check_states(t: &[u16], r: &[u32], w: &mut [u32], at: usize, asked: u32, node
 
 // What is found at once of the states of a set: some that the term at a node has, and some that it lacks. Of a constructor without
 // arguments all are found; of one with arguments nothing, nor of a nonterminal's term where there are no hints.
-#[cycle(all_args_all_members_all_targets_args_again_check_args_check_bound_check_each_check_given_check_listed_check_states_check_term_find_bound_find_given_find_states_one_target_try_one)]
+#[cycle(term)]
 fn find_states(t: &[u16], r: &[u32], w: &mut [u32], at: usize, asked: u32, node: Node) -> Outlook
     ensures { (length w.new ≡ length w.old) × (node ≡ node_at t.now (base_in r.now) at → Settles (case_of t.now r.now) (answers_of r.now w.old) (users_of r.now w.old) at asked (answers_of r.now w.new) (users_of r.now w.new) result) }
 {
@@ -307,7 +307,7 @@ fn find_states(t: &[u16], r: &[u32], w: &mut [u32], at: usize, asked: u32, node:
 }
 
 // States of a set that a nonterminal's term has by the bindings that served last for this node.
-#[cycle(all_args_all_members_all_targets_args_again_check_args_check_bound_check_each_check_given_check_listed_check_states_check_term_find_bound_find_given_find_states_one_target_try_one)]
+#[cycle(term)]
 fn find_bound(t: &[u16], r: &[u32], w: &mut [u32], at: usize, asked: u32, node: Node) -> u32
     requires { at < max_nodes }
     ensures { (length w.new ≡ length w.old) × (node ≡ node_at t.now (base_in r.now) at → node.tag ≡ 1 → Finds (case_of t.now r.now) (answers_of r.now w.old) (users_of r.now w.old) at (answers_of r.now w.new) (users_of r.now w.new) result) }
@@ -333,7 +333,7 @@ fn find_bound(t: &[u16], r: &[u32], w: &mut [u32], at: usize, asked: u32, node: 
 
 // Of the states of a set those that a parameter's term has by the members given for it, one after another. From the first one on for which
 // a member fails, that state alone is asked for; what no member serves for is lacked.
-#[cycle(all_args_all_members_all_targets_args_again_check_args_check_bound_check_each_check_given_check_listed_check_states_check_term_find_bound_find_given_find_states_one_target_try_one)]
+#[cycle(term)]
 fn find_given(t: &[u16], r: &[u32], w: &mut [u32], at: usize, asked: u32, node: Node) -> Outlook
     requires { at < max_nodes }
     ensures { (length w.new ≡ length w.old) × (node ≡ node_at t.now (base_in r.now) at → (node.tag ≡ 0 → ⊥) → (node.tag ≡ 1 → ⊥) → Settles (case_of t.now r.now) (answers_of r.now w.old) (users_of r.now w.old) at asked (answers_of r.now w.new) (users_of r.now w.new) result) }
@@ -363,7 +363,7 @@ fn find_given(t: &[u16], r: &[u32], w: &mut [u32], at: usize, asked: u32, node: 
 }
 
 // Whether the `count` arguments from node `at` on have what a type asks for, where they were perhaps asked for the same before.
-#[cycle(all_args_all_members_all_targets_args_again_check_args_check_bound_check_each_check_given_check_listed_check_states_check_term_find_bound_find_given_find_states_one_target_try_one)]
+#[cycle(term)]
 fn args_again(t: &[u16], r: &[u32], w: &mut [u32], at: usize, count: usize, ty: usize) -> bool
     ensures { (length w.new ≡ length w.old) × ChecksArgs (case_of t.now r.now) (answers_of r.now w.old) (users_of r.now w.old) at count ty (answers_of r.now w.new) (users_of r.now w.new) result }
 {
@@ -374,7 +374,7 @@ fn args_again(t: &[u16], r: &[u32], w: &mut [u32], at: usize, count: usize, ty: 
 }
 
 // Whether the term at a node has each member of an arrow. What is found is remembered.
-#[cycle(all_args_all_members_all_targets_args_again_check_args_check_bound_check_each_check_given_check_listed_check_states_check_term_find_bound_find_given_find_states_one_target_try_one)]
+#[cycle(term)]
 fn check_each(t: &[u16], r: &[u32], w: &mut [u32], at: usize, ty: usize) -> bool
     ensures { (length w.new ≡ length w.old) × ChecksMembers (case_of t.now r.now) (answers_of r.now w.old) (users_of r.now w.old) at ty (answers_of r.now w.new) (users_of r.now w.new) result }
 {

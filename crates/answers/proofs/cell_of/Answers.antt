@@ -14,4 +14,4 @@ pub overflow_mul-result-2 : goal.overflow_mul-result-2
 overflow_mul-result-2 c = let small = product_small c.args.wide c.args.at c.if-at-ge-MAX_NODES.false c.if-wide-gt-MAX_CELLS.false in omega arith
 
 pub returns : goal.returns
-returns c = is_cell _ _ _ (record { narrow = c.if-wide-gt-MAX_CELLS.false; node_in = c.if-at-ge-MAX_NODES.false; goal-in = c.if-wide-goal.false })
+returns c = is_cell _ _ _ (record { narrow = c.if-wide-gt-MAX_CELLS.false; node_in = c.if-at-ge-MAX_NODES.false; goal_in = c.if-wide-goal.false })

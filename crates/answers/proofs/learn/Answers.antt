@@ -6,6 +6,7 @@ use lib.ListN.{length-set}
 use Rattle.answers.proofs.Answers.{learns_nothing, learns}
 use borrow.Author.Rules.{rules}
 use Rattle.answers.proofs.learn.Goals as goal
+use Rattle.answers.proofs.learn.Goals.{then-memo-cell-2, else-memo-cell-2}
 
 pub returns-then-cell-ge-ANSWERS : goal.returns-then-cell-ge-ANSWERS
 returns-then-cell-ge-ANSWERS c = learns_nothing _ _ _ _ _ _ _
@@ -23,4 +24,4 @@ pub bounds-memo-cell-4 : goal.bounds-memo-cell-4
 bounds-memo-cell-4 c = simp length-set (omega (arith, c.if-memo-cell.false))
 
 pub returns : goal.returns
-returns c = learns _ _ _ _ _ _ _ _ _ _ c.cell_of-cell.ensures c.if-cell-ge-ANSWERS.false c.if-memo-cell.false (⊎_elim (λ w. inl (record { stamped = w.0.taken; same_known = w.3; same-had = w.4 })) (λ w. inr w.1) c.if-memo-cell-2.branch)
+returns c = learns _ _ _ _ _ _ _ _ _ _ c.cell_of-cell.ensures c.if-cell-ge-ANSWERS.false c.if-memo-cell.false (elim c.if-memo-cell-2.branch [ then-memo-cell-2 w ↦ inl (record { stamped = w.if-memo-cell-2.true; same_known = w.old-is; same_had = w.said-is }) | else-memo-cell-2 w ↦ inr w.old-is ])

@@ -14,7 +14,7 @@ pub returns-then-ends-n : goal.returns-then-ends-n
 returns-then-ends-n c = decide_short c.if-ends-n.true
 
 pub returns-then-not-scan : goal.returns-then-not-scan
-returns-then-not-scan c = decide_fails c.scan.ensures (not-true _ c.if-not-scan.true)
+returns-then-not-scan c = decide_fails c.scan.ensures c.if-not-scan.true
 
 pub returns : goal.returns
-returns c = decide_tree c.scan.ensures (not-false _ c.if-not-scan.false) c.if-n-eq0.false _ c.one_tree.ensures
+returns c = decide_tree c.scan.ensures c.if-not-scan.false c.if-n-eq0.false _ c.one_tree.ensures

@@ -191,22 +191,22 @@ module _ {file index : List ℕ} {rules constructors : ℕ} {table : List (List 
         }
 
     -- a letter that does not lead to a term within the limit
-    stop_at : (s : Step) → OneOf (0 ∷ 1 ∷ []) (tag_of the_type s) → (a : Option Replay.At) (others : Replay.At → Ending) → LeadsTo file cells' i' letter a s → path_as (stopped_at s i) ≡ path_answer (followed max_term i letter others a)
+    stop_at : (s : Step) → ((h : Held) → s ≡ At h → ⊥) → (a : Option Replay.At) (others : Replay.At → Ending) → LeadsTo file cells' i' letter a s → path_as (stopped_at s i) ≡ path_answer (followed max_term i letter others a)
     unfolding followed LeadsTo path_as stopped_at path_answer exceeds
-    stop_at Lost keys a others e = ap (λ x. path_answer (followed max_term i letter others x)) (sym e)
-    stop_at TooLarge keys a others (z, (b, eo, large)) =
+    stop_at Lost moves a others e = ap (λ x. path_answer (followed max_term i letter others x)) (sym e)
+    stop_at TooLarge moves a others (z, (b, eo, large)) =
         let over : exceeds max_term letter b.term ≡ true = rw (eq-eqb letter 0 z, lt-ltb max_term (nodes b.term) large) in
         sym (ap (λ x. path_answer (followed max_term i letter others x)) eo ∙ ap (λ c. path_answer (if c then outgrown i else others b)) over)
-    stop_at (At next) keys a others x = absurd (⊎_elim (λ (e : 2 ≡ 0). omega arith) (λ (e : 2 ≡ 1). omega arith) keys)
+    stop_at (At next) moves a others x = absurd (moves next refl)
 
-    pub run_stop : OneOf (0 ∷ 1 ∷ []) (tag_of the_type step) → (r : Replayed) → r ≡ stopped_at step i → Runs file index rules constructors table path cells₀ r
+    pub run_stop : ((h : Held) → step ≡ At h → ⊥) → (r : Replayed) → r ≡ stopped_at step i → Runs file index rules constructors table path cells₀ r
     unfolding replayed
-    run_stop keys r er =
+    run_stop moves r er =
         record {
           answer = λ rs s room short.
               let x = w.onward rs s room short in
               ap path_as er
-              ∙ stop_at step keys (follow (automaton_of rs) (plan_of rs) letter x.term x.state) (λ a. replay max_term (automaton_of rs) (plan_of rs) (i + 1) (drop (suc i) path) a.term a.state) (reached rs s room short x)
+              ∙ stop_at step moves (follow (automaton_of rs) (plan_of rs) letter x.term x.state) (λ a. replay max_term (automaton_of rs) (plan_of rs) (i + 1) (drop (suc i) path) a.term a.state) (reached rs s room short x)
               ∙ ap path_answer (sym (one_more rs x.term x.state) ∙ x.same);
         }
 

@@ -64,11 +64,11 @@ loop-t-smaller c = omega arith
 pub loop-t-preserved : goal.loop-t-preserved
 loop-t-preserved c =
     let l = c.loop-t in
-    let w = c.before.before.before.before.before.before in (
+    (
       omega arith,
       stored_long l.fit l.t _ _ _ ∙ l.invariant.1,
       λ rs li. fitted_more l.fit l.t _ _ _ (omega arith) _ rs (l.invariant.2 rs li)
-          (c.row_of-row.ensures _ _ rs li (w.before.before.enter-sorts.ensures refl) (w.enter-sorts2.ensures refl) (omega arith) (l.invariant.2 rs li)),
+          (c.row_of-row.ensures _ _ rs li (c.enter_sorts.ensures refl) (c.enter_sorts-2.ensures refl) (omega arith) (l.invariant.2 rs li)),
     )
 
 pub shape_of-fit : goal.shape_of-fit

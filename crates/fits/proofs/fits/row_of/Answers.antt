@@ -5,14 +5,12 @@ use Rattle.fits.proofs.fits.row_of.Goals as goal
 
 pub returns-then-len-eq1 : goal.returns-then-len-eq1
 returns-then-len-eq1 c =
-    let w = c.before.before.before in
-    let a = w.before.before.before.before.before.args in
-    row_state _ _ a.froms.now a.tos.now _ _ _ a.fit.now w.before.place_at.ensures.value w.length_at.ensures c.if-len-eq1.true
+    let a = c.args in
+    row_state _ _ a.froms.now a.tos.now _ _ _ a.fit.now c.place_at-place.ensures.value c.length_at-len.ensures c.if-len-eq1.true
 
 pub returns : goal.returns
 returns c =
-    let w = c.before.before.before in
-    let a = w.before.before.before.before.before.args in
+    let a = c.args in
     let u = c.unions_of-unions.ensures in
-    row_arrow _ _ a.froms.now a.tos.now _ _ _ a.fit.now w.before.place_at.ensures.value w.length_at.ensures c.if-len-eq1.false _ _ _
+    row_arrow _ _ a.froms.now a.tos.now _ _ _ a.fit.now c.place_at-place.ensures.value c.length_at-len.ensures c.if-len-eq1.false _ _ _
     c.arrow_sorts-sorts.ensures u.0 u.1

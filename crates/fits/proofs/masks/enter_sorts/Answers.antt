@@ -6,6 +6,7 @@ use borrow.Author.Rules.{rules}
 use Rattle.fits.specs.masks.Masks.{Empty}
 use Rattle.fits.proofs.masks.Marking.{MarkedTo, marked_none, marked_past, marked_more, marked_all}
 use Rattle.fits.proofs.masks.enter_sorts.Goals as goal
+use Rattle.fits.proofs.masks.enter_sorts.Goals.{then-number-le-MAX_SORTS, else-number-le-MAX_SORTS}
 
 pub loop-i-init : goal.loop-i-init
 loop-i-init c = (omega arith, marked_none _ _ _ _)
@@ -38,10 +39,10 @@ pub loop-i-preserved : goal.loop-i-preserved
 loop-i-preserved c =
     let l = c.loop-i in (
       omega arith,
-      ⊎_elim
-          (λ w e. marked_more _ _ _ l.masks l.i _ _ (l.invariant.1 e) c.place_at.ensures.value c.word_at-number.ensures.value _ w.2 (omega arith) w.0.taken)
-          (λ w e. marked_past _ _ _ l.masks l.i _ _ (l.invariant.1 e) c.place_at.ensures.value c.word_at-number.ensures.value _ w.1 w.0.left)
-          c.if-number-le-MAX_SORTS.branch,
+      λ e. elim c.if-number-le-MAX_SORTS.branch [
+        then-number-le-MAX_SORTS w ↦ marked_more _ _ _ l.masks l.i _ _ (l.invariant.1 e) c.place_at.ensures.value c.word_at-number.ensures.value _ w.masks-is (omega arith) w.if-number-le-MAX_SORTS.true
+        | else-number-le-MAX_SORTS w ↦ marked_past _ _ _ l.masks l.i _ _ (l.invariant.1 e) c.place_at.ensures.value c.word_at-number.ensures.value _ w.masks-is w.if-number-le-MAX_SORTS.false
+      ],
     )
 
 pub returns : goal.returns

@@ -23,9 +23,7 @@ overflow_add-f c = omega arith
 
 pub returns-then-not-fits_sort : goal.returns-then-not-fits_sort
 returns-then-not-fits_sort c =
-    let w = c.before.before in
-    let b = w.before.before.before.before in
-    fit_stop _ _ _ _ _ _ _ _ _ _ _ b.before.before.loop.invariant.1 b.before.loop-test.true b.place_at.ensures.value w.before.before.before.word_at.ensures.value w.before.before.word-at2.ensures.value w.before.place-at2.ensures.value w.word-at3.ensures.value c.fits_sort.ensures (not-true _ c.if-not-fits_sort.true)
+    fit_stop _ _ _ _ _ _ _ _ _ _ _ c.loop-i.invariant.1 c.loop-i-test.true c.place_at-place.ensures.value c.word_at-f.ensures.value c.word_at-t.ensures.value c.place_at.ensures.value c.word_at-s.ensures.value c.fits_sort.ensures c.if-not-fits_sort.true
 
 pub overflow_add-i-in-loop-i : goal.overflow_add-i-in-loop-i
 overflow_add-i-in-loop-i c = omega arith
@@ -35,10 +33,9 @@ loop-i-smaller c = omega arith
 
 pub loop-i-preserved : goal.loop-i-preserved
 loop-i-preserved c =
-    let w = c.before.before in
-    let b = w.before.before.before.before in (
+    (
       omega arith,
-      fit_more _ _ _ _ _ _ _ _ _ _ _ b.before.before.loop.invariant.1 b.before.loop-test.true b.place_at.ensures.value w.before.before.before.word_at.ensures.value w.before.before.word-at2.ensures.value w.before.place-at2.ensures.value w.word-at3.ensures.value c.fits_sort.ensures (not-false _ c.if-not-fits_sort.false),
+      fit_more _ _ _ _ _ _ _ _ _ _ _ c.loop-i.invariant.1 c.loop-i-test.true c.place_at-place.ensures.value c.word_at-f.ensures.value c.word_at-t.ensures.value c.place_at.ensures.value c.word_at-s.ensures.value c.fits_sort.ensures c.if-not-fits_sort.false,
     )
 
 pub returns : goal.returns

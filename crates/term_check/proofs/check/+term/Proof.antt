@@ -31,52 +31,52 @@ use borrow.Fn.Kinds.{In}
 use borrow.Fn.PlainCycle.{Measures, is, falls, and}
 use Rattle.term_check.proofs.check.args_again.Reads as args-again
 use Rattle.term_check.proofs.check.args_again.Kinds as args-again-kinds
-use Rattle.term_check.proofs.check.+all_args_all_members_all_targets_args_again_check_args_check_bound_check_each_check_given_check_listed_check_states_check_term_find_bound_find_given_find_states_one_target_try_one.Lts-args_again as args-again-lts
+use Rattle.term_check.proofs.check.+term.Lts-args_again as args-again-lts
 use Rattle.term_check.proofs.check.all_args.Reads as all-args
 use Rattle.term_check.proofs.check.all_args.Kinds as all-args-kinds
-use Rattle.term_check.proofs.check.+all_args_all_members_all_targets_args_again_check_args_check_bound_check_each_check_given_check_listed_check_states_check_term_find_bound_find_given_find_states_one_target_try_one.Lts-all_args as all-args-lts
+use Rattle.term_check.proofs.check.+term.Lts-all_args as all-args-lts
 use Rattle.term_check.proofs.check.check_args.Reads as check-args
 use Rattle.term_check.proofs.check.check_args.Kinds as check-args-kinds
-use Rattle.term_check.proofs.check.+all_args_all_members_all_targets_args_again_check_args_check_bound_check_each_check_given_check_listed_check_states_check_term_find_bound_find_given_find_states_one_target_try_one.Lts-check_args as check-args-lts
+use Rattle.term_check.proofs.check.+term.Lts-check_args as check-args-lts
 use Rattle.term_check.proofs.check.check_bound.Reads as check-bound
 use Rattle.term_check.proofs.check.check_bound.Kinds as check-bound-kinds
-use Rattle.term_check.proofs.check.+all_args_all_members_all_targets_args_again_check_args_check_bound_check_each_check_given_check_listed_check_states_check_term_find_bound_find_given_find_states_one_target_try_one.Lts-check_bound as check-bound-lts
+use Rattle.term_check.proofs.check.+term.Lts-check_bound as check-bound-lts
 use Rattle.term_check.proofs.check.check_each.Reads as check-each
 use Rattle.term_check.proofs.check.check_each.Kinds as check-each-kinds
-use Rattle.term_check.proofs.check.+all_args_all_members_all_targets_args_again_check_args_check_bound_check_each_check_given_check_listed_check_states_check_term_find_bound_find_given_find_states_one_target_try_one.Lts-check_each as check-each-lts
+use Rattle.term_check.proofs.check.+term.Lts-check_each as check-each-lts
 use Rattle.term_check.proofs.check.check_given.Reads as check-given
 use Rattle.term_check.proofs.check.check_given.Kinds as check-given-kinds
-use Rattle.term_check.proofs.check.+all_args_all_members_all_targets_args_again_check_args_check_bound_check_each_check_given_check_listed_check_states_check_term_find_bound_find_given_find_states_one_target_try_one.Lts-check_given as check-given-lts
+use Rattle.term_check.proofs.check.+term.Lts-check_given as check-given-lts
 use Rattle.term_check.proofs.check.check_listed.Reads as check-listed
 use Rattle.term_check.proofs.check.check_listed.Kinds as check-listed-kinds
-use Rattle.term_check.proofs.check.+all_args_all_members_all_targets_args_again_check_args_check_bound_check_each_check_given_check_listed_check_states_check_term_find_bound_find_given_find_states_one_target_try_one.Lts-check_listed as check-listed-lts
+use Rattle.term_check.proofs.check.+term.Lts-check_listed as check-listed-lts
 use Rattle.term_check.proofs.check.all_members.Reads as all-members
 use Rattle.term_check.proofs.check.all_members.Kinds as all-members-kinds
-use Rattle.term_check.proofs.check.+all_args_all_members_all_targets_args_again_check_args_check_bound_check_each_check_given_check_listed_check_states_check_term_find_bound_find_given_find_states_one_target_try_one.Lts-all_members as all-members-lts
+use Rattle.term_check.proofs.check.+term.Lts-all_members as all-members-lts
 use Rattle.term_check.proofs.check.check_states.Reads as check-states
 use Rattle.term_check.proofs.check.check_states.Kinds as check-states-kinds
-use Rattle.term_check.proofs.check.+all_args_all_members_all_targets_args_again_check_args_check_bound_check_each_check_given_check_listed_check_states_check_term_find_bound_find_given_find_states_one_target_try_one.Lts-check_states as check-states-lts
+use Rattle.term_check.proofs.check.+term.Lts-check_states as check-states-lts
 use Rattle.term_check.proofs.check.one_target.Reads as one-target
 use Rattle.term_check.proofs.check.one_target.Kinds as one-target-kinds
-use Rattle.term_check.proofs.check.+all_args_all_members_all_targets_args_again_check_args_check_bound_check_each_check_given_check_listed_check_states_check_term_find_bound_find_given_find_states_one_target_try_one.Lts-one_target as one-target-lts
+use Rattle.term_check.proofs.check.+term.Lts-one_target as one-target-lts
 use Rattle.term_check.proofs.check.all_targets.Reads as all-targets
 use Rattle.term_check.proofs.check.all_targets.Kinds as all-targets-kinds
-use Rattle.term_check.proofs.check.+all_args_all_members_all_targets_args_again_check_args_check_bound_check_each_check_given_check_listed_check_states_check_term_find_bound_find_given_find_states_one_target_try_one.Lts-all_targets as all-targets-lts
+use Rattle.term_check.proofs.check.+term.Lts-all_targets as all-targets-lts
 use Rattle.term_check.proofs.check.check_term.Reads as check-term
 use Rattle.term_check.proofs.check.check_term.Kinds as check-term-kinds
-use Rattle.term_check.proofs.check.+all_args_all_members_all_targets_args_again_check_args_check_bound_check_each_check_given_check_listed_check_states_check_term_find_bound_find_given_find_states_one_target_try_one.Lts-check_term as check-term-lts
+use Rattle.term_check.proofs.check.+term.Lts-check_term as check-term-lts
 use Rattle.term_check.proofs.check.find_bound.Reads as find-bound
 use Rattle.term_check.proofs.check.find_bound.Kinds as find-bound-kinds
-use Rattle.term_check.proofs.check.+all_args_all_members_all_targets_args_again_check_args_check_bound_check_each_check_given_check_listed_check_states_check_term_find_bound_find_given_find_states_one_target_try_one.Lts-find_bound as find-bound-lts
+use Rattle.term_check.proofs.check.+term.Lts-find_bound as find-bound-lts
 use Rattle.term_check.proofs.check.find_given.Reads as find-given
 use Rattle.term_check.proofs.check.find_given.Kinds as find-given-kinds
-use Rattle.term_check.proofs.check.+all_args_all_members_all_targets_args_again_check_args_check_bound_check_each_check_given_check_listed_check_states_check_term_find_bound_find_given_find_states_one_target_try_one.Lts-find_given as find-given-lts
+use Rattle.term_check.proofs.check.+term.Lts-find_given as find-given-lts
 use Rattle.term_check.proofs.check.find_states.Reads as find-states
 use Rattle.term_check.proofs.check.find_states.Kinds as find-states-kinds
-use Rattle.term_check.proofs.check.+all_args_all_members_all_targets_args_again_check_args_check_bound_check_each_check_given_check_listed_check_states_check_term_find_bound_find_given_find_states_one_target_try_one.Lts-find_states as find-states-lts
+use Rattle.term_check.proofs.check.+term.Lts-find_states as find-states-lts
 use Rattle.term_check.proofs.check.try_one.Reads as try_one
 use Rattle.term_check.proofs.check.try_one.Kinds as try-one-kinds
-use Rattle.term_check.proofs.check.+all_args_all_members_all_targets_args_again_check_args_check_bound_check_each_check_given_check_listed_check_states_check_term_find_bound_find_given_find_states_one_target_try_one.Lts-try_one as try-one-lts
+use Rattle.term_check.proofs.check.+term.Lts-try_one as try-one-lts
 use Rattle.marks.proofs.next_in.Reads as next-in-reads
 use Rattle.tables.proofs.reading.arrows_of.Reads as arrows-of-reads
 use Rattle.tables.proofs.reading.group_of.Reads as group-of-reads
@@ -109,10 +109,10 @@ use Rattle.term_check.proofs.notes.number_in.Reads as number-in-reads
 use Rattle.term_check.proofs.parts.learn_in.Reads as learn-in-reads
 use Rattle.term_check.proofs.parts.note_in.Reads as note-in-reads
 use Rattle.term_check.proofs.parts.outlook_on.Reads as outlook-on-reads
-use Rattle.term_check.proofs.check.+all_args_all_members_all_targets_args_again_check_args_check_bound_check_each_check_given_check_listed_check_states_check_term_find_bound_find_given_find_states_one_target_try_one.{
+use Rattle.term_check.proofs.check.+term.{
   statement,
 }
-use Rattle.term_check.proofs.check.+all_args_all_members_all_targets_args_again_check_args_check_bound_check_each_check_given_check_listed_check_states_check_term_find_bound_find_given_find_states_one_target_try_one.Tie.{
+use Rattle.term_check.proofs.check.+term.Tie.{
   close,
 }
 
