@@ -1,3 +1,5 @@
+#![tactic(auto)]
+
 pub mod once;
 pub mod ordered;
 pub mod rule_record;

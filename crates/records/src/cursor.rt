@@ -7,13 +7,13 @@ ghost use Rattle.records.specs.declared.cursor.Read.TheVariants.{Refused};
 use crate::fields::{HEADER, word_at};
 
 // A place in a file.
-#[derive(Drop)]
+#[derive(Clone, Copy)]
 pub struct Cursor {
     pub at: usize,
 }
 
 // What is read from a place on: a record, whose payload is the len bytes from start, a refusal, or the end.
-#[derive(Drop)]
+#[derive(Clone, Copy)]
 pub enum Read {
     Record {
         place: usize,

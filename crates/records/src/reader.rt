@@ -6,7 +6,7 @@ ghost use Rattle.records.specs.reader.Parts.{payload_of_spec};
 use crate::cursor::{Cursor, Read, payload};
 
 // A place in a file that is lent.
-#[derive(Drop)]
+#[derive(Clone, Copy)]
 pub struct Reader<'a> {
     pub file: &'a [u8],
     pub at: usize,

@@ -1,4 +1,3 @@
 pub mod Chains
 pub mod Known
-pub mod Lending
 pub mod Turns

@@ -1,2 +1,4 @@
+#![tactic(auto)]
+
 pub mod kinds;
 pub mod walk;

@@ -1,20 +1,14 @@
 -- The walk under way: how it starts, what a record does to it, how it ends, and how a turn ends.
-use Prim.Native.Nat.{ℕ, zero, suc, ◌+◌, ◌-◌, ◌<◌, ◌≤◌, ◌^◌}
+use Prim.Native.Nat.{ℕ, zero, suc, ◌+◌, ◌<◌, ◌≤◌}
 use native.Mathlib.Omega.{arith}
 use native.Mathlib.Nat.{zero-add}
 use mathlib.Core.Path.{◌≡◌, refl, sym, ap, ap₂, subst, ◌∙◌}
-use mathlib.Core.Logic.{⊎_elim}
-use mathlib.Core.Bool.{Bool, true, false, not, ◌||◌}
+use mathlib.Core.Bool.{Bool, true, false, ◌||◌}
 use mathlib.Core.List.{List, [], ◌∷◌, ◌++◌, map, map-append, append-nil, append_assoc}
 use mathlib.Core.Option.{Option, none, some}
 use native.Mathlib.Decide.{ℕ_discrete}
 use borrow.Author.Tests.{lt-ltb, le-ltb, leb-false, ltb-false, eq-eqb}
-use types.Run.{OneOf}
-use denote.Enum.Declared.{tag_of}
-use mathlib.Core.WellFounded.InvImage
-use mathlib.Core.WellFounded.{WellFounded}
-use lib.WfN.{lt-wf_rel}
-use lib.Dec.{T, ltb, leb, eqb}
+use lib.Dec.{ltb, leb, eqb}
 use lib.ListN.{length, get_or, set, length-set}
 use lib.Seq.{get_or-set_same}
 use Rattle.scheme.specs.Lists.{if◌then◌else◌, last_or, select}
@@ -25,7 +19,6 @@ use Rattle.records.specs.cursor.Reading.{read_at, part_of}
 use Rattle.records.specs.reader.Parts.{payload_of_spec}
 use Rattle.records.specs.declared.cursor.Cursor.{Cursor}
 use Rattle.records.specs.declared.cursor.Read.TheVariants as read
-use Rattle.records.specs.contracts.cursor.Read.{the_type}
 use Rattle.records.proofs.cursor.Reading.{RecordRead, read_record_law, read_refused, read_end}
 use Rattle.casefile.specs.Kinds.{Kind, sort, constructor, nonterminal, rule, states, transition, type, binding, path, number, kind_of, payloads, count, of_kind}
 use Rattle.casefile.specs.Tables.{grow, sorts_of, signatures_of}
@@ -49,10 +42,14 @@ use Rattle.walk.specs.kinds.Codes.{code_as}
 use Rattle.walk.specs.kinds.Taking.{Taken}
 use Rattle.index.specs.enter.Entering.{Clears, stored, lens_after, chains_after}
 use Rattle.walk.specs.declared.walk.Turned.{Turned}
-use Rattle.walk.specs.walk.Walking.{Walking, WalkEnds, end_of, ended, GoesOn, ends_or, TurnsTo, PassesTo, WalksTo}
+use Rattle.walk.specs.walk.Walking.{Walking, WalkEnds, end_of, ended, TurnsTo, PassesTo, WalksTo}
 use Rattle.walk.proofs.walk.Chains.{chained_none}
 use Rattle.walk.proofs.walk.Known.{known_more, known_sort, known_type, chained_before, number_few}
 use Rattle.index.proofs.enter.Storing.{number_inj, stored_set, lens_length, lens_other, chains_other, chains_set, chains_length}
+
+-- what was read is no record
+abbrev pub NoRecord : Rattle.records.specs.declared.cursor.Read.Read → Type 0
+NoRecord g = (place start len kind : ℕ) (next : Cursor) → g ≡ read.Record place start len kind next → ⊥
 
 -- no record yet
 none_indexed : (file index : List ℕ) (k : Kind) (n : ℕ) → n ≡ 0 → Indexed file index k n []
@@ -204,9 +201,9 @@ room_few path = omega arith
 
 module _ {file index lens counts : List ℕ} {at last : ℕ} (w : Walking file index lens counts at last) where
   -- the walk ends
-  pub ends : (g : Rattle.records.specs.declared.cursor.Read.Read) → OneOf (1 ∷ 2 ∷ []) (tag_of the_type g) → g ≡ read_at file at → (r : Walked) → r ≡ end_of g → WalkEnds file index lens counts r
+  pub ends : (g : Rattle.records.specs.declared.cursor.Read.Read) → NoRecord g → g ≡ read_at file at → (r : Walked) → r ≡ end_of g → WalkEnds file index lens counts r
   unfolding WalkEnds case_from listed
-  ends (read.Record place start len kind c) h e r er = absurd (⊎_elim (λ (e : 0 ≡ 1). omega arith) (λ (e : 0 ≡ 2). omega arith) h)
+  ends (read.Record place start len kind c) h e r er = absurd (h place start len kind c refl)
   ends (read.Refused n p) h e r er = subst (WalkEnds file index lens counts) (sym er) (λ flags.
       let rr = read_refused file at n p (sym e) in
       sym (w.same flags) ∙ ap (λ z. case_from flags z w.rs) rr.walk_is ∙ ap (λ x. refused_case (record { number = x; place = p })) (sym rr.number_is))
@@ -380,7 +377,7 @@ module _ {file index lens counts : List ℕ} {last : ℕ} where
       → ((at : ℕ) → g ≡ read_at file at → p ≡ payload_of_spec file g → length file ≤ max_file → Walking file index lens counts at last → WalkEnds file index' lens' counts' w) → TurnsTo file g p last index lens counts index' lens' counts' t
   over_at g p index' lens' counts' t w e h = subst (TurnsTo file g p last index lens counts index' lens' counts') (sym e) (record { comes_to = h })
 
-  pub turn_stops : (g : Rattle.records.specs.declared.cursor.Read.Read) (p : List ℕ) → OneOf (1 ∷ 2 ∷ []) (tag_of the_type g) → (t : Turned) → t ≡ ended (end_of g) → TurnsTo file g p last index lens counts index lens counts t
+  pub turn_stops : (g : Rattle.records.specs.declared.cursor.Read.Read) (p : List ℕ) → NoRecord g → (t : Turned) → t ≡ ended (end_of g) → TurnsTo file g p last index lens counts index lens counts t
   turn_stops g p h t e = over_at g p index lens counts t (end_of g) e (λ at eg ep few w. ends w g h eg (end_of g) refl)
 
   module _ (g : Rattle.records.specs.declared.cursor.Read.Read) (p : List ℕ) (place start len kind : ℕ) (c : Cursor) (is : g ≡ read.Record place start len kind c) where
@@ -402,76 +399,6 @@ module _ {file index lens counts : List ℕ} {last : ℕ} where
               walking = λ few w. goes_on w place start len kind c (sym is ∙ eg) p index' lens' counts' (ep ∙ ap (payload_of_spec file) is) up (sym ez ∙ taken.code w.rs w.known w.passed) few told.index_is told.lens_are told.counts_are;
             };
       }
-
--- What a pass carries from turn to turn, beside the file: the place and the last kind, and the tables, as long as they were at the start.
-pub record Carried (file index₀ lens₀ counts₀ : List ℕ) : Type 0 where
-  pub at : ℕ
-  pub last : ℕ
-  pub at_fits : at < 2 ^ 64
-  pub last_fits : last < 2 ^ 64
-  pub index : List ℕ
-  pub lens : List ℕ
-  pub counts : List ℕ
-  pub index_same : length index ≡ length index₀
-  pub lens_same : length lens ≡ length lens₀
-  pub counts_same : length counts ≡ length counts₀
-  pub walking : length file ≤ max_file → Walking file index₀ lens₀ counts₀ 0 0 → Walking file index lens counts at last
-
--- the bytes that are left fall from turn to turn
-abbrev pub Below : (file index₀ lens₀ counts₀ : List ℕ) → Carried file index₀ lens₀ counts₀ → Carried file index₀ lens₀ counts₀ → Type 0
-Below file index₀ lens₀ counts₀ c d = length file - c.at < length file - d.at
-
-pub below_ends : (file index₀ lens₀ counts₀ : List ℕ) → WellFounded (Below file index₀ lens₀ counts₀)
-below_ends file index₀ lens₀ counts₀ = InvImage.wf (λ (c : Carried file index₀ lens₀ counts₀). length file - c.at) lt-wf_rel.wf
-
-abbrev pub carried_first : (file index₀ lens₀ counts₀ : List ℕ) → Carried file index₀ lens₀ counts₀
-carried_first file index₀ lens₀ counts₀ = record {
-  at = 0;
-  last = 0;
-  at_fits = omega arith;
-  last_fits = omega arith;
-  index = index₀;
-  lens = lens₀;
-  counts = counts₀;
-  index_same = refl;
-  lens_same = refl;
-  counts_same = refl;
-  walking = λ few w. w;
-}
-
-or_ends : (y : Bool) (a b : Type 0) → T y → ends_or y a b → a
-or_ends true a b h x = x
-or_ends false a b h x = absurd h
-
-or_goes_on : (y : Bool) (a b : Type 0) → T (not y) → ends_or y a b → b
-or_goes_on true a b h x = absurd h
-or_goes_on false a b h x = x
-
-module _ {file index₀ lens₀ counts₀ : List ℕ} (c : Carried file index₀ lens₀ counts₀) (g : Rattle.records.specs.declared.cursor.Read.Read) (eg : g ≡ read_at file c.at) {p : List ℕ} (ep : p ≡ payload_of_spec file g) {index' lens' counts' : List ℕ} {t : Turned}
-    (h : TurnsTo file g p c.last c.index c.lens c.counts index' lens' counts' t) where
-  pub pass_ends : T t.over → PassesTo file index₀ lens₀ counts₀ index' lens' counts' t
-  pass_ends y = λ few w. or_ends t.over _ _ y (h.comes_to c.at eg ep) few (c.walking few w)
-
-  pub still_on : T (not t.over) → GoesOn file c.index c.lens c.counts index' lens' counts' c.at c.last t.next t.kind
-  still_on y = or_goes_on t.over _ _ y (h.comes_to c.at eg ep)
-
-  abbrev pub carried_on : T (not t.over) → t.next < 2 ^ 64 → t.kind < 2 ^ 64 → length index' ≡ length c.index → length lens' ≡ length c.lens → length counts' ≡ length c.counts → Carried file index₀ lens₀ counts₀
-  carried_on y fn fk ei el ec = record {
-    at = t.next;
-    last = t.kind;
-    at_fits = fn;
-    last_fits = fk;
-    index = index';
-    lens = lens';
-    counts = counts';
-    index_same = ei ∙ c.index_same;
-    lens_same = el ∙ c.lens_same;
-    counts_same = ec ∙ c.counts_same;
-    walking = λ few w. (still_on y).walking few (c.walking few w);
-  }
-
-  pub carried_less : T (not t.over) → length file - t.next < length file - c.at
-  carried_less y = (still_on y).less
 
 -- The walk, from what its functions promise.
 pub whole_walk : (file index index' lens lens' counts counts' index'' lens'' counts'' : List ℕ) (t : Turned) → Clears counts 0 kinds counts' → lens' ≡ stored lens 0 0 → Clears index hashes_at hashes index'

@@ -1,8 +1,8 @@
 -- `test_states` meets its contract.
 use mathlib.Core.Logic.{⊎_elim}
-use borrow.Author.Rules.{rules}
-use borrow.Author.Tests.{le-leb, lt-leb, eq-eqb, ne_eqb}
+use borrow.Author.Tests.{le-leb, lt-leb, le-ltb, lt-ltb, eq-eqb, ne_eqb}
 use Rattle.casefile.specs.Refusals.{wrong_length, too_many, too_large, out_of_range, misplaced}
+use Rattle.index.specs.layout.Layout.{max_states}
 use Rattle.index.specs.entries.Codes.{code_for}
 use Rattle.record_tests.proofs.once.test_states.Goals as goal
 
@@ -17,15 +17,13 @@ returns-then-n-ge1 c rs e = simp (eq-eqb _ 1 c.if-p-ne1.false, e, le-leb 1 _ c.i
 pub returns-then-count-eq0 : goal.returns-then-count-eq0
 unfolding code_for wrong_length too_many too_large out_of_range
 returns-then-count-eq0 c rs e =
-    let b = c.before.before in
     let v = c.byte_at-count.ensures.value in
     ⊎_elim
-    (λ w. simp (eq-eqb _ 1 b.before.if1.false, e, lt-leb 1 _ b.if2.false, ← v, eq-eqb _ 0 w.taken))
-    (λ w. simp (eq-eqb _ 1 b.before.if1.false, e, lt-leb 1 _ b.if2.false, ← v, ne_eqb _ 0 w.0.left, w.1.taken))
-    c.then-count-eq0.branch
+    (λ w. simp (eq-eqb _ 1 c.if-p-ne1.false, e, lt-leb 1 _ c.if-n-ge1.false, ← v, eq-eqb c.byte_at-count.result 0 w))
+    (λ w. simp (eq-eqb _ 1 c.if-p-ne1.false, e, lt-leb 1 _ c.if-n-ge1.false, ← v, ne_eqb c.byte_at-count.result 0 w.0, lt-ltb max_states c.byte_at-count.result w.1))
+    c.then-count-eq0.either
 
 pub returns : goal.returns
 unfolding code_for wrong_length too_many too_large out_of_range misplaced
 returns c rs e =
-    let b = c.before.before.before in
-    simp (eq-eqb _ 1 b.before.if1.false, e, lt-leb 1 _ b.if2.false, ← c.byte_at-count.ensures.value, ne_eqb _ 0 c.if-count-eq0.false, c.if-count-gt-MAX_STATES.false)
+    simp (eq-eqb _ 1 c.if-p-ne1.false, e, lt-leb 1 _ c.if-n-ge1.false, ← c.byte_at-count.ensures.value, ne_eqb _ 0 c.if-count-eq0.false, le-ltb max_states _ c.if-count-gt-MAX_STATES.false)

@@ -1,4 +1,3 @@
-use Prim.Native.Nat.{◌-◌}
 use Rattle.record_tests.proofs.rule_record.Cells.{entries_con, entries_nt, entries_par}
 use Rattle.record_tests.proofs.rule_record.entries_for.Goals as goal
 

@@ -1,9 +1,7 @@
-use Prim.Native.Nat.{◌-◌}
 use mathlib.Core.Path.{sym, ap, ◌∙◌}
 use native.Mathlib.Omega.{arith}
 use Rattle.record_tests.proofs.rule_record.Codes.{rule_short, rule_odd, rule_large, rule_none, rule_rest}
 use Rattle.scheme.specs.Lists.{if◌then◌else◌}
-use borrow.Author.Rules.{rules}
 use Rattle.record_tests.proofs.rule_record.test_rule.Goals as goal
 
 pub returns-then-p-lt-NODE : goal.returns-then-p-lt-NODE

@@ -1,7 +1,5 @@
-use Prim.Native.Nat.{◌-◌}
 use native.Mathlib.Omega.{arith}
 use Rattle.record_tests.proofs.rule_record.Cells.{cell_tag, cell_number, cell_count}
-use borrow.Author.Rules.{rules}
 use Rattle.record_tests.proofs.rule_record.wrong_cell.Goals as goal
 
 pub returns-then-p-lt-NODE : goal.returns-then-p-lt-NODE

@@ -1,9 +1,6 @@
-use Prim.Native.Nat.{◌-◌, ◌≤◌}
 use mathlib.Core.Path.{refl}
 use native.Mathlib.Omega.{arith}
-use borrow.Author.Rules.{rules}
-use lib.ListN.{length}
-use Rattle.record_tests.proofs.rule_record.Cells.{Wrong, wrong_miss, wrong_hit, wrong_done}
+use Rattle.record_tests.proofs.rule_record.Cells.{wrong_miss, wrong_hit, wrong_done}
 use Rattle.record_tests.proofs.rule_record.wrong_cells.Goals as goal
 
 pub loop-i-init : goal.loop-i-init

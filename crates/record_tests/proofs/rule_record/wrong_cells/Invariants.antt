@@ -1,9 +1,6 @@
 use Prim.Native.Nat.{◌-◌, ◌≤◌}
-use mathlib.Core.Path.{refl}
-use native.Mathlib.Omega.{arith}
-use borrow.Author.Rules.{rules}
 use lib.ListN.{length}
-use Rattle.record_tests.proofs.rule_record.Cells.{Wrong, wrong_miss, wrong_hit, wrong_done}
+use Rattle.record_tests.proofs.rule_record.Cells.{Wrong}
 use Rattle.record_tests.proofs.rule_record.wrong_cells.Given as goal
 
 abbrev pub invariant-loop-i : goal.invariant-loop-i

@@ -1,6 +1,4 @@
-use Prim.Native.Nat.{◌-◌}
 use Rattle.record_tests.proofs.sort_record.Codes.{arguments_none, arguments_there}
-use borrow.Author.Rules.{rules}
 use Rattle.record_tests.proofs.sort_record.arguments_of.Goals as goal
 
 pub returns-then-n-s : goal.returns-then-n-s

@@ -1,9 +1,7 @@
-use Prim.Native.Nat.{◌-◌}
 use Rattle.scheme.specs.Lists.{if◌then◌else◌}
 use mathlib.Core.Path.{sym, ap, ◌∙◌}
 use native.Mathlib.Omega.{arith}
 use Rattle.record_tests.proofs.sort_record.Codes.{sort_4, sort_many, sort_large, sort_from_law, sort_to, sort_rest}
-use borrow.Author.Rules.{rules}
 use Rattle.record_tests.proofs.sort_record.test_sort.Goals as goal
 
 pub returns-then-p-ne4 : goal.returns-then-p-ne4

@@ -1,5 +1,4 @@
 -- `test_constructor` meets its contract.
-use borrow.Author.Rules.{rules}
 use borrow.Author.Tests.{lt-ltb, le-ltb, le-leb, lt-leb, eq-eqb, ne_eqb}
 use Rattle.casefile.specs.Refusals.{wrong_length, too_many, too_large, out_of_range, misplaced}
 use Rattle.index.specs.layout.Layout.{max_constructors}
@@ -17,11 +16,9 @@ returns-then-n-ge-MAX_CONSTRUCTORS c rs e = simp (eq-eqb _ 1 c.if-p-ne1.false, e
 pub returns-then-arity-gt-MAX_ARITY : goal.returns-then-arity-gt-MAX_ARITY
 unfolding code_for wrong_length too_many too_large out_of_range
 returns-then-arity-gt-MAX_ARITY c rs e =
-    let b = c.before.before in
-    simp (eq-eqb _ 1 b.before.if1.false, e, lt-leb max_constructors _ c.if-n-ge-MAX_CONSTRUCTORS.false, ← b.byte_at.ensures.value, lt-ltb 4 _ c.if-arity-gt-MAX_ARITY.true)
+    simp (eq-eqb _ 1 c.if-p-ne1.false, e, lt-leb max_constructors _ c.if-n-ge-MAX_CONSTRUCTORS.false, ← c.byte_at-arity.ensures.value, lt-ltb 4 _ c.if-arity-gt-MAX_ARITY.true)
 
 pub returns : goal.returns
 unfolding code_for wrong_length too_many too_large out_of_range misplaced
 returns c rs e =
-    let b = c.before.before in
-    simp (eq-eqb _ 1 b.before.if1.false, e, lt-leb max_constructors _ c.if-n-ge-MAX_CONSTRUCTORS.false, ← b.byte_at.ensures.value, le-ltb 4 _ c.if-arity-gt-MAX_ARITY.false)
+    simp (eq-eqb _ 1 c.if-p-ne1.false, e, lt-leb max_constructors _ c.if-n-ge-MAX_CONSTRUCTORS.false, ← c.byte_at-arity.ensures.value, le-ltb 4 _ c.if-arity-gt-MAX_ARITY.false)

@@ -1,5 +1,4 @@
 -- `test_nonterminal` meets its contract.
-use borrow.Author.Rules.{rules}
 use borrow.Author.Tests.{le-leb, lt-leb, eq-eqb, ne_eqb}
 use Rattle.casefile.specs.Refusals.{wrong_length, too_many, too_large, out_of_range, misplaced}
 use Rattle.index.specs.layout.Layout.{max_nonterminals}
@@ -17,11 +16,9 @@ returns-then-n-ge-MAX_NONTERMINALS c rs e s = simp (eq-eqb _ 2 c.if-p-ne2.false,
 pub returns-then-sorts-word_at : goal.returns-then-sorts-word_at
 unfolding code_for wrong_length too_many too_large out_of_range
 returns-then-sorts-word_at c rs e s =
-    let b = c.before.before in
-    simp (eq-eqb _ 2 b.before.if1.false, e, lt-leb max_nonterminals _ b.if2.false, s, ← c.word_at.ensures.value, le-leb _ _ c.if-sorts-word_at.true)
+    simp (eq-eqb _ 2 c.if-p-ne2.false, e, lt-leb max_nonterminals _ c.if-n-ge-MAX_NONTERMINALS.false, s, ← c.word_at.ensures.value, le-leb _ _ c.if-sorts-word_at.true)
 
 pub returns : goal.returns
 unfolding code_for wrong_length too_many too_large out_of_range misplaced
 returns c rs e s =
-    let b = c.before.before in
-    simp (eq-eqb _ 2 b.before.if1.false, e, lt-leb max_nonterminals _ b.if2.false, s, ← c.word_at.ensures.value, lt-leb _ _ c.if-sorts-word_at.false)
+    simp (eq-eqb _ 2 c.if-p-ne2.false, e, lt-leb max_nonterminals _ c.if-n-ge-MAX_NONTERMINALS.false, s, ← c.word_at.ensures.value, lt-leb _ _ c.if-sorts-word_at.false)

@@ -1,5 +1,4 @@
 use native.Mathlib.Omega.{arith}
-use borrow.Author.Rules.{rules}
 use Rattle.record_tests.proofs.type_record.Numbers.{ends_first, ends_last}
 use Rattle.record_tests.proofs.type_record.ends_later.Goals as goal
 

@@ -1,8 +1,5 @@
-use Prim.Native.Nat.{◌-◌, ◌≤◌}
 use native.Mathlib.Omega.{arith}
-use borrow.Author.Rules.{rules}
-use lib.ListN.{length}
-use Rattle.record_tests.proofs.type_record.Numbers.{Ascends, ascends_start, ascends_few, ascends_step, ascends_stop, ascends_end}
+use Rattle.record_tests.proofs.type_record.Numbers.{ascends_start, ascends_few, ascends_step, ascends_stop, ascends_end}
 use Rattle.record_tests.proofs.type_record.members_ascend.Goals as goal
 
 pub returns-then-p-lt4 : goal.returns-then-p-lt4

@@ -1,8 +1,6 @@
 use Prim.Native.Nat.{◌-◌, ◌≤◌}
-use native.Mathlib.Omega.{arith}
-use borrow.Author.Rules.{rules}
 use lib.ListN.{length}
-use Rattle.record_tests.proofs.type_record.Numbers.{Ascends, ascends_start, ascends_few, ascends_step, ascends_stop, ascends_end}
+use Rattle.record_tests.proofs.type_record.Numbers.{Ascends}
 use Rattle.record_tests.proofs.type_record.members_ascend.Given as goal
 
 abbrev pub invariant-loop-i : goal.invariant-loop-i

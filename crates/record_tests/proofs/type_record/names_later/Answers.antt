@@ -1,9 +1,6 @@
-use Rattle.record_tests.proofs.type_record.Numbers.{Later, later_miss, later_hit, later_done}
-use Prim.Native.Nat.{◌-◌, ◌≤◌}
+use Rattle.record_tests.proofs.type_record.Numbers.{later_miss, later_hit, later_done}
 use mathlib.Core.Path.{refl}
 use native.Mathlib.Omega.{arith}
-use borrow.Author.Rules.{rules}
-use lib.ListN.{length}
 use Rattle.record_tests.proofs.type_record.names_later.Goals as goal
 
 pub loop-i-init : goal.loop-i-init

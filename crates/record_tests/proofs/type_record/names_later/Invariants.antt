@@ -1,8 +1,5 @@
-use Rattle.record_tests.proofs.type_record.Numbers.{Later, later_miss, later_hit, later_done}
+use Rattle.record_tests.proofs.type_record.Numbers.{Later}
 use Prim.Native.Nat.{◌-◌, ◌≤◌}
-use mathlib.Core.Path.{refl}
-use native.Mathlib.Omega.{arith}
-use borrow.Author.Rules.{rules}
 use lib.ListN.{length}
 use Rattle.record_tests.proofs.type_record.names_later.Given as goal
 

@@ -1,7 +1,6 @@
 use native.Mathlib.Omega.{arith}
 use mathlib.Core.Path.{sym, ◌∙◌}
 use Rattle.record_tests.proofs.type_record.Codes.{arrow_short, arrow_long, arrow_odd, arrow_many, arrow_later, arrow_down, arrow_alone}
-use borrow.Author.Rules.{rules}
 use Rattle.record_tests.proofs.type_record.own_code.Goals as goal
 
 pub returns-then-p-eq1 : goal.returns-then-p-eq1

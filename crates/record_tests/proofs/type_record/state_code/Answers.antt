@@ -1,6 +1,5 @@
 use native.Mathlib.Omega.{arith}
 use Rattle.record_tests.proofs.type_record.Codes.{state_many, state_range, state_alone}
-use borrow.Author.Rules.{rules}
 use Rattle.record_tests.proofs.type_record.state_code.Goals as goal
 
 pub returns-then-n-ge-MAX_TYPES : goal.returns-then-n-ge-MAX_TYPES

@@ -1,6 +1,5 @@
 use mathlib.Core.Bool.{true, false}
 use Rattle.record_tests.proofs.type_record.Codes.{tested_refused, tested_listed}
-use borrow.Author.Rules.{rules}
 use Rattle.record_tests.proofs.type_record.test_type.Goals as goal
 
 pub returns-then-number-ne0 : goal.returns-then-number-ne0
