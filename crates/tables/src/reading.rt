@@ -11,7 +11,7 @@ use index::layout::{
 };
 
 // A node: its tag, how many arguments it has, its number, and the node behind its term.
-#[derive(Drop)]
+#[derive(Clone, Copy)]
 pub struct Node {
     pub tag: usize,
     pub count: usize,

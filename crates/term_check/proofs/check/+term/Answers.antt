@@ -1,0 +1,495 @@
+-- The check of a term and of its arguments meet their contracts. The remaining nodes fall, then what is asked of a node.
+use Prim.Native.Nat.{◌-◌, ◌*◌, ◌+◌, ◌%◌, ◌≤◌}
+use mathlib.Core.Path.{◌≡◌, refl, sym, ap, ◌∙◌}
+use mathlib.Core.Bool.{Bool}
+use mathlib.Core.List.{List}
+use lib.ListN.{length}
+use native.Mathlib.Omega.{arith}
+use borrow.Author.Rules.{rules}
+use borrow.Author.Tests.{not-true, not-false}
+use Rattle.index.specs.layout.Layout.{row_limit, words_limit, test_cells}
+use Rattle.tables.specs.reading.Cells.{off_of, group_of, node_at}
+use Rattle.term_check.specs.notes.Notes.{base_in}
+use Rattle.term_check.specs.Worlds.{case_of, answers_of, users_of, ChecksArgs, ChecksTargets, Finds}
+use Rattle.term_check.proofs.heads.Candidates.{row_fits}
+use Rattle.term_check.proofs.heads.Sets.{next_behind_sets}
+use Rattle.term_check.proofs.check.Keeping.{node_by, next_by, tells_on}
+use Rattle.term_check.proofs.check.Arguments.{args_none, args_stuck, args_lack, args_rest}
+use Rattle.term_check.proofs.check.Targets.{targets_none, targets_stuck, targets_lack, targets_rest, down_none, down, leaf_settles}
+use Rattle.term_check.proofs.check.Bound.{try_misses, try_lacks, try_serves, failed_start, tried_serves, tried_fails, tried_none, failed_end, try_next, served, next_behind, listed_is}
+use Rattle.term_check.proofs.check.Bound as Bound
+use Rattle.term_check.proofs.check.Given.{given_start, given_none, given_end, member_misses, member_fails, member_has}
+use Rattle.term_check.proofs.check.Given as Given
+use Rattle.term_check.proofs.check.Seeking.{Sought, sought_start, sought_misses, sought_fails, sought_serves, sought_end}
+use Rattle.term_check.proofs.check.Known.{known_args}
+use Rattle.term_check.proofs.check.Members.{states_lack, states_had, states_fail, states_checked, had_at_once, Asked, asked_start, asked_end, Recalled, recalled_none, recalled_more, recalled_on, recalled_no, recalled_yes, checked_no, checked_yes}
+use Rattle.term_check.proofs.check.States.{finds_none, finds_on, finds_more, settles_found, Left, left_start, left_more, left_fails, left_end, settled_fails}
+use Rattle.term_check.proofs.check.Moved.{members_moved, asked_moved, recalled_moved, all_moved, tries_moved}
+use Rattle.term_check.proofs.check.Terms.{term_past, no_targets, built_checked, alone_no, alone_yes}
+use Prim.Native.Nat.{ℕ, ◌<◌}
+use Rattle.term_check.proofs.check.+term.Goals as goal
+
+pub args_again-shape_of-w-then-args_known : goal.args_again-shape_of-w-then-args_known
+args_again-shape_of-w-then-args_known t c = refl
+
+pub args_again-returns-then-args_known : goal.args_again-returns-then-args_known
+args_again-returns-then-args_known t c = (refl, known_args _ _ _ _ _ _ _ c.args_known.ensures c.if-args_known.true)
+
+pub args_again-shape_of-w : goal.args_again-shape_of-w
+args_again-shape_of-w t c = c.check_args.ensures.0
+
+pub args_again-returns : goal.args_again-returns
+args_again-returns t c = (c.check_args.ensures.0, c.check_args.ensures.1)
+
+pub all_args-loop-left-init : goal.all_args-loop-left-init
+all_args-loop-left-init t c = (refl, omega arith, λ _ _ _ told. told)
+
+pub all_args-shape_of-w-then-node-here : goal.all_args-shape_of-w-then-node-here
+all_args-shape_of-w-then-node-here t c = c.loop-left.invariant.0
+
+pub all_args-returns-then-node-here : goal.all_args-returns-then-node-here
+all_args-returns-then-node-here t c = (c.loop-left.invariant.0, c.loop-left.invariant.2 _ _ _ (args_stuck _ _ _ _ _ _ c.loop-left-test.true _ (next_by _ c.args.r.now _ _ _ c.number_in-base.ensures.0 c.node_of-node.ensures) c.if-node-here.true))
+
+pub all_args-shape_of-w-then-not-all_members : goal.all_args-shape_of-w-then-not-all_members
+all_args-shape_of-w-then-not-all_members t c = c.all_members.ensures.0 ∙ c.loop-left.invariant.0
+
+pub all_args-returns-then-not-all_members : goal.all_args-returns-then-not-all_members
+all_args-returns-then-not-all_members t c = (c.all_members.ensures.0 ∙ c.loop-left.invariant.0, c.loop-left.invariant.2 _ _ _ (args_lack _ _ _ _ _ _ c.loop-left-test.true _ (next_by _ c.args.r.now _ _ _ c.number_in-base.ensures.0 c.node_of-node.ensures) _ _ _ (c.all_members.ensures.1 (node_by _ c.args.r.now _ _ _ c.number_in-base.ensures.0 c.node_of-node.ensures)) c.if-not-all_members.true))
+
+pub all_args-overflow_sub-left : goal.all_args-overflow_sub-left
+all_args-overflow_sub-left t c = let l = c.loop-left-test.true in omega arith
+
+pub all_args-loop-left-smaller : goal.all_args-loop-left-smaller
+all_args-loop-left-smaller t c = let l = c.loop-left-test.true in omega arith
+
+pub all_args-loop-left-preserved : goal.all_args-loop-left-preserved
+all_args-loop-left-preserved t c = (c.all_members.ensures.0 ∙ c.loop-left.invariant.0, let l = c.loop-left.invariant.1 in let h = c.if-node-here.false in omega arith, λ m u r told. c.loop-left.invariant.2 m u r (args_rest _ _ _ _ _ _ c.loop-left-test.true _ (next_by _ c.args.r.now _ _ _ c.number_in-base.ensures.0 c.node_of-node.ensures) _ _ _ (c.all_members.ensures.1 (node_by _ c.args.r.now _ _ _ c.number_in-base.ensures.0 c.node_of-node.ensures)) c.if-not-all_members.false _ c.result_of-rest.ensures.0 m u r told))
+
+pub all_args-shape_of-w : goal.all_args-shape_of-w
+all_args-shape_of-w t c = c.loop-left.invariant.0
+
+pub all_args-returns : goal.all_args-returns
+all_args-returns t c = (c.loop-left.invariant.0, c.loop-left.invariant.2 _ _ _ (args_none _ _ _ c.loop-left.here _ _ c.loop-left-test.false))
+
+pub check_args-returns-then-count-eq0 : goal.check_args-returns-then-count-eq0
+check_args-returns-then-count-eq0 t c = (refl, args_none _ _ _ c.args.at _ _ (omega (arith, c.if-count-eq0.true)))
+
+pub check_args-shape_of-w : goal.check_args-shape_of-w
+check_args-shape_of-w t c = c.all_args.ensures.0
+
+pub check_args-returns : goal.check_args-returns
+check_args-returns t c = (c.all_args.ensures.0, c.all_args.ensures.1)
+
+pub check_bound-try_one-requires : goal.check_bound-try_one-requires
+check_bound-try_one-requires t c = let p = c.decreases in (omega arith, c.requires)
+
+pub check_bound-shape_of-w-then-try_one : goal.check_bound-shape_of-w-then-try_one
+check_bound-shape_of-w-then-try_one t c = c.try_one.ensures.0
+
+pub check_bound-returns-then-try_one : goal.check_bound-returns-then-try_one
+check_bound-returns-then-try_one t c = (c.try_one.ensures.0, λ ea et. served _ ea et c.try_one.ensures.1 c.if-try_one.true)
+
+pub check_bound-check_listed-requires : goal.check_bound-check_listed-requires
+check_bound-check_listed-requires t c = let p = c.decreases in (omega arith, c.requires)
+
+pub check_bound-shape_of-w : goal.check_bound-shape_of-w
+check_bound-shape_of-w t c = c.check_listed.ensures.0 ∙ c.try_one.ensures.0
+
+pub check_bound-returns : goal.check_bound-returns
+check_bound-returns t c = (c.check_listed.ensures.0 ∙ c.try_one.ensures.0, λ ea et. tells_on (c.try_one.ensures.1 ea et).keeps (c.check_listed.ensures.1 ea et))
+
+pub check_each-returns-then-all_had : goal.check_each-returns-then-all_had
+check_each-returns-then-all_had t c = (refl, had_at_once _ _ _ _ _ c.all_had.ensures c.if-all_had.true)
+
+pub check_each-loop-j-init : goal.check_each-loop-j-init
+check_each-loop-j-init t c = (refl, asked_start _ _ _ _ _, recalled_none _ _ _ _ _ _ _ refl refl)
+
+pub check_each-overflow_add-j : goal.check_each-overflow_add-j
+check_each-overflow_add-j t c = let h = c.loop-j-test.true in let m = c.many_of-many.ensures.1 in omega arith
+
+pub check_each-shape_of-w-then-has_bit : goal.check_each-shape_of-w-then-has_bit
+check_each-shape_of-w-then-has_bit t c = c.loop-j.invariant.0
+
+pub check_each-returns-then-has_bit : goal.check_each-returns-then-has_bit
+check_each-returns-then-has_bit t c = (c.loop-j.invariant.0, recalled_no _ _ _ _ _ c.loop-j.invariant.1 _ c.many_of-many.ensures.0 c.loop-j-test.true _ c.member_of-goal.ensures.0 _ _ (recalled_on _ _ _ _ _ c.loop-j.invariant.1.keeps _ _ _ _ _ refl c.loop-j.invariant.2 c.outlook_on-known.ensures) refl _ c.has_bit.ensures c.if-has_bit.true)
+
+pub check_each-shape_of-w-then-not-check_term : goal.check_each-shape_of-w-then-not-check_term
+check_each-shape_of-w-then-not-check_term t c = c.learn_in.ensures.0 ∙ c.check_term.ensures.0 ∙ c.loop-j.invariant.0
+
+pub check_each-returns-then-not-check_term : goal.check_each-returns-then-not-check_term
+check_each-returns-then-not-check_term t c = (c.learn_in.ensures.0 ∙ c.check_term.ensures.0 ∙ c.loop-j.invariant.0, members_moved _ _ _ c.args.at _ _ _ _ _ c.learn_in.ensures.1 (checked_no _ _ _ _ _ c.loop-j.invariant.1 _ c.many_of-many.ensures.0 c.loop-j-test.true _ c.member_of-goal.ensures.0 _ c.with_bit-bit.ensures _ _ _ c.check_term.ensures.1 _ c.if-not-check_term.true c.learn_in.ensures.2))
+
+pub check_each-loop-j-smaller-then-not-has_bit : goal.check_each-loop-j-smaller-then-not-has_bit
+check_each-loop-j-smaller-then-not-has_bit t c = let h = c.loop-j-test.true in omega arith
+
+pub check_each-loop-j-preserved-then-not-has_bit : goal.check_each-loop-j-preserved-then-not-has_bit
+check_each-loop-j-preserved-then-not-has_bit t c = (c.learn_in-then-not-has_bit.ensures.0 ∙ c.check_term.ensures.0 ∙ c.loop-j.invariant.0, asked_moved _ _ _ _ _ _ _ _ _ c.learn_in-then-not-has_bit.ensures.1 (checked_yes _ _ _ _ _ c.loop-j.invariant.1 _ c.many_of-many.ensures.0 c.loop-j-test.true _ c.member_of-goal.ensures.0 _ c.with_bit-bit.ensures _ _ _ c.check_term.ensures.1 _ c.if-not-check_term.false c.learn_in-then-not-has_bit.ensures.2 _ (omega arith)), recalled_moved _ _ _ _ _ _ _ _ _ c.learn_in-then-not-has_bit.ensures.1 (recalled_more _ _ _ _ _ c.check_term.ensures.1.keeps.grows (recalled_on _ _ _ _ _ c.loop-j.invariant.1.keeps _ _ _ _ _ refl c.loop-j.invariant.2 c.outlook_on-known.ensures)))
+
+pub check_each-loop-j-smaller : goal.check_each-loop-j-smaller
+check_each-loop-j-smaller t c = let h = c.loop-j-test.true in omega arith
+
+pub check_each-loop-j-preserved : goal.check_each-loop-j-preserved
+check_each-loop-j-preserved t c = (c.loop-j.invariant.0, recalled_yes _ _ _ _ _ c.loop-j.invariant.1 _ c.many_of-many.ensures.0 c.loop-j-test.true _ c.member_of-goal.ensures.0 _ _ (recalled_on _ _ _ _ _ c.loop-j.invariant.1.keeps _ _ _ _ _ refl c.loop-j.invariant.2 c.outlook_on-known.ensures) refl _ c.has_bit-in-loop-j.ensures c.if-not-has_bit.false _ (omega arith), (recalled_on _ _ _ _ _ c.loop-j.invariant.1.keeps _ _ _ _ _ refl c.loop-j.invariant.2 c.outlook_on-known.ensures))
+
+pub check_each-shape_of-w : goal.check_each-shape_of-w
+check_each-shape_of-w t c = c.loop-j.invariant.0
+
+pub check_each-returns : goal.check_each-returns
+check_each-returns t c = (c.loop-j.invariant.0, asked_end _ _ _ _ _ c.loop-j.invariant.1 _ c.many_of-many.ensures.0 c.loop-j-test.false)
+
+pub check_given-returns-then-given-eq-NONE : goal.check_given-returns-then-given-eq-NONE
+check_given-returns-then-given-eq-NONE t c = (refl, λ ea nc nn. given_none _ _ _ _ _ _ _ (c.off-given.ensures ∙ ap (off_of _ _) c.number_in.ensures.0) ea nc nn c.if-given-eq-NONE.true)
+
+pub check_given-loop-j-init : goal.check_given-loop-j-init
+check_given-loop-j-init t c = (refl, given_start _ _ _ _ _ _ _)
+
+pub check_given-overflow_add-j : goal.check_given-overflow_add-j
+check_given-overflow_add-j t c = let h = c.loop-j-test.true in let m = c.many_of-many.ensures.1 in omega arith
+
+pub check_given-overflow_add-at : goal.check_given-overflow_add-at
+check_given-overflow_add-at t c = let h = c.requires in omega arith
+
+pub check_given-shape_of-w-then-check_args : goal.check_given-shape_of-w-then-check_args
+check_given-shape_of-w-then-check_args t c = c.check_args.ensures.0 ∙ c.loop-j.invariant.0
+
+pub check_given-returns-then-check_args : goal.check_given-returns-then-check_args
+check_given-returns-then-check_args t c = (c.check_args.ensures.0 ∙ c.loop-j.invariant.0, λ ea nc nn. tells_on c.loop-j.invariant.1.keeps (member_has _ _ _ _ _ _ _ (c.off-given.ensures ∙ ap (off_of _ _) c.number_in.ensures.0) ea nc nn _ _ c.many_of-many.ensures.0 c.loop-j-test.true c.if-given-eq-NONE.false _ c.member_of-ty.ensures.0 _ c.off.ensures c.if-off-goal.true (c.args.at + 1) (omega arith) _ _ _ c.check_args.ensures.1 c.if-check_args.true))
+
+pub check_given-loop-j-smaller-else-check_args : goal.check_given-loop-j-smaller-else-check_args
+check_given-loop-j-smaller-else-check_args t c = let h = c.loop-j-test.true in omega arith
+
+pub check_given-loop-j-preserved-else-check_args : goal.check_given-loop-j-preserved-else-check_args
+check_given-loop-j-preserved-else-check_args t c = (c.check_args.ensures.0 ∙ c.loop-j.invariant.0, member_fails _ _ _ _ _ _ _ c.loop-j.invariant.1 _ c.member_of-ty.ensures.0 _ (omega arith) _ c.off.ensures c.if-off-goal.true (c.args.at + 1) (omega arith) _ _ _ c.check_args.ensures.1 c.if-check_args.false)
+
+pub check_given-loop-j-smaller : goal.check_given-loop-j-smaller
+check_given-loop-j-smaller t c = let h = c.loop-j-test.true in omega arith
+
+pub check_given-loop-j-preserved : goal.check_given-loop-j-preserved
+check_given-loop-j-preserved t c = (c.loop-j.invariant.0, member_misses _ _ _ _ _ _ _ c.loop-j.invariant.1 _ c.member_of-ty.ensures.0 _ (omega arith) _ c.off.ensures c.if-off-goal.false)
+
+pub check_given-shape_of-w : goal.check_given-shape_of-w
+check_given-shape_of-w t c = c.loop-j.invariant.0
+
+pub check_given-returns : goal.check_given-returns
+check_given-returns t c = (c.loop-j.invariant.0, λ ea nc nn. given_end _ _ _ _ _ _ _ (c.off-given.ensures ∙ ap (off_of _ _) c.number_in.ensures.0) ea nc nn c.loop-j.invariant.1 _ c.many_of-many.ensures.0 c.loop-j-test.false)
+
+pub check_listed-overflow_mul-row : goal.check_listed-overflow_mul-row
+check_listed-overflow_mul-row t c = let p = row_fits c.args.goal c.number_in.result in omega arith
+
+pub check_listed-overflow_add-row : goal.check_listed-overflow_add-row
+check_listed-overflow_add-row t c = let p = row_fits c.args.goal c.number_in.result in omega arith
+
+pub check_listed-loop-from-init : goal.check_listed-loop-from-init
+check_listed-loop-from-init t c = (refl, let e = c.group_of-from.ensures.0 in omega arith, λ ea et. failed_start _ _ _ _ _ _ _ c.group_of-from.ensures.0)
+
+pub check_listed-overflow_add-from : goal.check_listed-overflow_add-from
+check_listed-overflow_add-from t c = let w = c.next_in-c.ensures.within in let h = c.group_of-high.ensures.1 in omega arith
+
+pub check_listed-shape_of-w-then-high-c : goal.check_listed-shape_of-w-then-high-c
+check_listed-shape_of-w-then-high-c t c = c.loop-from.invariant.0
+
+pub check_listed-returns-then-high-c : goal.check_listed-returns-then-high-c
+check_listed-returns-then-high-c t c = (c.loop-from.invariant.0, λ ea et. failed_end _ _ _ _ _ _ (tried_none _ _ _ _ _ _ (try_next _ _ _ _ _ _ (c.loop-from.invariant.2 ea et) _ _ (c.next_in-c.result + 1) _ (ap (λ k. c.args.goal % row_limit * (k % words_limit)) c.number_in.ensures.0) (next_behind_sets _ test_cells _ _ _ _ c.next_in-c.ensures) (omega arith)) c.group_of-high.result (let h = c.if-high-c.true in omega arith)) _ c.group_of-high.ensures.0 (omega arith) ea et)
+
+pub check_listed-overflow_add-at : goal.check_listed-overflow_add-at
+check_listed-overflow_add-at t c = let h = c.requires in omega arith
+
+pub check_listed-shape_of-w-then-check_args : goal.check_listed-shape_of-w-then-check_args
+check_listed-shape_of-w-then-check_args t c = c.hint_in.ensures.0 ∙ c.note_in.ensures.0 ∙ c.check_args.ensures.0 ∙ c.loop-from.invariant.0
+
+pub check_listed-returns-then-check_args : goal.check_listed-returns-then-check_args
+check_listed-returns-then-check_args t c = (c.hint_in.ensures.0 ∙ c.note_in.ensures.0 ∙ c.check_args.ensures.0 ∙ c.loop-from.invariant.0, λ ea et. tried_serves _ _ _ _ _ _ (try_next _ _ _ _ _ _ (c.loop-from.invariant.2 ea et) _ _ (c.next_in-c.result + 1) _ (ap (λ k. c.args.goal % row_limit * (k % words_limit)) c.number_in.ensures.0) (next_behind_sets _ test_cells _ _ _ _ c.next_in-c.ensures) (omega arith)) _ _ _ ea et (tries_moved _ _ _ _ _ _ _ _ _ _ _ _ (c.hint_in.ensures.1 ∙ c.note_in.ensures.1) c.hint_in.ensures.2 (try_serves _ _ _ _ _ _ _ _ (listed_is _ _ _ _ _ _ _ _ _ c.number_in.ensures.0 (next_behind_sets _ test_cells _ _ _ _ c.next_in-c.ensures) c.if-high-c.false c.loop-from.invariant.1 c.group_of-high.ensures.0 c.leading-ty.ensures) c.if-ty-ne-NONE.true (c.args.at + 1) (omega arith) _ _ _ c.check_args.ensures.1 c.if-check_args.true _ c.note_in.ensures.2)) refl)
+
+pub check_listed-loop-from-smaller-else-check_args : goal.check_listed-loop-from-smaller-else-check_args
+check_listed-loop-from-smaller-else-check_args t c = let h = c.loop-from-test.true in let b = next_behind _ _ _ _ _ c.next_in-c.ensures (omega arith) in omega arith
+
+pub check_listed-loop-from-preserved-else-check_args : goal.check_listed-loop-from-preserved-else-check_args
+check_listed-loop-from-preserved-else-check_args t c = (c.check_args.ensures.0 ∙ c.loop-from.invariant.0, (let l = c.loop-from.invariant.1 in let h = c.loop-from-test.true in let b = next_behind _ _ _ _ _ c.next_in-c.ensures (omega arith) in omega arith), λ ea et. tried_fails _ _ _ _ _ _ (try_next _ _ _ _ _ _ (c.loop-from.invariant.2 ea et) _ _ (c.next_in-c.result + 1) _ (ap (λ k. c.args.goal % row_limit * (k % words_limit)) c.number_in.ensures.0) (next_behind_sets _ test_cells _ _ _ _ c.next_in-c.ensures) (omega arith)) _ _ _ ea et (try_lacks _ _ _ _ _ _ _ _ (listed_is _ _ _ _ _ _ _ _ _ c.number_in.ensures.0 (next_behind_sets _ test_cells _ _ _ _ c.next_in-c.ensures) c.if-high-c.false c.loop-from.invariant.1 c.group_of-high.ensures.0 c.leading-ty.ensures) c.if-ty-ne-NONE.true (c.args.at + 1) (omega arith) _ _ _ c.check_args.ensures.1 c.if-check_args.false) refl)
+
+pub check_listed-loop-from-smaller : goal.check_listed-loop-from-smaller
+check_listed-loop-from-smaller t c = let h = c.loop-from-test.true in let b = next_behind _ _ _ _ _ c.next_in-c.ensures (omega arith) in omega arith
+
+pub check_listed-loop-from-preserved : goal.check_listed-loop-from-preserved
+check_listed-loop-from-preserved t c = (c.loop-from.invariant.0, (let l = c.loop-from.invariant.1 in let h = c.loop-from-test.true in let b = next_behind _ _ _ _ _ c.next_in-c.ensures (omega arith) in omega arith), λ ea et. tried_fails _ _ _ _ _ _ (try_next _ _ _ _ _ _ (c.loop-from.invariant.2 ea et) _ _ (c.next_in-c.result + 1) _ (ap (λ k. c.args.goal % row_limit * (k % words_limit)) c.number_in.ensures.0) (next_behind_sets _ test_cells _ _ _ _ c.next_in-c.ensures) (omega arith)) _ _ _ ea et (try_misses _ _ _ _ _ _ _ _ (listed_is _ _ _ _ _ _ _ _ _ c.number_in.ensures.0 (next_behind_sets _ test_cells _ _ _ _ c.next_in-c.ensures) c.if-high-c.false c.loop-from.invariant.1 c.group_of-high.ensures.0 c.leading-ty.ensures) c.if-ty-ne-NONE.false) refl)
+
+pub check_listed-shape_of-w : goal.check_listed-shape_of-w
+check_listed-shape_of-w t c = c.loop-from.invariant.0
+
+pub check_listed-returns : goal.check_listed-returns
+check_listed-returns t c = (c.loop-from.invariant.0, λ ea et. failed_end _ _ _ _ _ _ (c.loop-from.invariant.2 ea et) _ c.group_of-high.ensures.0 c.loop-from-test.false ea et)
+
+pub all_members-shape_of-w-then-states-known-ne0 : goal.all_members-shape_of-w-then-states-known-ne0
+all_members-shape_of-w-then-states-known-ne0 t c = refl
+
+pub all_members-returns-then-states-known-ne0 : goal.all_members-returns-then-states-known-ne0
+all_members-returns-then-states-known-ne0 t c = (refl, λ ea. states_lack _ _ _ _ _ _ c.states_of-states.ensures.0 c.states_of-states.ensures.1 _ (c.look-known.ensures ea) c.if-states-known-ne0.true)
+
+pub all_members-shape_of-w-then-arrows-eq0 : goal.all_members-shape_of-w-then-arrows-eq0
+all_members-shape_of-w-then-arrows-eq0 t c = refl
+
+pub all_members-returns-then-arrows-eq0 : goal.all_members-returns-then-arrows-eq0
+all_members-returns-then-arrows-eq0 t c = (refl, λ ea. states_had _ _ _ _ _ _ c.states_of-states.ensures.0 c.states_of-states.ensures.1 _ (c.look-known.ensures ea) _ c.left_of-missing.ensures c.if-missing-eq0.true (sym c.arrows_of-arrows.ensures.0 ∙ c.if-arrows-eq0.true))
+
+pub all_members-shape_of-w-then-missing-eq0 : goal.all_members-shape_of-w-then-missing-eq0
+all_members-shape_of-w-then-missing-eq0 t c = c.check_each.ensures.0
+
+pub all_members-returns-then-missing-eq0 : goal.all_members-returns-then-missing-eq0
+all_members-returns-then-missing-eq0 t c = (c.check_each.ensures.0, λ ea. c.check_each.ensures.1)
+
+pub all_members-shape_of-w-then-not-check_states : goal.all_members-shape_of-w-then-not-check_states
+all_members-shape_of-w-then-not-check_states t c = c.check_states.ensures.0
+
+pub all_members-returns-then-not-check_states : goal.all_members-returns-then-not-check_states
+all_members-returns-then-not-check_states t c = (c.check_states.ensures.0, λ ea. states_fail _ _ _ _ _ _ c.states_of-states.ensures.0 c.states_of-states.ensures.1 _ (c.look-known.ensures ea) _ c.left_of-missing.ensures _ _ _ (c.check_states.ensures.1 ea) c.if-not-check_states.true)
+
+pub all_members-shape_of-w-then-arrows-eq0-2 : goal.all_members-shape_of-w-then-arrows-eq0-2
+all_members-shape_of-w-then-arrows-eq0-2 t c = c.check_states.ensures.0
+
+pub all_members-returns-then-arrows-eq0-2 : goal.all_members-returns-then-arrows-eq0-2
+all_members-returns-then-arrows-eq0-2 t c = (c.check_states.ensures.0, λ ea. states_checked _ _ _ _ _ _ c.states_of-states.ensures.0 c.states_of-states.ensures.1 _ (c.look-known.ensures ea) _ c.left_of-missing.ensures _ _ _ (c.check_states.ensures.1 ea) c.if-not-check_states.false (sym c.arrows_of-arrows.ensures.0 ∙ c.if-arrows-eq0-2.true))
+
+pub all_members-check_each-requires-2 : goal.all_members-check_each-requires-2
+all_members-check_each-requires-2 t c = let p = c.decreases in (omega arith, Prim.tt)
+
+pub all_members-shape_of-w : goal.all_members-shape_of-w
+all_members-shape_of-w t c = c.check_each-2.ensures.0 ∙ c.check_states.ensures.0
+
+pub all_members-returns : goal.all_members-returns
+all_members-returns t c = (c.check_each-2.ensures.0 ∙ c.check_states.ensures.0, λ ea. tells_on (c.check_states.ensures.1 ea).keeps c.check_each-2.ensures.1)
+
+pub check_states-shape_of-w-then-found-ne0 : goal.check_states-shape_of-w-then-found-ne0
+check_states-shape_of-w-then-found-ne0 t c = c.learn_in.ensures.0 ∙ c.find_states-found.ensures.0
+
+pub check_states-returns-then-found-ne0 : goal.check_states-returns-then-found-ne0
+check_states-returns-then-found-ne0 t c = (c.learn_in.ensures.0 ∙ c.find_states-found.ensures.0, λ ea. all_moved _ _ _ c.args.at _ _ _ _ _ c.learn_in.ensures.1 (settled_fails _ _ _ _ _ (c.find_states-found.ensures.1 ea) c.if-found-ne0.true _ c.lowest.ensures _ c.with_bit-known.ensures _ c.learn_in.ensures.2))
+
+pub check_states-loop-left-init : goal.check_states-loop-left-init
+check_states-loop-left-init t c = (refl, λ m u f. left_start _ _ _ _ _ f c.left_of-left.ensures)
+
+pub check_states-shape_of-w-then-not-check_term : goal.check_states-shape_of-w-then-not-check_term
+check_states-shape_of-w-then-not-check_term t c = c.learn_in-then-not-check_term.ensures.0 ∙ c.check_term.ensures.0 ∙ c.loop-left.invariant.0 ∙ c.find_states-found.ensures.0
+
+pub check_states-returns-then-not-check_term : goal.check_states-returns-then-not-check_term
+check_states-returns-then-not-check_term t c = (c.learn_in-then-not-check_term.ensures.0 ∙ c.check_term.ensures.0 ∙ c.loop-left.invariant.0 ∙ c.find_states-found.ensures.0, λ ea. all_moved _ _ _ c.args.at _ _ _ _ _ c.learn_in-then-not-check_term.ensures.1 (left_fails _ _ _ _ _ (c.loop-left.invariant.1 _ _ (c.find_states-found.ensures.1 ea).finds) c.loop-left-test.true _ c.lowest-q.ensures _ _ _ c.check_term.ensures.1 c.if-not-check_term.true _ c.with_bit.ensures _ c.learn_in-then-not-check_term.ensures.2))
+
+pub check_states-loop-left-smaller : goal.check_states-loop-left-smaller
+check_states-loop-left-smaller t c = c.without_bit-left.ensures.less (c.lowest-q.ensures.within c.loop-left-test.true) (c.lowest-q.ensures.has c.loop-left-test.true)
+
+pub check_states-loop-left-preserved : goal.check_states-loop-left-preserved
+check_states-loop-left-preserved t c = (c.check_term.ensures.0 ∙ c.loop-left.invariant.0, λ m u f. left_more _ _ _ _ _ (c.loop-left.invariant.1 m u f) c.loop-left-test.true _ c.lowest-q.ensures _ _ _ c.check_term.ensures.1 c.if-not-check_term.false _ _ c.with_bit-had.ensures c.without_bit-left.ensures)
+
+pub check_states-shape_of-w : goal.check_states-shape_of-w
+check_states-shape_of-w t c = c.learn_in-2.ensures.0 ∙ c.loop-left.invariant.0 ∙ c.find_states-found.ensures.0
+
+pub check_states-returns : goal.check_states-returns
+check_states-returns t c = (c.learn_in-2.ensures.0 ∙ c.loop-left.invariant.0 ∙ c.find_states-found.ensures.0, λ ea. all_moved _ _ _ c.args.at _ _ _ _ _ c.learn_in-2.ensures.1 (left_end _ _ _ _ _ (c.loop-left.invariant.1 _ _ (c.find_states-found.ensures.1 ea).finds) c.loop-left-test.false _ c.learn_in-2.ensures.2))
+
+pub one_target-returns-then-known-eq1 : goal.one_target-returns-then-known-eq1
+one_target-returns-then-known-eq1 t c = (refl, λ ea. alone_no _ _ _ _ _ _ _ c.alone-known.ensures ea (λ z. let h = c.if-node-eq2.true in omega arith) (λ z. let h = c.if-node-eq2.true in omega arith) c.if-known-eq1.true)
+
+pub one_target-returns-then-known-eq2 : goal.one_target-returns-then-known-eq2
+one_target-returns-then-known-eq2 t c = (refl, λ ea. alone_yes _ _ _ _ _ _ _ c.alone-known.ensures ea (λ z. let h = c.if-node-eq2.true in omega arith) (λ z. let h = c.if-node-eq2.true in omega arith) c.if-known-eq2.true)
+
+pub one_target-shape_of-w : goal.one_target-shape_of-w
+one_target-shape_of-w t c = c.check_term.ensures.0
+
+pub one_target-returns : goal.one_target-returns
+one_target-returns t c = (c.check_term.ensures.0, λ ea. c.check_term.ensures.1)
+
+pub all_targets-loop-left-init : goal.all_targets-loop-left-init
+all_targets-loop-left-init t c = (refl, omega arith, λ _ _ _ told. told)
+
+pub all_targets-shape_of-w-then-node-here : goal.all_targets-shape_of-w-then-node-here
+all_targets-shape_of-w-then-node-here t c = c.loop-left.invariant.0
+
+pub all_targets-returns-then-node-here : goal.all_targets-returns-then-node-here
+all_targets-returns-then-node-here t c = (c.loop-left.invariant.0, c.loop-left.invariant.2 _ _ _ (targets_stuck _ _ _ _ _ _ c.loop-left-test.true _ (next_by _ c.args.r.now _ _ _ c.number_in-base.ensures.0 c.node_of-node.ensures) c.if-node-here.true))
+
+pub all_targets-state_targets-rest-requires : goal.all_targets-state_targets-rest-requires
+all_targets-state_targets-rest-requires t c = omega arith
+
+pub all_targets-shape_of-w-then-rest-eq-NO_TARGETS : goal.all_targets-shape_of-w-then-rest-eq-NO_TARGETS
+all_targets-shape_of-w-then-rest-eq-NO_TARGETS t c = c.loop-left.invariant.0
+
+pub all_targets-returns-then-rest-eq-NO_TARGETS : goal.all_targets-returns-then-rest-eq-NO_TARGETS
+all_targets-returns-then-rest-eq-NO_TARGETS t c = (c.loop-left.invariant.0, c.loop-left.invariant.2 _ _ _ (down_none _ _ _ _ _ _ _ (node_by _ c.args.r.now _ _ _ c.number_in-base.ensures.0 c.node_of-node.ensures) (c.goes_down.ensures c.if-goes_down.true).0 (c.goes_down.ensures c.if-goes_down.true).1 _ c.state_targets-rest.ensures c.if-rest-eq-NO_TARGETS.true))
+
+pub all_targets-overflow_add-here : goal.all_targets-overflow_add-here
+all_targets-overflow_add-here t c = let h = c.if-node-here.false in omega arith
+
+pub all_targets-loop-left-smaller-then-goes_down : goal.all_targets-loop-left-smaller-then-goes_down
+all_targets-loop-left-smaller-then-goes_down t c = omega arith
+
+pub all_targets-loop-left-preserved-then-goes_down : goal.all_targets-loop-left-preserved-then-goes_down
+all_targets-loop-left-preserved-then-goes_down t c = (c.loop-left.invariant.0, let l = c.loop-left.invariant.1 in omega arith, λ m u b told. c.loop-left.invariant.2 m u b (down _ _ _ _ _ _ _ (node_by _ c.args.r.now _ _ _ c.number_in-base.ensures.0 c.node_of-node.ensures) (c.goes_down.ensures c.if-goes_down.true).0 (c.goes_down.ensures c.if-goes_down.true).1 _ c.state_targets-rest.ensures c.if-rest-eq-NO_TARGETS.false (c.loop-left.here + 1) (omega arith) m u b told))
+
+pub all_targets-shape_of-w-then-not-one_target : goal.all_targets-shape_of-w-then-not-one_target
+all_targets-shape_of-w-then-not-one_target t c = c.one_target.ensures.0 ∙ c.loop-left.invariant.0
+
+pub all_targets-returns-then-not-one_target : goal.all_targets-returns-then-not-one_target
+all_targets-returns-then-not-one_target t c = (c.one_target.ensures.0 ∙ c.loop-left.invariant.0, c.loop-left.invariant.2 _ _ _ (targets_lack _ _ _ _ _ _ c.loop-left-test.true _ (next_by _ c.args.r.now _ _ _ c.number_in-base.ensures.0 c.node_of-node.ensures) _ _ _ (c.one_target.ensures.1 (node_by _ c.args.r.now _ _ _ c.number_in-base.ensures.0 c.node_of-node.ensures)) c.if-not-one_target.true))
+
+pub all_targets-overflow_sub-left : goal.all_targets-overflow_sub-left
+all_targets-overflow_sub-left t c = let l = c.loop-left-test.true in omega arith
+
+pub all_targets-loop-left-smaller : goal.all_targets-loop-left-smaller
+all_targets-loop-left-smaller t c = let h = c.if-node-here.false in omega arith
+
+pub all_targets-loop-left-preserved : goal.all_targets-loop-left-preserved
+all_targets-loop-left-preserved t c = (c.one_target.ensures.0 ∙ c.loop-left.invariant.0, let l = c.loop-left.invariant.1 in let h = c.if-node-here.false in omega arith, λ m u b told. c.loop-left.invariant.2 m u b (targets_rest _ _ _ _ _ _ c.loop-left-test.true _ (next_by _ c.args.r.now _ _ _ c.number_in-base.ensures.0 c.node_of-node.ensures) _ _ _ (c.one_target.ensures.1 (node_by _ c.args.r.now _ _ _ c.number_in-base.ensures.0 c.node_of-node.ensures)) c.if-not-one_target.false m u b told))
+
+pub all_targets-shape_of-w : goal.all_targets-shape_of-w
+all_targets-shape_of-w t c = c.loop-left.invariant.0
+
+pub all_targets-returns : goal.all_targets-returns
+all_targets-returns t c = (c.loop-left.invariant.0, c.loop-left.invariant.2 _ _ _ (targets_none _ _ _ c.loop-left.here _ _ c.loop-left-test.false))
+
+pub check_term-returns-then-at-ge-MAX_NODES : goal.check_term-returns-then-at-ge-MAX_NODES
+check_term-returns-then-at-ge-MAX_NODES t c = (refl, term_past _ _ _ _ _ c.if-at-ge-MAX_NODES.true)
+
+pub check_term-returns-then-targets-eq-NO_TARGETS : goal.check_term-returns-then-targets-eq-NO_TARGETS
+check_term-returns-then-targets-eq-NO_TARGETS t c = (refl, no_targets _ _ _ _ _ _ (node_by _ c.args.r.now _ _ _ c.number_in.ensures.0 c.node_of-node.ensures) c.if-node-eq0.true _ c.targets_for-targets.ensures c.if-targets-eq-NO_TARGETS.true)
+
+pub check_term-overflow_add-at : goal.check_term-overflow_add-at
+check_term-overflow_add-at t c = let h = c.if-at-ge-MAX_NODES.false in omega arith
+
+pub check_term-shape_of-w-then-node-eq0 : goal.check_term-shape_of-w-then-node-eq0
+check_term-shape_of-w-then-node-eq0 t c = c.all_targets.ensures.0
+
+pub check_term-returns-then-node-eq0 : goal.check_term-returns-then-node-eq0
+check_term-returns-then-node-eq0 t c = (c.all_targets.ensures.0, built_checked _ _ _ _ _ _ (node_by _ c.args.r.now _ _ _ c.number_in.ensures.0 c.node_of-node.ensures) c.if-node-eq0.true _ c.targets_for-targets.ensures c.if-targets-eq-NO_TARGETS.false (c.args.at + 1) (omega arith) _ _ _ c.all_targets.ensures.1)
+
+pub check_term-check_bound-requires : goal.check_term-check_bound-requires
+check_term-check_bound-requires t c = let p = c.decreases in let h = c.if-at-ge-MAX_NODES.false in (omega arith, omega arith)
+
+pub check_term-shape_of-w-then-node-eq1 : goal.check_term-shape_of-w-then-node-eq1
+check_term-shape_of-w-then-node-eq1 t c = c.check_bound.ensures.0
+
+pub check_term-returns-then-node-eq1 : goal.check_term-returns-then-node-eq1
+check_term-returns-then-node-eq1 t c = (c.check_bound.ensures.0, c.check_bound.ensures.1 (node_by _ c.args.r.now _ _ _ c.number_in.ensures.0 c.node_of-node.ensures) c.if-node-eq1.true)
+
+pub check_term-returns-then-known-eq1 : goal.check_term-returns-then-known-eq1
+check_term-returns-then-known-eq1 t c = (refl, alone_no _ _ _ _ _ _ _ c.alone-known.ensures (node_by _ c.args.r.now _ _ _ c.number_in.ensures.0 c.node_of-node.ensures) c.if-node-eq0.false c.if-node-eq1.false c.if-known-eq1.true)
+
+pub check_term-returns-then-known-eq2 : goal.check_term-returns-then-known-eq2
+check_term-returns-then-known-eq2 t c = (refl, alone_yes _ _ _ _ _ _ _ c.alone-known.ensures (node_by _ c.args.r.now _ _ _ c.number_in.ensures.0 c.node_of-node.ensures) c.if-node-eq0.false c.if-node-eq1.false c.if-known-eq2.true)
+
+pub check_term-check_given-requires : goal.check_term-check_given-requires
+check_term-check_given-requires t c = let p = c.decreases in let h = c.if-at-ge-MAX_NODES.false in (omega arith, omega arith)
+
+pub check_term-shape_of-w : goal.check_term-shape_of-w
+check_term-shape_of-w t c = c.check_given.ensures.0
+
+pub check_term-returns : goal.check_term-returns
+check_term-returns t c = (c.check_given.ensures.0, c.check_given.ensures.1 (node_by _ c.args.r.now _ _ _ c.number_in.ensures.0 c.node_of-node.ensures) c.if-node-eq0.false c.if-node-eq1.false)
+
+pub find_bound-loop-left-init : goal.find_bound-loop-left-init
+find_bound-loop-left-init t c = (refl, λ ea et. finds_none _ _ _ _)
+
+pub find_bound-shape_of-w-then-ty-eq-NONE : goal.find_bound-shape_of-w-then-ty-eq-NONE
+find_bound-shape_of-w-then-ty-eq-NONE t c = c.loop-left.invariant.0
+
+pub find_bound-returns-then-ty-eq-NONE : goal.find_bound-returns-then-ty-eq-NONE
+find_bound-returns-then-ty-eq-NONE t c = c.loop-left.invariant
+
+pub find_bound-overflow_add-at : goal.find_bound-overflow_add-at
+find_bound-overflow_add-at t c = let h = c.requires in omega arith
+
+pub find_bound-shape_of-w-then-not-args_again : goal.find_bound-shape_of-w-then-not-args_again
+find_bound-shape_of-w-then-not-args_again t c = c.args_again.ensures.0 ∙ c.loop-left.invariant.0
+
+pub find_bound-returns-then-not-args_again : goal.find_bound-returns-then-not-args_again
+find_bound-returns-then-not-args_again t c = (c.args_again.ensures.0 ∙ c.loop-left.invariant.0, λ ea et. finds_on _ _ _ _ (c.loop-left.invariant.1 ea et) c.args_again.ensures.1.keeps)
+
+pub find_bound-loop-left-smaller : goal.find_bound-loop-left-smaller
+find_bound-loop-left-smaller t c = c.without_bit-left.ensures.less (c.lowest-q.ensures.within c.loop-left-test.true) (c.lowest-q.ensures.has c.loop-left-test.true)
+
+pub find_bound-loop-left-preserved : goal.find_bound-loop-left-preserved
+find_bound-loop-left-preserved t c = (c.note_in.ensures.0 ∙ c.args_again.ensures.0 ∙ c.loop-left.invariant.0, λ ea et. let told = tries_moved _ _ _ _ _ _ _ _ _ _ _ _ c.note_in.ensures.1 refl (try_serves _ _ _ _ _ _ _ _ c.candidate-ty.ensures c.if-ty-eq-NONE.false (c.args.at + 1) (omega arith) _ _ _ c.args_again.ensures.1 c.if-not-args_again.false _ c.note_in.ensures.2) ea et in finds_more _ _ _ _ (c.loop-left.invariant.1 ea et) told.keeps _ _ (c.lowest-q.ensures.within c.loop-left-test.true) c.with_bit-had.ensures (told.yes refl))
+
+pub find_bound-shape_of-w : goal.find_bound-shape_of-w
+find_bound-shape_of-w t c = c.loop-left.invariant.0
+
+pub find_bound-returns : goal.find_bound-returns
+find_bound-returns t c = c.loop-left.invariant
+
+pub find_given-returns-then-given-eq-NONE : goal.find_given-returns-then-given-eq-NONE
+find_given-returns-then-given-eq-NONE t c = (refl, λ ea nc nn. settles_found _ _ _ _ _ (finds_none _ _ _ _))
+
+pub find_given-loop-j-init : goal.find_given-loop-j-init
+find_given-loop-j-init t c = (refl, λ ea nc nn. sought_start _ _ _ _ _ _ _)
+
+pub find_given-overflow_add-j : goal.find_given-overflow_add-j
+find_given-overflow_add-j t c = let h = c.loop-j-test.true in let m = c.many_of-many.ensures.1 in omega arith
+
+pub find_given-overflow_add-at : goal.find_given-overflow_add-at
+find_given-overflow_add-at t c = let h = c.requires in omega arith
+
+pub find_given-loop-j-smaller-then-args_again : goal.find_given-loop-j-smaller-then-args_again
+find_given-loop-j-smaller-then-args_again t c = let h = c.loop-j-test.true in omega arith
+
+pub find_given-loop-j-preserved-then-args_again : goal.find_given-loop-j-preserved-then-args_again
+find_given-loop-j-preserved-then-args_again t c = (c.args_again.ensures.0 ∙ c.loop-j.invariant.0, λ ea nc nn. sought_serves _ _ _ _ _ _ _ (c.loop-j.invariant.1 ea nc nn) _ c.member_of-ty.ensures.0 _ (omega arith) _ c.wanted-q.ensures c.if-q-ne-NONE.true (c.args.at + 1) (omega arith) _ _ _ c.args_again.ensures.1 (c.off-given.ensures ∙ ap (off_of _ _) c.number_in.ensures.0) ea nc nn _ c.many_of-many.ensures.0 c.loop-j-test.true c.if-given-eq-NONE.false c.if-args_again.true _ _ c.with_bit-had.ensures c.without_bit-left.ensures)
+
+pub find_given-loop-j-smaller-else-args_again : goal.find_given-loop-j-smaller-else-args_again
+find_given-loop-j-smaller-else-args_again t c = let h = c.loop-j-test.true in omega arith
+
+pub find_given-loop-j-preserved-else-args_again : goal.find_given-loop-j-preserved-else-args_again
+find_given-loop-j-preserved-else-args_again t c = (c.args_again.ensures.0 ∙ c.loop-j.invariant.0, λ ea nc nn. sought_fails _ _ _ _ _ _ _ (c.loop-j.invariant.1 ea nc nn) _ c.member_of-ty.ensures.0 _ (omega arith) _ c.wanted-q.ensures c.if-q-ne-NONE.true (c.args.at + 1) (omega arith) _ _ _ c.args_again.ensures.1 c.if-args_again.false _ c.with_bit-left.ensures)
+
+pub find_given-loop-j-smaller : goal.find_given-loop-j-smaller
+find_given-loop-j-smaller t c = let h = c.loop-j-test.true in omega arith
+
+pub find_given-loop-j-preserved : goal.find_given-loop-j-preserved
+find_given-loop-j-preserved t c = (c.loop-j.invariant.0, λ ea nc nn. sought_misses _ _ _ _ _ _ _ (c.loop-j.invariant.1 ea nc nn) _ c.member_of-ty.ensures.0 _ (omega arith) _ c.wanted-q.ensures c.if-q-ne-NONE.false)
+
+pub find_given-shape_of-w : goal.find_given-shape_of-w
+find_given-shape_of-w t c = c.loop-j.invariant.0
+
+pub find_given-returns : goal.find_given-returns
+find_given-returns t c = (c.loop-j.invariant.0, λ ea nc nn. sought_end _ _ _ _ _ _ _ (c.loop-j.invariant.1 ea nc nn) (c.off-given.ensures ∙ ap (off_of _ _) c.number_in.ensures.0) ea nc nn _ c.many_of-many.ensures.0 (omega arith))
+
+pub find_states-returns-then-at-ge-MAX_NODES : goal.find_states-returns-then-at-ge-MAX_NODES
+find_states-returns-then-at-ge-MAX_NODES t c = (refl, λ ea. settles_found _ _ _ _ _ (finds_none _ _ _ _))
+
+pub find_states-returns-then-number_in-lt-FEW_HINTS : goal.find_states-returns-then-number_in-lt-FEW_HINTS
+find_states-returns-then-number_in-lt-FEW_HINTS t c = (refl, λ ea. settles_found _ _ _ _ _ (finds_none _ _ _ _))
+
+pub find_states-find_bound-had-requires : goal.find_states-find_bound-had-requires
+find_states-find_bound-had-requires t c = let p = c.decreases in let h = c.if-at-ge-MAX_NODES.false in (omega arith, omega arith)
+
+pub find_states-shape_of-w-then-node-eq1 : goal.find_states-shape_of-w-then-node-eq1
+find_states-shape_of-w-then-node-eq1 t c = c.find_bound-had.ensures.0
+
+pub find_states-returns-then-node-eq1 : goal.find_states-returns-then-node-eq1
+find_states-returns-then-node-eq1 t c = (c.find_bound-had.ensures.0, λ ea. settles_found _ _ _ _ _ (c.find_bound-had.ensures.1 ea c.if-node-eq1.true))
+
+pub find_states-returns-then-node-eq0 : goal.find_states-returns-then-node-eq0
+find_states-returns-then-node-eq0 t c = (refl, λ ea. leaf_settles _ _ _ _ _ _ _ c.leaf_states.ensures ea c.if-node-eq0.true)
+
+pub find_states-find_given-requires : goal.find_states-find_given-requires
+find_states-find_given-requires t c = let p = c.decreases in let h = c.if-at-ge-MAX_NODES.false in (omega arith, omega arith)
+
+pub find_states-shape_of-w : goal.find_states-shape_of-w
+find_states-shape_of-w t c = c.find_given.ensures.0
+
+pub find_states-returns : goal.find_states-returns
+find_states-returns t c = (c.find_given.ensures.0, λ ea. c.find_given.ensures.1 ea c.if-node-eq0.false c.if-node-eq1.false)
+
+pub try_one-returns-then-ty-eq-NONE : goal.try_one-returns-then-ty-eq-NONE
+try_one-returns-then-ty-eq-NONE t c = (refl, try_misses _ _ _ _ _ _ _ _ c.candidate-ty.ensures c.if-ty-eq-NONE.true)
+
+pub try_one-overflow_add-at : goal.try_one-overflow_add-at
+try_one-overflow_add-at t c = let h = c.requires in omega arith
+
+pub try_one-shape_of-w-then-not-check_args : goal.try_one-shape_of-w-then-not-check_args
+try_one-shape_of-w-then-not-check_args t c = c.check_args.ensures.0
+
+pub try_one-returns-then-not-check_args : goal.try_one-returns-then-not-check_args
+try_one-returns-then-not-check_args t c = (c.check_args.ensures.0, try_lacks _ _ _ _ _ _ _ _ c.candidate-ty.ensures c.if-ty-eq-NONE.false (c.args.at + 1) (omega arith) _ _ _ c.check_args.ensures.1 c.if-not-check_args.true)
+
+pub try_one-shape_of-w : goal.try_one-shape_of-w
+try_one-shape_of-w t c = c.note_in.ensures.0 ∙ c.check_args.ensures.0
+
+pub try_one-returns : goal.try_one-returns
+try_one-returns t c = (c.note_in.ensures.0 ∙ c.check_args.ensures.0, tries_moved _ _ _ _ _ _ _ _ _ _ _ _ c.note_in.ensures.1 refl (try_serves _ _ _ _ _ _ _ _ c.candidate-ty.ensures c.if-ty-eq-NONE.false (c.args.at + 1) (omega arith) _ _ _ c.check_args.ensures.1 c.if-not-check_args.false _ c.note_in.ensures.2))
