@@ -1,3 +1,5 @@
+#![tactic(auto)]
+
 pub mod evidence;
 pub mod intake;
 pub mod plan;
