@@ -1,2 +1,4 @@
+#![tactic(auto)]
+
 pub mod closures;
 pub mod fronts;

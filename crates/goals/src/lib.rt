@@ -1,1 +1,3 @@
+#![tactic(auto)]
+
 pub mod groups;

@@ -1,3 +1,5 @@
+#![tactic(auto)]
+
 pub mod chains;
 pub mod enter;
 pub mod entries;

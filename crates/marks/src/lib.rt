@@ -1,4 +1,6 @@
 // Sets of numbers as the bits of words: the words of a set begin at a place, and number n is bit n % 32 of word n / 32.
+#![tactic(auto)]
+
 pub mod briefs;
 
 ghost use Rattle.std.specs.Prelude.{◌≡◌, ◌+◌, ◌<◌, min, get_or};

@@ -1,2 +1,4 @@
+#![tactic(auto)]
+
 pub mod codes;
 pub mod steps;

@@ -1,3 +1,5 @@
+#![tactic(auto)]
+
 pub mod places;
 pub mod rows;
 pub mod table;

@@ -1,6 +1,5 @@
 -- `is_in` meets its contract.
 use Rattle.marks.proofs.Sets.{decided}
-use borrow.Author.Rules.{rules}
 use Rattle.marks.proofs.is_in.Goals as goal
 
 pub returns : goal.returns

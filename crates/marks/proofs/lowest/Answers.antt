@@ -1,7 +1,6 @@
 -- `lowest` meets its contract.
 use native.Mathlib.Omega.{arith}
 use lib.Count.{trailing_le}
-use borrow.Author.Rules.{rules}
 use Rattle.marks.proofs.lowest.Goals as goal
 
 pub overflow_cast-zeros : goal.overflow_cast-zeros

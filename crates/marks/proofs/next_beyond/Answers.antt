@@ -1,8 +1,6 @@
 -- `next_beyond` meets its contract. The invariant: no number from the first on and below n is in the set.
-use Prim.Native.Nat.{◌-◌}
 use native.Mathlib.Omega.{arith}
-use borrow.Author.Rules.{rules}
-use Rattle.marks.proofs.Sets.{Passed, passed_none, passed_word, passed_quiet, finds_lowest, finds_past, finds_end}
+use Rattle.marks.proofs.Sets.{passed_none, passed_word, passed_quiet, finds_lowest, finds_past, finds_end}
 use Rattle.marks.proofs.next_beyond.Goals as goal
 
 pub returns-then-words-at : goal.returns-then-words-at

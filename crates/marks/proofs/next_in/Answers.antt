@@ -1,6 +1,5 @@
 -- `next_in` meets its contract.
 use native.Mathlib.Omega.{arith}
-use borrow.Author.Rules.{rules}
 use Rattle.marks.proofs.Sets.{passed_none, passed_word, finds_lowest, finds_end, finds_on}
 use Rattle.marks.proofs.next_in.Goals as goal
 

@@ -1,7 +1,6 @@
 -- `put_in` meets its contract.
 use native.Mathlib.Omega.{arith}
 use Rattle.marks.proofs.Sets.{puts_past, puts_here}
-use borrow.Author.Rules.{rules}
 use Rattle.marks.proofs.put_in.Goals as goal
 
 pub returns-then-words-at : goal.returns-then-words-at

@@ -1,10 +1,6 @@
 -- `quiet` meets its contract. The invariant: where what was read has no bit together, no word of it has one.
 use Prim.Native.Nat.{◌-◌}
-use native.Mathlib.Omega.{arith}
-use mathlib.Core.Bool.{false≢true}
-use borrow.Author.Rules.{rules}
-use borrow.Author.Tests.{eqb-true}
-use Rattle.marks.proofs.Sets.{Quiets, quiet_more}
+use Rattle.marks.proofs.Sets.{Quiets}
 use Rattle.marks.proofs.quiet.Given as goal
 
 abbrev pub invariant-loop-k : goal.invariant-loop-k

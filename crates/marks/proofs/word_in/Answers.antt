@@ -1,7 +1,6 @@
 -- `word_in` meets its contract.
 use native.Mathlib.Omega.{arith}
 use Rattle.marks.proofs.Sets.{word_none}
-use borrow.Author.Rules.{rules}
 use Rattle.marks.proofs.word_in.Goals as goal
 
 pub returns-then-words-at : goal.returns-then-words-at

@@ -1,6 +1,5 @@
 -- `capped` meets its contract.
 use Rattle.closures.proofs.closures.Capping.{adds_first, adds_second, adds_both}
-use borrow.Author.Rules.{rules}
 use Rattle.closures.proofs.closures.capped.Goals as goal
 
 pub returns-then-a-gt-MAX_TERM : goal.returns-then-a-gt-MAX_TERM

@@ -2,7 +2,6 @@
 use native.Mathlib.Omega.{arith}
 use mathlib.Core.Path.{sym}
 use lib.ListN.{get_or-eq_default}
-use borrow.Author.Rules.{rules}
 use Rattle.closures.proofs.closures.cell_at.Goals as goal
 
 pub returns-else-slot-cells : goal.returns-else-slot-cells

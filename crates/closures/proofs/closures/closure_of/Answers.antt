@@ -1,7 +1,6 @@
 -- `closure_of` meets its contract.
 use native.Mathlib.Omega.{arith}
 use Rattle.closures.proofs.closures.Measuring.{close_packed, close_far, close_parameter}
-use borrow.Author.Rules.{rules}
 use Rattle.closures.proofs.closures.closure_of.Goals as goal
 
 pub returns-then-at-ge-PLACE_UNITS : goal.returns-then-at-ge-PLACE_UNITS

@@ -1,9 +1,6 @@
 -- `measure` meets its contract. The invariant: the terms that are left stand from `next` on.
 use Prim.Native.Nat.{◌-◌}
-use native.Mathlib.Omega.{arith}
-use mathlib.Core.Path.{refl}
-use Rattle.closures.proofs.closures.Measuring.{Measuring, measure_start, measure_done, measure_far, measure_next}
-use borrow.Author.Rules.{rules}
+use Rattle.closures.proofs.closures.Measuring.{Measuring}
 use Rattle.index.specs.layout.Layout.{place_units}
 use Rattle.closures.proofs.closures.measure.Given as goal
 

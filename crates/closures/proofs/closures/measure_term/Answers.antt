@@ -1,6 +1,5 @@
 -- `measure_term` meets its contract.
 use Rattle.closures.proofs.closures.Measuring.{alone_far, alone_done}
-use borrow.Author.Rules.{rules}
 use Rattle.closures.proofs.closures.measure_term.Goals as goal
 
 pub returns-then-at-ge-PLACE_UNITS : goal.returns-then-at-ge-PLACE_UNITS

@@ -1,9 +1,7 @@
 -- `spread` meets its contract. The invariant: the first i closures are written, and their nodes summed.
-use Prim.Native.Nat.{◌-◌}
 use native.Mathlib.Omega.{arith}
 use mathlib.Core.Path.{refl}
-use Rattle.closures.proofs.closures.Spreading.{Spreading, spread_start, spread_over, spread_end, spread_next}
-use borrow.Author.Rules.{rules}
+use Rattle.closures.proofs.closures.Spreading.{spread_start, spread_over, spread_end, spread_next}
 use Rattle.closures.proofs.closures.spread.Goals as goal
 
 pub returns-then-cells-low : goal.returns-then-cells-low

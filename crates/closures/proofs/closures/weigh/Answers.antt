@@ -1,6 +1,5 @@
 -- `weigh` meets its contract.
 use Rattle.closures.proofs.closures.Measuring.{weigh_far, weigh_head, weigh_free, weigh_parameter}
-use borrow.Author.Rules.{rules}
 use Rattle.closures.proofs.closures.weigh.Goals as goal
 
 pub returns-then-at-ge-PLACE_UNITS : goal.returns-then-at-ge-PLACE_UNITS

@@ -1,8 +1,7 @@
 -- `gather` meets its contract. The invariant: the term is the node at `place` with its frame, and the arguments gathered.
 use native.Mathlib.Omega.{arith}
 use mathlib.Core.Path.{refl, ◌∙◌}
-use Rattle.closures.proofs.fronts.Gathering.{Gathering, gather_start, gather_high, gather_far, gather_over, gather_head, gather_free, gather_rising, gather_next}
-use borrow.Author.Rules.{rules}
+use Rattle.closures.proofs.fronts.Gathering.{gather_start, gather_high, gather_far, gather_over, gather_head, gather_free, gather_rising, gather_next}
 use Rattle.closures.proofs.fronts.gather.Goals as goal
 
 pub returns-then-top-ge-BLOCK_UNITS : goal.returns-then-top-ge-BLOCK_UNITS

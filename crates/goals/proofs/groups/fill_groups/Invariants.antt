@@ -1,9 +1,6 @@
 -- `fill_groups` meets its contract.
 use Prim.Native.Nat.{◌+◌, ◌-◌, ◌≤◌}
-use native.Mathlib.Omega.{arith}
-use borrow.Author.Rules.{rules}
 use Rattle.goals.specs.groups.Groups.{nonterminal_in, Sofar}
-use Rattle.goals.proofs.groups.Grouping.{group_none, group_more, group_not, group_all}
 use Rattle.goals.proofs.groups.fill_groups.Given as goal
 
 abbrev pub invariant-loop-f : goal.invariant-loop-f

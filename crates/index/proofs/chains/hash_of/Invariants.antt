@@ -1,9 +1,7 @@
 -- `hash_of` meets its contract: the first two numbers are mixed in by themselves, and the others one by one.
 use Prim.Native.Nat.{◌-◌, ◌<◌, ◌≤◌}
-use native.Mathlib.Omega.{arith}
-use borrow.Author.Rules.{rules}
 use lib.ListN.{length}
-use Rattle.index.proofs.chains.Hashing.{Mixes, mix_start, mix_step, mix_done}
+use Rattle.index.proofs.chains.Hashing.{Mixes}
 use Rattle.index.proofs.chains.hash_of.Given as goal
 
 abbrev pub invariant-loop-i : goal.invariant-loop-i

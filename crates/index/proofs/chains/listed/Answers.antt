@@ -1,10 +1,7 @@
-use Prim.Native.Nat.{◌<◌}
-use mathlib.Core.Path.{◌≡◌, refl}
+use mathlib.Core.Path.{refl}
 use native.Mathlib.Omega.{arith}
-use borrow.Author.Rules.{rules}
-use Rattle.index.specs.entries.Chains.{hash_of_spec}
 use Rattle.index.proofs.chains.Hashing.{hash_few}
-use Rattle.index.proofs.chains.Chaining.{Sought, seek_start, seek_hit, seek_miss, seek_up, seek_done}
+use Rattle.index.proofs.chains.Chaining.{seek_start, seek_hit, seek_miss, seek_up, seek_done}
 use Rattle.index.proofs.chains.listed.Goals as goal
 
 pub returns-then-h-gt-LAST_HASH : goal.returns-then-h-gt-LAST_HASH

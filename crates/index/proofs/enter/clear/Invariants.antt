@@ -1,8 +1,6 @@
 -- `clear` meets its contract.
 use Prim.Native.Nat.{◌-◌, ◌≤◌}
-use native.Mathlib.Omega.{arith}
-use borrow.Author.Rules.{rules}
-use Rattle.index.proofs.enter.Clearing.{Cleared, cleared_none, cleared_one, cleared_all, too_short}
+use Rattle.index.proofs.enter.Clearing.{Cleared}
 use Rattle.index.proofs.enter.clear.Given as goal
 
 abbrev pub invariant-loop-i : goal.invariant-loop-i

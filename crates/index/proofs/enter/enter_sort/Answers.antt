@@ -1,7 +1,6 @@
 use mathlib.Core.Path.{refl}
 use native.Mathlib.Omega.{arith}
 use Rattle.index.proofs.enter.Storing.{lens_sort}
-use borrow.Author.Rules.{rules}
 use Rattle.index.proofs.enter.enter_sort.Goals as goal
 
 pub returns-then-n-gt65535 : goal.returns-then-n-gt65535

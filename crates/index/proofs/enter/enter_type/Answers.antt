@@ -2,7 +2,6 @@ use mathlib.Core.Path.{refl}
 use native.Mathlib.Omega.{arith}
 use Rattle.index.proofs.chains.Hashing.{hash_few}
 use Rattle.index.proofs.enter.Storing.{chains_type}
-use borrow.Author.Rules.{rules}
 use Rattle.index.proofs.enter.enter_type.Goals as goal
 
 pub returns-then-n-gt65535 : goal.returns-then-n-gt65535

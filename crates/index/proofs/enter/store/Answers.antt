@@ -1,8 +1,6 @@
-use Prim.Native.Nat.{◌-◌}
 use mathlib.Core.Path.{sym}
 use native.Mathlib.Omega.{arith}
 use Rattle.index.proofs.enter.Storing.{stored_set, stored_large, stored_past}
-use borrow.Author.Rules.{rules}
 use Rattle.index.proofs.enter.store.Goals as goal
 
 pub returns-then-v-gt65535 : goal.returns-then-v-gt65535

@@ -1,7 +1,6 @@
 -- `entry` meets its contract.
 use mathlib.Core.Path.{◌∙◌}
 use Rattle.index.proofs.lookup.Found.{entry_is}
-use borrow.Author.Rules.{rules}
 use Rattle.index.proofs.lookup.entry.Goals as goal
 
 pub returns : goal.returns

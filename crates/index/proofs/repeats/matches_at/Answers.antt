@@ -1,8 +1,5 @@
-use Prim.Native.Nat.{◌-◌, ◌≤◌}
 use native.Mathlib.Omega.{arith}
-use borrow.Author.Rules.{rules}
-use lib.ListN.{length}
-use Rattle.index.proofs.repeats.Bytes.{Matches, matches_start, matches_step, matches_stop, matches_end}
+use Rattle.index.proofs.repeats.Bytes.{matches_start, matches_step, matches_stop, matches_end}
 use Rattle.index.proofs.repeats.matches_at.Goals as goal
 
 pub returns-then-p-gt64 : goal.returns-then-p-gt64

@@ -1,8 +1,6 @@
 use Prim.Native.Nat.{◌-◌, ◌≤◌}
-use native.Mathlib.Omega.{arith}
-use borrow.Author.Rules.{rules}
 use lib.ListN.{length}
-use Rattle.index.proofs.repeats.Bytes.{Matches, matches_start, matches_step, matches_stop, matches_end}
+use Rattle.index.proofs.repeats.Bytes.{Matches}
 use Rattle.index.proofs.repeats.matches_at.Given as goal
 
 abbrev pub invariant-loop-i : goal.invariant-loop-i

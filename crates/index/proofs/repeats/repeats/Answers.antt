@@ -1,7 +1,5 @@
-use Prim.Native.Nat.{◌-◌, ◌≤◌}
 use native.Mathlib.Omega.{arith}
-use borrow.Author.Rules.{rules}
-use Rattle.index.proofs.repeats.Seeking.{Sought, seek_start, seek_miss, seek_hit, seek_done, base_few}
+use Rattle.index.proofs.repeats.Seeking.{seek_start, seek_miss, seek_hit, seek_done, base_few}
 use Rattle.index.proofs.repeats.repeats.Goals as goal
 
 pub returns-then-base-gt4096 : goal.returns-then-base-gt4096

@@ -1,5 +1,4 @@
 use Rattle.index.proofs.repeats.Seeking.{payload_other, payload_same}
-use borrow.Author.Rules.{rules}
 use Rattle.index.proofs.repeats.same_payload.Goals as goal
 
 pub returns-then-length_at-p : goal.returns-then-length_at-p

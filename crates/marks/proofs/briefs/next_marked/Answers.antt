@@ -1,10 +1,9 @@
 -- `next_marked` meets its contract. The invariant: no number from the first on and below n is marked.
-use Prim.Native.Nat.{◌+◌, ◌-◌, ◌/◌, ◌%◌, ◌^◌}
+use Prim.Native.Nat.{◌+◌, ◌/◌, ◌%◌, ◌^◌}
 use native.Mathlib.Omega.{arith}
-use borrow.Author.Rules.{rules}
 use lib.Count.{trailing_le}
 use Rattle.marks.proofs.Sets.{passed_none, passed_word, passed_zeros}
-use Rattle.marks.proofs.briefs.Passing.{Passes, passes_none, passes_on, marked_end, marked_here, brief_past, brief_ends, passes_brief}
+use Rattle.marks.proofs.briefs.Passing.{passes_none, passes_on, marked_end, marked_here, brief_past, brief_ends, passes_brief}
 use Rattle.marks.proofs.briefs.next_marked.Goals as goal
 
 pub loop-n-init : goal.loop-n-init

@@ -1,11 +1,7 @@
 -- `arrow_to` meets its contract: no sort before i is the one looked for.
 use Prim.Native.Nat.{ℕ, ◌-◌, ◌<◌}
 use mathlib.Core.Path.{◌≡◌}
-use native.Mathlib.Omega.{arith}
-use borrow.Author.Count.{below_more}
 use lib.ListN.{get_or}
-use Rattle.sorts.proofs.codes.Codes.{arrow_yes, arrow_no}
-use borrow.Author.Rules.{rules}
 use Rattle.sorts.proofs.codes.arrow_to.Given as goal
 
 abbrev pub invariant-loop-i : goal.invariant-loop-i

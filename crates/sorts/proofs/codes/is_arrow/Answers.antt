@@ -1,6 +1,5 @@
 -- `is_arrow` meets its contract.
 use Rattle.sorts.proofs.codes.Codes.{both_no, both_last}
-use borrow.Author.Rules.{rules}
 use Rattle.sorts.proofs.codes.is_arrow.Goals as goal
 
 pub returns-then-place_at-ne0 : goal.returns-then-place_at-ne0

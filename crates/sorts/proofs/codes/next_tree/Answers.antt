@@ -1,6 +1,5 @@
 -- `next_tree` meets its contract.
 use Rattle.sorts.proofs.codes.Codes.{next_unlisted, next_listed, next_missing}
-use borrow.Author.Rules.{rules}
 use Rattle.sorts.proofs.codes.next_tree.Goals as goal
 
 pub returns-then-code-ge1000 : goal.returns-then-code-ge1000

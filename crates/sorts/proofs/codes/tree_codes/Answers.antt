@@ -2,7 +2,6 @@
 use native.Mathlib.Omega.{arith}
 use mathlib.Core.Path.{refl}
 use Rattle.sorts.proofs.codes.Codes.{tree_start, five}
-use borrow.Author.Rules.{rules}
 use Rattle.sorts.proofs.codes.tree_codes.Goals as goal
 
 pub returns : goal.returns

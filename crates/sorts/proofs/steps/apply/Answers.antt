@@ -1,7 +1,6 @@
 -- `apply` meets its contract.
 use mathlib.Core.Path.{◌∙◌}
 use Rattle.sorts.proofs.steps.Offs.{off_tree_misfit, off_tree, off_none, off_misfit, off_listed}
-use borrow.Author.Rules.{rules}
 use Rattle.sorts.proofs.steps.apply.Goals as goal
 
 pub returns-then-argument-ne0 : goal.returns-then-argument-ne0

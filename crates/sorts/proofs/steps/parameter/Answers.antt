@@ -1,7 +1,6 @@
 -- `parameter` meets its contract: argument `steps` of sort s is the parameter looked for.
 use native.Mathlib.Omega.{arith}
-use Rattle.sorts.proofs.steps.Parameters.{Along, along_start, along_next, along_end}
-use borrow.Author.Rules.{rules}
+use Rattle.sorts.proofs.steps.Parameters.{along_start, along_next, along_end}
 use Rattle.sorts.proofs.steps.parameter.Goals as goal
 
 pub loop-steps-init : goal.loop-steps-init

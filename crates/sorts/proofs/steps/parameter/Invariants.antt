@@ -1,7 +1,5 @@
 -- `parameter` meets its contract: argument `steps` of sort s is the parameter looked for.
-use native.Mathlib.Omega.{arith}
-use Rattle.sorts.proofs.steps.Parameters.{Along, along_start, along_next, along_end}
-use borrow.Author.Rules.{rules}
+use Rattle.sorts.proofs.steps.Parameters.{Along}
 use Rattle.sorts.proofs.steps.parameter.Given as goal
 
 abbrev pub invariant-loop-steps : goal.invariant-loop-steps

@@ -1,8 +1,6 @@
 -- `parameter_sorts` meets its contract: the sorts before j are listed, and the arguments of sort s are the other parameters.
 use Prim.Native.Nat.{◌-◌}
-use mathlib.Core.Path.{refl}
-use borrow.Author.Rules.{rules}
-use Rattle.sorts.proofs.steps.Parameters.{Listing, list_none, list_more, list_stop, list_all}
+use Rattle.sorts.proofs.steps.Parameters.{Listing}
 use Rattle.sorts.proofs.steps.parameter_sorts.Given as goal
 
 abbrev pub invariant-loop-j : goal.invariant-loop-j

@@ -1,7 +1,6 @@
 -- `arity_of` meets its contract.
 use native.Mathlib.Omega.{arith}
 use Rattle.transitions.proofs.rows.Rows.{arity_past, arity_past_all, arity_there}
-use borrow.Author.Rules.{rules}
 use Rattle.transitions.proofs.rows.arity_of.Goals as goal
 
 pub returns-then-constructors-c : goal.returns-then-constructors-c

@@ -1,7 +1,6 @@
 -- `row_of` meets its contract.
 use native.Mathlib.Omega.{arith}
 use Rattle.transitions.proofs.rows.Rows.{row_past_states, row_past_constructors, row_past_all, row_there}
-use borrow.Author.Rules.{rules}
 use Rattle.transitions.proofs.rows.row_of.Goals as goal
 
 pub returns-then-state-ge-MAX_STATES : goal.returns-then-state-ge-MAX_STATES

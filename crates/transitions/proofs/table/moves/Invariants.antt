@@ -1,9 +1,4 @@
-use Rattle.transitions.proofs.table.Meaning.{all_rows}
-use Prim.Native.Nat.{◌-◌}
-use native.Mathlib.Omega.{arith}
-use borrow.Author.Rules.{rules}
 use Rattle.transitions.specs.table.Moves.{Sofar}
-use Rattle.transitions.proofs.table.Filling.{sofar_none, sofar_put, sofar_state, sofar_constructor}
 use Rattle.transitions.proofs.table.moves.Given as goal
 
 abbrev pub invariant-loop-k : goal.invariant-loop-k
