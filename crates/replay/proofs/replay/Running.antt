@@ -3,11 +3,8 @@ use Prim.Native.Nat.{ℕ, suc, ◌+◌, ◌*◌, ◌<◌, ◌≤◌}
 use native.Mathlib.Omega.{arith}
 use mathlib.Core.Path.{◌≡◌, refl, sym, ap, subst, ◌∙◌}
 use mathlib.Core.Bool.{true}
-use mathlib.Core.Logic.{⊎_elim}
 use mathlib.Core.List.{List, [], ◌∷◌}
 use mathlib.Core.Option.{Option, none, some}
-use types.Run.{OneOf}
-use denote.Enum.Declared.{tag_of}
 use borrow.Author.Tests.{eq-eqb, ne_eqb, lt-ltb}
 use lib.ListN.{length, get_or, drop, drop_of_length-le}
 use lib.Seq.{drop-cons}
@@ -33,7 +30,6 @@ use Rattle.replay.specs.letters.Letters.{Replaying, Holding, LeadsTo, Follows}
 use Rattle.replay.specs.declared.letters.Held.{Held}
 use Rattle.replay.specs.declared.letters.Step.{Step}
 use Rattle.replay.specs.declared.letters.Step.TheVariants.{Lost, TooLarge, At}
-use Rattle.replay.specs.contracts.letters.Step.{the_type}
 use Rattle.transitions.proofs.rows.Rows.{no_row, row_past_constructors, constructor_count}
 use Rattle.casefile.specs.PathCases.{refuted_path, path_answer, replayed}
 use Rattle.replay.specs.replay.Replays.{path_as, stopped_at, Arrives, Runs}

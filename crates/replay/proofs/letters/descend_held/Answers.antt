@@ -1,6 +1,5 @@
 -- `descend_held` meets its contract.
 use Rattle.replay.proofs.letters.Letters.{descend_not, descend_lost, descend_does}
-use borrow.Author.Rules.{rules}
 use Rattle.replay.proofs.letters.descend_held.Goals as goal
 
 pub returns-then-held-ne0 : goal.returns-then-held-ne0

@@ -1,6 +1,5 @@
 -- `follow` meets its contract.
 use Rattle.replay.proofs.letters.Letters.{follow_unfolds, follow_descends}
-use borrow.Author.Rules.{rules}
 use Rattle.replay.proofs.letters.follow.Goals as goal
 
 pub returns-then-letter-eq0 : goal.returns-then-letter-eq0

@@ -1,6 +1,5 @@
 -- `target_for` meets its contract.
 use Rattle.replay.proofs.letters.Arguments.{target_none, target_past, target_over, target_four, target_there}
-use borrow.Author.Rules.{rules}
 use Rattle.replay.proofs.letters.target_for.Goals as goal
 
 pub returns-then-row : goal.returns-then-row

@@ -1,6 +1,5 @@
 -- `unfold_held` meets its contract.
 use Rattle.replay.proofs.letters.Letters.{unfold_not, unfold_itself, unfold_over, unfold_large, unfold_does}
-use borrow.Author.Rules.{rules}
 use Rattle.replay.proofs.letters.unfold_held.Goals as goal
 
 pub returns-then-held-ne1 : goal.returns-then-held-ne1

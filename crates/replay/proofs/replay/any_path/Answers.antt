@@ -1,7 +1,6 @@
 -- `any_path` meets its contract.
 use native.Mathlib.Omega.{arith}
 use Rattle.replay.proofs.replay.Paths.{answer_all}
-use borrow.Author.Rules.{rules}
 use Rattle.replay.proofs.replay.any_path.Goals as goal
 
 pub returns : goal.returns

@@ -1,6 +1,5 @@
 -- `arrive` meets its contract.
 use Rattle.replay.proofs.replay.Running.{arrive_not, arrive_goes, arrive_stuck}
-use borrow.Author.Rules.{rules}
 use Rattle.replay.proofs.replay.arrive.Goals as goal
 
 pub returns-then-held-ne0 : goal.returns-then-held-ne0

@@ -1,7 +1,6 @@
 -- `replay_with` meets its contract.
 use native.Mathlib.Omega.{arith}
 use Rattle.replay.proofs.replay.Paths.{attempt_not, attempt_done}
-use borrow.Author.Rules.{rules}
 use Rattle.replay.proofs.replay.replay_with.Goals as goal
 
 pub returns-then-cells-path : goal.returns-then-cells-path

@@ -1,6 +1,5 @@
 -- `stopped` meets its contract.
 use Rattle.replay.proofs.replay.Running.{stop_lost, stop_large, stop_none}
-use borrow.Author.Rules.{rules}
 use Rattle.replay.proofs.replay.stopped.Goals as goal
 
 pub returns-in-Lost : goal.returns-in-Lost
