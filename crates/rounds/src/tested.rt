@@ -18,7 +18,7 @@ use term_check::check::check_term;
 use term_check::parts::split_of;
 
 // The sizes of a case: where the nodes begin in the flat table, how many goals and how many bindings there are.
-#[derive(Drop)]
+#[derive(Clone, Copy)]
 pub struct Sizes {
     pub nodes: usize,
     pub goals: usize,
@@ -27,7 +27,7 @@ pub struct Sizes {
 
 // The course of a turn: the number of the round, the number of the last test, the least binding that failed, and one more than the
 // greatest or 0.
-#[derive(Drop)]
+#[derive(Clone, Copy)]
 pub struct Course {
     pub round: usize,
     pub last: u32,
