@@ -22,7 +22,7 @@ pub shape_of-index : goal.shape_of-index
 shape_of-index c = c.fill_rows.ensures.long
 
 pub shape_of-firsts : goal.shape_of-firsts
-shape_of-firsts c = c.fill_firsts.auto.1.1.1.0
+shape_of-firsts c = c.fill_firsts.auto.firsts
 
 pub returns : goal.returns
 returns c =
