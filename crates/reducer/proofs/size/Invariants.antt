@@ -1,7 +1,6 @@
 use Prim.Native.Nat.{◌-◌}
 use lib.ListN.{length}
 use mathlib.Core.Path.{◌≡◌}
-use borrow.Author.Rules.{rules}
 use Rattle.reducer.proofs.size.Given as goal
 
 abbrev pub invariant-loop-nodes : goal.invariant-loop-nodes

@@ -1,5 +1,4 @@
 use Prim.Native.Nat.{◌-◌}
-use borrow.Author.Rules.{rules}
 use Rattle.reducer.proofs.transition.Given as goal
 
 abbrev pub invariant-loop-at : goal.invariant-loop-at

@@ -1,5 +1,4 @@
 use Prim.Native.Nat.{◌-◌}
-use borrow.Author.Rules.{rules}
 use Rattle.reducer.proofs.ways.Given as goal
 
 abbrev pub invariant-loop-n : goal.invariant-loop-n
