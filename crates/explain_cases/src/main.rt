@@ -92,7 +92,12 @@ fn say_name<W: Write>(out: &mut W, name: &[u8]) -> io::Result<()> {
 }
 
 // The line of a binding.
-fn say_reason<W: Write>(out: &mut W, name: &[u8], reasons: &Reasons, binding: usize) -> io::Result<()> {
+fn say_reason<W: Write>(
+    out: &mut W,
+    name: &[u8],
+    reasons: &Reasons,
+    binding: usize,
+) -> io::Result<()> {
     let round = number(reasons, binding, REASON_ROUND);
     let node = number(reasons, binding, REASON_NODE);
     let goal = number(reasons, binding, REASON_GOAL);
@@ -120,7 +125,10 @@ fn say_sums<W: Write>(out: &mut W, name: &[u8], reasons: &Reasons, n: usize) -> 
     let nodes = sum(reasons, n, REASON_NODE);
     let goals = sum(reasons, n, REASON_GOAL);
     say_name(out, name)?;
-    writeln!(out, "in all {count} rounds {rounds} nodes {nodes} goals {goals}")
+    writeln!(
+        out,
+        "in all {count} rounds {rounds} nodes {nodes} goals {goals}"
+    )
 }
 
 // A word behind the name.
@@ -131,7 +139,12 @@ fn say<W: Write>(out: &mut W, name: &[u8], word: &[u8]) -> io::Result<()> {
 }
 
 // The lines of a file that was explained.
-fn say_lines<W: Write>(out: &mut W, name: &[u8], verdict: Verdict, reasons: &Reasons) -> io::Result<()> {
+fn say_lines<W: Write>(
+    out: &mut W,
+    name: &[u8],
+    verdict: Verdict,
+    reasons: &Reasons,
+) -> io::Result<()> {
     if let Verdict::Refused {
         number: _,
         place: _,

@@ -12,7 +12,8 @@ use std::io;
 use std::io::Write;
 use std::rt::Files;
 use test_files::{
-    FILE_BUFFER, FLAGS, NAME_BUFFER, fresh_flags, judge_lent, same, same_bytes, stem, untouched, written,
+    FILE_BUFFER, FLAGS, NAME_BUFFER, fresh_flags, judge_lent, same, same_bytes, stem, untouched,
+    written,
 };
 
 // How many flags are printed at most.
@@ -91,7 +92,12 @@ fn say_line<W: Write>(out: &mut W, name: &[u8], verdict: Verdict, flags: &[u8]) 
 }
 
 // A line for a verdict or for flags that should be others.
-fn say_mismatch<W: Write>(out: &mut W, name: &[u8], lent: usize, verdict: Verdict) -> io::Result<()> {
+fn say_mismatch<W: Write>(
+    out: &mut W,
+    name: &[u8],
+    lent: usize,
+    verdict: Verdict,
+) -> io::Result<()> {
     out.write_all(name)?;
     write!(out, " mismatch with {lent} flags: ")?;
     verdict_lines::write_verdict(out, verdict)?;
@@ -99,7 +105,13 @@ fn say_mismatch<W: Write>(out: &mut W, name: &[u8], lent: usize, verdict: Verdic
 }
 
 // Judges a file with as many flags as it has bindings, and compares with what came before.
-fn judge_exactly<W: Write>(out: &mut W, name: &[u8], file: &[u8], verdict: Verdict, flags: &[u8]) -> io::Result<()> {
+fn judge_exactly<W: Write>(
+    out: &mut W,
+    name: &[u8],
+    file: &[u8],
+    verdict: Verdict,
+    flags: &[u8],
+) -> io::Result<()> {
     let n = written(verdict);
     let mut others = fresh_flags();
     let again = judge_lent(file, &mut others, n);

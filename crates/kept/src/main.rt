@@ -18,7 +18,10 @@ fn say_binding<W: Write>(out: &mut W, fields: &[u8], k: usize, flag: u8) -> io::
     let nonterminal = word_at(fields, 0);
     let of_type = word_at(fields, 2);
     let outcome = if flag == 0 { "dropped" } else { "kept" };
-    writeln!(out, "binding {k} nonterminal {nonterminal} type {of_type} {outcome}")
+    writeln!(
+        out,
+        "binding {k} nonterminal {nonterminal} type {of_type} {outcome}"
+    )
 }
 
 // A line for each binding of a file, by its flag.

@@ -108,7 +108,13 @@ fn say_letters<W: Write>(out: &mut W, file: &[u8], path: usize) -> io::Result<()
 }
 
 // A line for case k of a plan, of which case 0 is the file itself.
-fn say_mismatch<W: Write>(out: &mut W, name: &[u8], k: usize, answer: Verdict, outcome: Outcome) -> io::Result<()> {
+fn say_mismatch<W: Write>(
+    out: &mut W,
+    name: &[u8],
+    k: usize,
+    answer: Verdict,
+    outcome: Outcome,
+) -> io::Result<()> {
     out.write_all(name)?;
     write!(out, ": mismatch in case {k}: ")?;
     say_answer(out, answer)?;
@@ -241,7 +247,15 @@ fn one<R: Env + Files + Print + Eprint>(rt: &R, i: usize, cells: &mut [u16]) -> 
     let lent = test_files::number_argument(rt, i + 1);
     let length = found.name;
     let mut out = io::writer(rt);
-    let compared = judge(&mut out, &name[..length], &mut file, found.bytes, lent, i, cells)?;
+    let compared = judge(
+        &mut out,
+        &name[..length],
+        &mut file,
+        found.bytes,
+        lent,
+        i,
+        cells,
+    )?;
     Ok(Done {
         more: true,
         compared,
