@@ -1,5 +1,5 @@
-/* The judge of case files, and why it drops bindings, for programs in C. Link with target/staticlib/libcapi.a
- * (`rt staticlib capi`), on x86-64. */
+/* The judge of case files, and why it drops bindings, for programs in C. Link with crates/capi/out/libcapi.a
+ * (`rt lib` in crates/capi), on x86-64. */
 #ifndef PLAN_CHECK_H
 #define PLAN_CHECK_H
 

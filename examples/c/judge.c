@@ -1,8 +1,8 @@
 /* Judges the case file that is its argument and prints the verdict, and which bindings are kept; with --explain why the others
  * are dropped.
  *
- *   rt staticlib capi
- *   cc -O2 -Iinclude examples/c/judge.c target/staticlib/libcapi.a -o target/judge_c
+ *   (cd crates/capi && rt lib) && mkdir -p target
+ *   cc -O2 -Iinclude examples/c/judge.c crates/capi/out/libcapi.a -o target/judge_c
  *   target/judge_c examples/e.case
  *   target/judge_c --explain examples/b.case
  */

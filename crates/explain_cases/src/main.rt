@@ -3,13 +3,18 @@
 // lines it prints the first 8, then how many there are and the sums of their rounds, nodes and goals. The lent numbers are 7777 at
 // first: where one past those of the bindings changed, a line says `untouched no`. Each file is judged too: where the verdict is
 // another, or a kept binding has a number or a dropped one none, or a fourth number is not 0, a line says `mismatch`.
+#![tactic(auto)]
+
 use index::layout::{
     MAX_BINDINGS, REASON_CELLS, REASON_GOAL, REASON_NODE, REASON_REST, REASON_ROUND, REASONS,
     Reasons,
 };
-use libc::STDOUT_FILENO;
 use plan_check::Verdict;
-use test_files::{FLAGS, fresh_flags, judge_lent, same, stem, written};
+use std::env::Env;
+use std::io;
+use std::io::Write;
+use std::rt::Files;
+use test_files::{FILE_BUFFER, FLAGS, NAME_BUFFER, fresh_flags, judge_lent, same, stem, written};
 
 // What each number holds before a call; none that is written is so high.
 const BEFORE: u16 = 7777;
@@ -41,7 +46,7 @@ fn dropped(reasons: &Reasons, n: usize) -> usize {
     let mut count: usize = 0;
     for binding in 0..n {
         if number(reasons, binding, REASON_ROUND) != 0 {
-            count = std::num::wrapping_add_usize(count, 1);
+            count = count.wrapping_add(1);
         }
     }
     count
@@ -51,7 +56,7 @@ fn dropped(reasons: &Reasons, n: usize) -> usize {
 fn sum(reasons: &Reasons, n: usize, cell: usize) -> usize {
     let mut sum: usize = 0;
     for binding in 0..n {
-        sum = std::num::wrapping_add_usize(sum, number(reasons, binding, cell));
+        sum = sum.wrapping_add(number(reasons, binding, cell));
     }
     sum
 }
@@ -81,110 +86,123 @@ fn are_right(reasons: &Reasons, flags: &[u8], n: usize) -> bool {
     true
 }
 
-fn say_name(name: &[u8]) {
-    io::write_all(STDOUT_FILENO, name);
-    io::write_all(STDOUT_FILENO, b": ");
+fn say_name<W: Write>(out: &mut W, name: &[u8]) -> io::Result<()> {
+    out.write_all(name)?;
+    out.write_all(b": ")
 }
 
 // The line of a binding.
-fn say_reason(name: &[u8], reasons: &Reasons, binding: usize) {
+fn say_reason<W: Write>(
+    out: &mut W,
+    name: &[u8],
+    reasons: &Reasons,
+    binding: usize,
+) -> io::Result<()> {
     let round = number(reasons, binding, REASON_ROUND);
     let node = number(reasons, binding, REASON_NODE);
     let goal = number(reasons, binding, REASON_GOAL);
-    say_name(name);
-    verdict_lines::write_reason(STDOUT_FILENO, binding, round, node, goal);
-    io::write_all(STDOUT_FILENO, b"\n");
+    say_name(out, name)?;
+    verdict_lines::write_reason(out, binding, round, node, goal)?;
+    out.write_all(b"\n")
 }
 
 // The lines of those of n bindings that have a round, as many as are shown.
-fn say_reasons(name: &[u8], reasons: &Reasons, n: usize) {
+fn say_reasons<W: Write>(out: &mut W, name: &[u8], reasons: &Reasons, n: usize) -> io::Result<()> {
     let mut shown: usize = 0;
     for binding in 0..n {
         if shown < SHOWN && number(reasons, binding, REASON_ROUND) != 0 {
-            say_reason(name, reasons, binding);
+            say_reason(out, name, reasons, binding)?;
             shown = shown + 1;
         }
     }
-}
-
-fn say_sum(word: &[u8], sum: usize) {
-    io::write_all(STDOUT_FILENO, word);
-    io::print_decimal(STDOUT_FILENO, sum as u64);
+    Ok(())
 }
 
 // A line for all that were dropped, of n.
-fn say_sums(name: &[u8], reasons: &Reasons, n: usize) {
-    say_name(name);
-    say_sum(b"in all ", dropped(reasons, n));
-    say_sum(b" rounds ", sum(reasons, n, REASON_ROUND));
-    say_sum(b" nodes ", sum(reasons, n, REASON_NODE));
-    say_sum(b" goals ", sum(reasons, n, REASON_GOAL));
-    io::write_all(STDOUT_FILENO, b"\n");
+fn say_sums<W: Write>(out: &mut W, name: &[u8], reasons: &Reasons, n: usize) -> io::Result<()> {
+    let count = dropped(reasons, n);
+    let rounds = sum(reasons, n, REASON_ROUND);
+    let nodes = sum(reasons, n, REASON_NODE);
+    let goals = sum(reasons, n, REASON_GOAL);
+    say_name(out, name)?;
+    writeln!(
+        out,
+        "in all {count} rounds {rounds} nodes {nodes} goals {goals}"
+    )
 }
 
 // A word behind the name.
-fn say(name: &[u8], word: &[u8]) {
-    say_name(name);
-    io::write_all(STDOUT_FILENO, word);
-    io::write_all(STDOUT_FILENO, b"\n");
+fn say<W: Write>(out: &mut W, name: &[u8], word: &[u8]) -> io::Result<()> {
+    say_name(out, name)?;
+    out.write_all(word)?;
+    out.write_all(b"\n")
 }
 
 // The lines of a file that was explained.
-fn say_lines(name: &[u8], verdict: Verdict, reasons: &Reasons) {
+fn say_lines<W: Write>(
+    out: &mut W,
+    name: &[u8],
+    verdict: Verdict,
+    reasons: &Reasons,
+) -> io::Result<()> {
     if let Verdict::Refused {
         number: _,
         place: _,
     } = verdict
     {
-        say_name(name);
-        verdict_lines::write_verdict(STDOUT_FILENO, verdict);
-        io::write_all(STDOUT_FILENO, b"\n");
-        return;
+        say_name(out, name)?;
+        verdict_lines::write_verdict(out, verdict)?;
+        return out.write_all(b"\n");
     }
     let n = written(verdict);
     let count = dropped(reasons, n);
     if count == 0 {
-        say(name, b"nothing");
+        say(out, name, b"nothing")?;
     }
-    say_reasons(name, reasons, n);
+    say_reasons(out, name, reasons, n)?;
     if SHOWN < count {
-        say_sums(name, reasons, n);
+        say_sums(out, name, reasons, n)?;
     }
+    Ok(())
 }
 
 // Explains a file, judges it, and prints what there is to say of it.
-fn explain_case(name: &[u8], file: &[u8]) {
+fn explain_case<W: Write>(out: &mut W, name: &[u8], file: &[u8]) -> io::Result<()> {
     let mut reasons = [BEFORE; REASONS];
     let verdict = plan_check::explain(file, &mut reasons);
-    say_lines(name, verdict, &reasons);
+    say_lines(out, name, verdict, &reasons)?;
     let n = written(verdict);
     if !untouched(&reasons, n) {
-        say(name, b"untouched no");
+        say(out, name, b"untouched no")?;
     }
     let mut flags = fresh_flags();
     let judged = judge_lent(file, &mut flags, FLAGS);
     if !same(verdict, judged) || !are_right(&reasons, &flags, n) {
-        say(name, b"mismatch");
+        say(out, name, b"mismatch")?;
     }
+    Ok(())
 }
 
 // Explains the file that argument i names; false where there is none.
-fn one(i: usize) -> bool {
-    let mut name = io::buffer();
-    let mut file = io::large_buffer();
-    let found = test_files::read_named(i, &mut name, &mut file);
+fn one<R: Env + Files + Print + Eprint>(rt: &R, i: usize) -> io::Result<bool> {
+    let mut name = [0u8; NAME_BUFFER];
+    let mut file = [0u8; FILE_BUFFER];
+    let found = test_files::read_named(rt, i, &mut name, &mut file);
     if !found.there {
-        return false;
+        return Ok(false);
     }
     let length = found.name;
     let bytes = found.bytes;
-    explain_case(stem(&name[..length]), &file[..bytes]);
-    true
+    let mut out = io::writer(rt);
+    explain_case(&mut out, stem(&name[..length]), &file[..bytes])?;
+    Ok(true)
 }
 
-fn main() {
-    let mut i: usize = 1;
-    while i < 1000 && one(i) {
-        i = i + 1;
+fn main(rt: HostRuntime) -> io::Result<()> {
+    for i in 1..1000 {
+        if !one(&rt, i)? {
+            return Ok(());
+        }
     }
+    Ok(())
 }

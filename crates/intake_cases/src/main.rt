@@ -1,71 +1,72 @@
 // Judges each case file that its arguments name, with as many lent flags as the number behind its name says, and prints a line
 // for each: `NAME: refused 3 at 12` for a refusal by 1 to 12, and `NAME: accepted` for every other answer. A flag that changed
 // and must not is reported as well.
-use libc::STDOUT_FILENO;
+#![tactic(auto)]
+
 use plan_check::Verdict;
+use std::env::Env;
+use std::io;
+use std::io::Write;
+use std::rt::Files;
+use test_files::{FILE_BUFFER, NAME_BUFFER};
 
 // The last refusal that needs no replay.
 const LAST: usize = 12;
 
-fn say_accepted() {
-    io::write_all(STDOUT_FILENO, b": accepted\n");
+fn say_accepted<W: Write>(out: &mut W) -> io::Result<()> {
+    out.write_all(b": accepted\n")
 }
 
-fn say_refused(number: usize, place: usize) {
+fn say_refused<W: Write>(out: &mut W, number: usize, place: usize) -> io::Result<()> {
     if LAST < number {
-        say_accepted();
-        return;
+        return say_accepted(out);
     }
-    io::write_all(STDOUT_FILENO, b": refused ");
-    io::print_decimal(STDOUT_FILENO, number as u64);
-    io::write_all(STDOUT_FILENO, b" at ");
-    io::print_decimal(STDOUT_FILENO, place as u64);
-    io::write_all(STDOUT_FILENO, b"\n");
+    writeln!(out, ": refused {number} at {place}")
 }
 
-fn say(name: &[u8], verdict: Verdict) {
-    io::write_all(STDOUT_FILENO, name);
+fn say<W: Write>(out: &mut W, name: &[u8], verdict: Verdict) -> io::Result<()> {
+    out.write_all(name)?;
     if let Verdict::Refused { number, place } = verdict {
-        say_refused(number, place);
+        say_refused(out, number, place)
     } else {
-        say_accepted();
+        say_accepted(out)
     }
 }
 
 // The line of a file, judged with as many flags as `lent` says.
-fn judge(name: &[u8], file: &[u8], lent: usize) {
+fn judge<W: Write>(out: &mut W, name: &[u8], file: &[u8], lent: usize) -> io::Result<()> {
     let mut flags = test_files::fresh_flags();
     let verdict = test_files::judge_lent(file, &mut flags, lent);
     if !test_files::untouched(&flags, test_files::written(verdict)) {
-        io::write_all(STDOUT_FILENO, b"a flag changed: ");
+        out.write_all(b"a flag changed: ")?;
     }
-    say(name, verdict);
+    say(out, name, verdict)
 }
 
 // The line of the file that argument i names; false where there is none.
-fn one(i: usize) -> bool {
+fn one<R: Env + Files + Print + Eprint>(rt: &R, i: usize) -> io::Result<bool> {
     if 2000 < i {
-        return false;
+        return Ok(false);
     }
-    let mut name = io::buffer();
-    let mut file = io::large_buffer();
-    let found = test_files::read_named(i, &mut name, &mut file);
+    let mut name = [0u8; NAME_BUFFER];
+    let mut file = [0u8; FILE_BUFFER];
+    let found = test_files::read_named(rt, i, &mut name, &mut file);
     if !found.there {
-        return false;
+        return Ok(false);
     }
     let length = found.name;
     let bytes = found.bytes;
-    judge(
-        &name[..length],
-        &file[..bytes],
-        test_files::number_argument(i + 1),
-    );
-    true
+    let mut out = io::writer(rt);
+    let lent = test_files::number_argument(rt, i + 1);
+    judge(&mut out, &name[..length], &file[..bytes], lent)?;
+    Ok(true)
 }
 
-fn main() {
-    let mut i: usize = 1;
-    while i < 2000 && one(i) {
-        i = i + 2;
+fn main(rt: HostRuntime) -> io::Result<()> {
+    for k in 0..1000 {
+        if !one(&rt, 2 * k + 1)? {
+            return Ok(());
+        }
     }
+    Ok(())
 }

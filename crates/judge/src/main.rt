@@ -1,17 +1,22 @@
 // Reads a case file from standard input and prints the line of its verdict.
+#![tactic(auto)]
+
 use index::layout::MAX_BINDINGS;
-use libc::STDOUT_FILENO;
+use input::{BUFFER, read_input};
+use std::io;
+use std::io::Write;
 
 // The buffer holds more than the 60,000 bytes of the longest case file, so that a longer one is seen to be longer.
-fn main() {
-    let mut file = io::large_buffer();
-    let read = input::read_input(&mut file);
+fn main(rt: HostRuntime) -> io::Result<()> {
+    let mut file = [0u8; BUFFER];
+    let read = read_input(&rt, &mut file);
     if !read.whole {
-        return;
+        return Ok(());
     }
     let n = read.length;
     let mut flags = [0u8; MAX_BINDINGS];
     let verdict = plan_check::judge(&file[..n], &mut flags);
-    verdict_lines::write_verdict(STDOUT_FILENO, verdict);
-    io::write_all(STDOUT_FILENO, b"\n");
+    let mut out = io::writer(&rt);
+    verdict_lines::write_verdict(&mut out, verdict)?;
+    out.write_all(b"\n")
 }

@@ -4,9 +4,17 @@
 // at first: with 1,024 of them, of which those past the bindings have to stay 7; with as many as there are bindings, for
 // which all has to be the same; and with one fewer, which has to be refused by 12 and leave all at 7. Where something
 // else comes, the line ends in `untouched no`, or a further line says `mismatch`.
-use libc::STDOUT_FILENO;
+#![tactic(auto)]
+
 use plan_check::Verdict;
-use test_files::{FLAGS, fresh_flags, judge_lent, same, same_bytes, stem, untouched, written};
+use std::env::Env;
+use std::io;
+use std::io::Write;
+use std::rt::Files;
+use test_files::{
+    FILE_BUFFER, FLAGS, NAME_BUFFER, fresh_flags, judge_lent, same, same_bytes, stem, untouched,
+    written,
+};
 
 // How many flags are printed at most.
 const SHOWN: usize = 64;
@@ -29,82 +37,94 @@ fn sum_of_kept(flags: &[u8], n: usize) -> usize {
     let mut i: usize = 0;
     while i < flags.len() && i < n {
         if flags[i] == 1 {
-            sum = std::num::wrapping_add_usize(sum, i);
+            sum = sum.wrapping_add(i);
         }
         i = i + 1;
     }
     sum
 }
 
-fn say_flag(flag: u8) {
+fn say_flag<W: Write>(out: &mut W, flag: u8) -> io::Result<()> {
     if flag == 0 {
-        io::write_all(STDOUT_FILENO, b"0");
+        out.write_all(b"0")
     } else if flag == 1 {
-        io::write_all(STDOUT_FILENO, b"1");
+        out.write_all(b"1")
     } else {
-        io::write_all(STDOUT_FILENO, b"?");
+        out.write_all(b"?")
     }
 }
 
 // Prints the first flags, of n.
-fn say_first_flags(flags: &[u8], n: usize) {
+fn say_first_flags<W: Write>(out: &mut W, flags: &[u8], n: usize) -> io::Result<()> {
     let mut i: usize = 0;
     while i < flags.len() && i < n && i < SHOWN {
-        say_flag(flags[i]);
+        say_flag(out, flags[i])?;
         i = i + 1;
     }
+    Ok(())
 }
 
 // Prints n flags, where there are any.
-fn say_flags(flags: &[u8], n: usize) {
+fn say_flags<W: Write>(out: &mut W, flags: &[u8], n: usize) -> io::Result<()> {
     if n == 0 {
-        return;
+        return Ok(());
     }
-    io::write_all(STDOUT_FILENO, b" flags ");
-    say_first_flags(flags, n);
+    out.write_all(b" flags ")?;
+    say_first_flags(out, flags, n)?;
     if SHOWN < n {
-        io::write_all(STDOUT_FILENO, b" sum ");
-        io::print_decimal(STDOUT_FILENO, sum_of_kept(flags, n) as u64);
+        let sum = sum_of_kept(flags, n);
+        write!(out, " sum {sum}")?;
     }
+    Ok(())
 }
 
 // The line of a file that was judged with 1,024 flags.
-fn say_line(name: &[u8], verdict: Verdict, flags: &[u8]) {
+fn say_line<W: Write>(out: &mut W, name: &[u8], verdict: Verdict, flags: &[u8]) -> io::Result<()> {
     let n = written(verdict);
-    io::write_all(STDOUT_FILENO, name);
-    io::write_all(STDOUT_FILENO, b" ");
-    verdict_lines::write_verdict(STDOUT_FILENO, verdict);
-    say_flags(flags, n);
+    out.write_all(name)?;
+    out.write_all(b" ")?;
+    verdict_lines::write_verdict(out, verdict)?;
+    say_flags(out, flags, n)?;
     if !untouched(flags, n) {
-        io::write_all(STDOUT_FILENO, b" untouched no");
+        out.write_all(b" untouched no")?;
     }
-    io::write_all(STDOUT_FILENO, b"\n");
+    out.write_all(b"\n")
 }
 
 // A line for a verdict or for flags that should be others.
-fn say_mismatch(name: &[u8], lent: usize, verdict: Verdict) {
-    io::write_all(STDOUT_FILENO, name);
-    io::write_all(STDOUT_FILENO, b" mismatch with ");
-    io::print_decimal(STDOUT_FILENO, lent as u64);
-    io::write_all(STDOUT_FILENO, b" flags: ");
-    verdict_lines::write_verdict(STDOUT_FILENO, verdict);
-    io::write_all(STDOUT_FILENO, b"\n");
+fn say_mismatch<W: Write>(
+    out: &mut W,
+    name: &[u8],
+    lent: usize,
+    verdict: Verdict,
+) -> io::Result<()> {
+    out.write_all(name)?;
+    write!(out, " mismatch with {lent} flags: ")?;
+    verdict_lines::write_verdict(out, verdict)?;
+    out.write_all(b"\n")
 }
 
 // Judges a file with as many flags as it has bindings, and compares with what came before.
-fn judge_exactly(name: &[u8], file: &[u8], verdict: Verdict, flags: &[u8]) {
+fn judge_exactly<W: Write>(
+    out: &mut W,
+    name: &[u8],
+    file: &[u8],
+    verdict: Verdict,
+    flags: &[u8],
+) -> io::Result<()> {
     let n = written(verdict);
     let mut others = fresh_flags();
     let again = judge_lent(file, &mut others, n);
     if !same(verdict, again) || !same_bytes(flags, &others) {
-        say_mismatch(name, n, again);
+        say_mismatch(out, name, n, again)?;
     }
+    Ok(())
 }
 
 // Judges a file that has n bindings with one flag fewer.
-fn judge_short(name: &[u8], file: &[u8], n: usize) {
+fn judge_short<W: Write>(out: &mut W, name: &[u8], file: &[u8], n: usize) -> io::Result<()> {
     if n == 0 {
-        return;
+        return Ok(());
     }
     let mut flags = fresh_flags();
     let verdict = judge_lent(file, &mut flags, n - 1);
@@ -113,39 +133,43 @@ fn judge_short(name: &[u8], file: &[u8], n: usize) {
         place: 0,
     };
     if !same(verdict, wanted) || !untouched(&flags, 0) {
-        say_mismatch(name, n - 1, verdict);
+        say_mismatch(out, name, n - 1, verdict)?;
     }
+    Ok(())
 }
 
 // Judges a file and prints what there is to say of it.
-fn judge_case(name: &[u8], file: &[u8]) {
+fn judge_case<W: Write>(out: &mut W, name: &[u8], file: &[u8]) -> io::Result<()> {
     let mut flags = fresh_flags();
     let verdict = judge_lent(file, &mut flags, FLAGS);
-    say_line(name, verdict, &flags);
+    say_line(out, name, verdict, &flags)?;
     if !are_flags(&flags, written(verdict)) {
-        say_mismatch(name, FLAGS, verdict);
+        say_mismatch(out, name, FLAGS, verdict)?;
     }
-    judge_exactly(name, file, verdict, &flags);
-    judge_short(name, file, written(verdict));
+    judge_exactly(out, name, file, verdict, &flags)?;
+    judge_short(out, name, file, written(verdict))
 }
 
 // Judges the file that argument i names; false where there is none.
-fn one(i: usize) -> bool {
-    let mut name = io::buffer();
-    let mut file = io::large_buffer();
-    let found = test_files::read_named(i, &mut name, &mut file);
+fn one<R: Env + Files + Print + Eprint>(rt: &R, i: usize) -> io::Result<bool> {
+    let mut name = [0u8; NAME_BUFFER];
+    let mut file = [0u8; FILE_BUFFER];
+    let found = test_files::read_named(rt, i, &mut name, &mut file);
     if !found.there {
-        return false;
+        return Ok(false);
     }
     let length = found.name;
     let bytes = found.bytes;
-    judge_case(stem(&name[..length]), &file[..bytes]);
-    true
+    let mut out = io::writer(rt);
+    judge_case(&mut out, stem(&name[..length]), &file[..bytes])?;
+    Ok(true)
 }
 
-fn main() {
-    let mut i: usize = 1;
-    while i < 1000 && one(i) {
-        i = i + 1;
+fn main(rt: HostRuntime) -> io::Result<()> {
+    for i in 1..1000 {
+        if !one(&rt, i)? {
+            return Ok(());
+        }
     }
+    Ok(())
 }

@@ -1,34 +1,34 @@
 // Reads a case file from standard input and prints the line of its verdict. For a binding case it then prints a line for
 // each binding, in file order: `binding 0 nonterminal 0 type 0 kept`, or `dropped` at the end.
+#![tactic(auto)]
+
 use index::layout::{BINDING, MAX_BINDINGS, MAX_FILE};
-use libc::STDOUT_FILENO;
+use input::{BUFFER, read_input};
 use plan_check::Verdict;
 use records::cursor::{Cursor, Read, payload};
 use records::fields::{HEADER, word_at};
+use std::io;
+use std::io::Write;
 
 // No file that is not refused has more records.
 const RECORDS: usize = MAX_FILE / HEADER;
 
 // The line of binding k, by its payload and its flag.
-fn say_binding(fields: &[u8], k: usize, flag: u8) {
-    io::write_all(STDOUT_FILENO, b"binding ");
-    io::print_decimal(STDOUT_FILENO, k as u64);
-    io::write_all(STDOUT_FILENO, b" nonterminal ");
-    io::print_decimal(STDOUT_FILENO, word_at(fields, 0) as u64);
-    io::write_all(STDOUT_FILENO, b" type ");
-    io::print_decimal(STDOUT_FILENO, word_at(fields, 2) as u64);
-    if flag == 0 {
-        io::write_all(STDOUT_FILENO, b" dropped\n");
-    } else {
-        io::write_all(STDOUT_FILENO, b" kept\n");
-    }
+fn say_binding<W: Write>(out: &mut W, fields: &[u8], k: usize, flag: u8) -> io::Result<()> {
+    let nonterminal = word_at(fields, 0);
+    let of_type = word_at(fields, 2);
+    let outcome = if flag == 0 { "dropped" } else { "kept" };
+    writeln!(
+        out,
+        "binding {k} nonterminal {nonterminal} type {of_type} {outcome}"
+    )
 }
 
 // A line for each binding of a file, by its flag.
-fn say_bindings(file: &[u8], flags: &[u8]) {
+fn say_bindings<W: Write>(out: &mut W, file: &[u8], flags: &[u8]) -> io::Result<()> {
     let mut cursor = Cursor { at: 0 };
     let mut k: usize = 0;
-    for turn in 0..RECORDS {
+    for _turn in 0..RECORDS {
         let read = cursor.next(file);
         let Read::Record {
             place: _,
@@ -38,17 +38,18 @@ fn say_bindings(file: &[u8], flags: &[u8]) {
             next,
         } = read
         else {
-            return;
+            return Ok(());
         };
         if kind == BINDING {
             if flags.len() <= k {
-                return;
+                return Ok(());
             }
-            say_binding(payload(file, start, len), k, flags[k]);
+            say_binding(out, payload(file, start, len), k, flags[k])?;
             k = k + 1;
         }
         cursor = next;
     }
+    Ok(())
 }
 
 // Whether a verdict is one of a binding case.
@@ -77,18 +78,20 @@ fn of_bindings(verdict: Verdict) -> bool {
 }
 
 // The buffer holds more than the 60,000 bytes of the longest case file, so that a longer one is seen to be longer.
-fn main() {
-    let mut file = io::large_buffer();
-    let read = input::read_input(&mut file);
+fn main(rt: HostRuntime) -> io::Result<()> {
+    let mut file = [0u8; BUFFER];
+    let read = read_input(&rt, &mut file);
     if !read.whole {
-        return;
+        return Ok(());
     }
     let n = read.length;
     let mut flags = [0u8; MAX_BINDINGS];
     let verdict = plan_check::judge(&file[..n], &mut flags);
-    verdict_lines::write_verdict(STDOUT_FILENO, verdict);
-    io::write_all(STDOUT_FILENO, b"\n");
+    let mut out = io::writer(&rt);
+    verdict_lines::write_verdict(&mut out, verdict)?;
+    out.write_all(b"\n")?;
     if of_bindings(verdict) {
-        say_bindings(&file[..n], &flags);
+        say_bindings(&mut out, &file[..n], &flags)?;
     }
+    Ok(())
 }

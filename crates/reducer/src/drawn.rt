@@ -4,7 +4,7 @@ ghost use Rattle.std.specs.Prelude.{◌≤◌};
 use crate::Plan;
 
 // A path's length, and the seed for what is drawn next.
-#[derive(Drop)]
+#[derive(Clone, Copy)]
 pub struct Drawn {
     pub length: usize,
     pub seed: usize,

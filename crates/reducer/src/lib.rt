@@ -1,4 +1,3 @@
-pub mod drawn;
 // A reducer on its own. It shares no code with the library, and it holds a term as linked cells where the library holds a
 // list of nodes. A cell has five numbers: its tag (0 constructor, 1 nonterminal, 2 parameter), its number, its first
 // argument, the argument after it in the same list, and a link: the cell that it is made from, or, while nodes are counted,
@@ -6,6 +5,10 @@ pub mod drawn;
 // The cells of all bodies come first, then a cell for each rule, whose first argument is the rule's body. Then there are
 // two halves: the term lies in one of them, and an unfolding makes the next term in the other, cell by cell in the order
 // in which the cells were set aside.
+#![tactic(auto)]
+
+pub mod drawn;
+
 ghost use Rattle.std.specs.Prelude.{◌≤◌};
 
 const TAG: usize = 0;
@@ -30,7 +33,7 @@ const ROOM: usize = 6000;
 
 // Where a file's transitions begin, and where its path's record does; how many rules were read, and the first cell that
 // their bodies leave.
-#[derive(Drop)]
+#[derive(Clone, Copy)]
 pub struct Plan {
     pub moves: usize,
     pub path: usize,
@@ -39,7 +42,7 @@ pub struct Plan {
 }
 
 // Where a replay stands: a term and a state. `stop` is 0, or 13 or 14 at a letter that ended it.
-#[derive(Drop)]
+#[derive(Clone, Copy)]
 pub struct Spot {
     pub term: usize,
     pub state: usize,
@@ -47,7 +50,7 @@ pub struct Spot {
 }
 
 // How a replay ends: 0 for refuted, with the number of letters as its place, or the number of a refusal and its place.
-#[derive(Drop)]
+#[derive(Clone, Copy)]
 pub struct Outcome {
     pub number: usize,
     pub place: usize,

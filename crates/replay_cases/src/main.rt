@@ -3,9 +3,18 @@
 // flag that changed and must not is reported. Where the answer is refuted or 13 to 15, a reducer on its own has to say the same,
 // of the file and of cases with the same plan and paths drawn by a seed; where it does not, a line says so. The last line counts
 // these cases.
-use libc::STDOUT_FILENO;
+#![tactic(auto)]
+
 use plan_check::Verdict;
 use reducer::{Outcome, Plan};
+use std::env::Env;
+use std::io;
+use std::io::Write;
+use std::rt::Files;
+use test_files::{FILE_BUFFER, NAME_BUFFER};
+
+// How many letters a path may have.
+const LETTERS: usize = 4096;
 
 // How many paths are drawn for a plan.
 const DRAWN: usize = 40;
@@ -20,39 +29,35 @@ struct Done {
     compared: usize,
 }
 
-fn say_answer(verdict: Verdict) {
+fn say_answer<W: Write>(out: &mut W, verdict: Verdict) -> io::Result<()> {
     match verdict {
         Verdict::Proved {
             kept: _,
             total: _,
             rounds: _,
-        } => {
-            io::write_all(STDOUT_FILENO, b"bindings");
-        }
+        } => out.write_all(b"bindings"),
         Verdict::Unproved {
             kept: _,
             total: _,
             rounds: _,
-        } => {
-            io::write_all(STDOUT_FILENO, b"bindings");
-        }
+        } => out.write_all(b"bindings"),
         Verdict::Refuted {
             letters: _,
             state: _,
             constructor: _,
-        } => verdict_lines::write_verdict(STDOUT_FILENO, verdict),
+        } => verdict_lines::write_verdict(out, verdict),
         Verdict::Refused {
             number: _,
             place: _,
-        } => verdict_lines::write_verdict(STDOUT_FILENO, verdict),
+        } => verdict_lines::write_verdict(out, verdict),
     }
 }
 
-fn say_line(name: &[u8], verdict: Verdict) {
-    io::write_all(STDOUT_FILENO, name);
-    io::write_all(STDOUT_FILENO, b": ");
-    say_answer(verdict);
-    io::write_all(STDOUT_FILENO, b"\n");
+fn say_line<W: Write>(out: &mut W, name: &[u8], verdict: Verdict) -> io::Result<()> {
+    out.write_all(name)?;
+    out.write_all(b": ")?;
+    say_answer(out, verdict)?;
+    out.write_all(b"\n")
 }
 
 // What the reducer found, as a verdict.
@@ -93,25 +98,29 @@ fn replayed(verdict: Verdict) -> bool {
 }
 
 // Prints the letters of a path.
-fn say_letters(file: &[u8], path: usize) {
+fn say_letters<W: Write>(out: &mut W, file: &[u8], path: usize) -> io::Result<()> {
     let n = reducer::word(file, path, 0);
     for i in 0..n {
-        io::write_all(STDOUT_FILENO, b" ");
-        io::print_decimal(STDOUT_FILENO, reducer::byte(file, path, i + 4) as u64);
+        let letter = reducer::byte(file, path, i + 4);
+        write!(out, " {letter}")?;
     }
-    io::write_all(STDOUT_FILENO, b"\n");
+    out.write_all(b"\n")
 }
 
 // A line for case k of a plan, of which case 0 is the file itself.
-fn say_mismatch(name: &[u8], k: usize, answer: Verdict, outcome: Outcome) {
-    io::write_all(STDOUT_FILENO, name);
-    io::write_all(STDOUT_FILENO, b": mismatch in case ");
-    io::print_decimal(STDOUT_FILENO, k as u64);
-    io::write_all(STDOUT_FILENO, b": ");
-    say_answer(answer);
-    io::write_all(STDOUT_FILENO, b", by the reducer ");
-    verdict_lines::write_verdict(STDOUT_FILENO, verdict_of(outcome));
-    io::write_all(STDOUT_FILENO, b", path");
+fn say_mismatch<W: Write>(
+    out: &mut W,
+    name: &[u8],
+    k: usize,
+    answer: Verdict,
+    outcome: Outcome,
+) -> io::Result<()> {
+    out.write_all(name)?;
+    write!(out, ": mismatch in case {k}: ")?;
+    say_answer(out, answer)?;
+    out.write_all(b", by the reducer ")?;
+    verdict_lines::write_verdict(out, verdict_of(outcome))?;
+    out.write_all(b", path")
 }
 
 // The first n bytes, or all if there are fewer.
@@ -123,125 +132,151 @@ fn first_bytes(bytes: &[u8], n: usize) -> &[u8] {
 }
 
 // The answer where as many flags are lent as `lent` says.
-fn answer_of(file: &[u8], lent: usize) -> Verdict {
+fn answer_of<W: Write>(out: &mut W, file: &[u8], lent: usize) -> io::Result<Verdict> {
     let mut flags = test_files::fresh_flags();
     let verdict = test_files::judge_lent(file, &mut flags, lent);
     if !test_files::untouched(&flags, test_files::written(verdict)) {
-        io::write_all(STDOUT_FILENO, b"a flag changed: ");
+        out.write_all(b"a flag changed: ")?;
     }
-    verdict
+    Ok(verdict)
 }
 
 // Compares the library's answer with the reducer's on case k of a plan, whose path stands at an offset.
-fn compare(name: &[u8], file: &[u8], path: usize, k: usize, answer: Verdict, cells: &mut [u16]) {
+fn compare<W: Write>(
+    out: &mut W,
+    name: &[u8],
+    file: &[u8],
+    path: usize,
+    k: usize,
+    answer: Verdict,
+    cells: &mut [u16],
+) -> io::Result<()> {
     let outcome = reducer::replay(file, cells);
     if !test_files::same(answer, verdict_of(outcome)) {
-        say_mismatch(name, k, answer, outcome);
-        say_letters(file, path);
+        say_mismatch(out, name, k, answer, outcome)?;
+        say_letters(out, file, path)?;
     }
+    Ok(())
 }
 
 // Compares on case k of a plan that is loaded, with a path drawn by a seed; returns the next seed.
-fn drawn_case(
+fn drawn_case<W: Write>(
+    out: &mut W,
     name: &[u8],
     file: &mut [u8],
     plan: Plan,
     k: usize,
     seed: usize,
     cells: &mut [u16],
-) -> usize {
-    let mut letters = io::buffer();
+) -> io::Result<usize> {
+    let mut letters = [0u8; LETTERS];
     let drawn = reducer::drawn::draw(file, plan, cells, seed, &mut letters);
     let end = reducer::drawn::set_path(file, plan.path, &letters, drawn.length);
     let case = first_bytes(file, end);
-    let answer = answer_of(case, 16);
-    compare(name, case, plan.path, k, answer, cells);
-    drawn.seed
+    let answer = answer_of(out, case, 16)?;
+    compare(out, name, case, plan.path, k, answer, cells)?;
+    Ok(drawn.seed)
 }
 
 // Compares on the cases with a plan that is loaded and drawn paths.
-fn drawn_cases(name: &[u8], file: &mut [u8], plan: Plan, first: usize, cells: &mut [u16]) {
+fn drawn_cases<W: Write>(
+    out: &mut W,
+    name: &[u8],
+    file: &mut [u8],
+    plan: Plan,
+    first: usize,
+    cells: &mut [u16],
+) -> io::Result<()> {
     let mut seed = first;
     for k in 0..DRAWN {
-        seed = drawn_case(name, file, plan, k + 1, seed, cells);
+        seed = drawn_case(out, name, file, plan, k + 1, seed, cells)?;
     }
+    Ok(())
 }
 
 // Compares on a file, which fills the first bytes of the buffer, and on drawn cases of its plan.
-fn compare_all(
+fn compare_all<W: Write>(
+    out: &mut W,
     name: &[u8],
     buffer: &mut [u8],
     length: usize,
     answer: Verdict,
     seed: usize,
     cells: &mut [u16],
-) {
+) -> io::Result<()> {
     let file = first_bytes(buffer, length);
     let plan = reducer::load(file, cells);
-    compare(name, file, plan.path, 0, answer, cells);
-    drawn_cases(name, buffer, plan, seed, cells);
+    compare(out, name, file, plan.path, 0, answer, cells)?;
+    drawn_cases(out, name, buffer, plan, seed, cells)
 }
 
 // The line of a file, which fills the first bytes of the buffer, and its comparisons; returns how many these are.
-fn judge(
+fn judge<W: Write>(
+    out: &mut W,
     name: &[u8],
     buffer: &mut [u8],
     length: usize,
     lent: usize,
     seed: usize,
     cells: &mut [u16],
-) -> usize {
-    let answer = answer_of(first_bytes(buffer, length), lent);
-    say_line(name, answer);
+) -> io::Result<usize> {
+    let answer = answer_of(out, first_bytes(buffer, length), lent)?;
+    say_line(out, name, answer)?;
     if !replayed(answer) {
-        return 0;
+        return Ok(0);
     }
-    compare_all(name, buffer, length, answer, seed, cells);
-    DRAWN + 1
+    compare_all(out, name, buffer, length, answer, seed, cells)?;
+    Ok(DRAWN + 1)
 }
 
 // The file and the number of flags that argument i and the next name.
-fn one(i: usize, cells: &mut [u16]) -> Done {
+fn one<R: Env + Files + Print + Eprint>(rt: &R, i: usize, cells: &mut [u16]) -> io::Result<Done> {
     let none = Done {
         more: false,
         compared: 0,
     };
     if 2000 < i {
-        return none;
+        return Ok(none);
     }
-    let mut name = io::buffer();
-    let mut file = io::large_buffer();
-    let found = test_files::read_named(i, &mut name, &mut file);
+    let mut name = [0u8; NAME_BUFFER];
+    let mut file = [0u8; FILE_BUFFER];
+    let found = test_files::read_named(rt, i, &mut name, &mut file);
     if !found.there {
-        return none;
+        return Ok(none);
     }
-    let lent = test_files::number_argument(i + 1);
+    let lent = test_files::number_argument(rt, i + 1);
     let length = found.name;
-    let compared = judge(&name[..length], &mut file, found.bytes, lent, i, cells);
-    Done {
+    let mut out = io::writer(rt);
+    let compared = judge(
+        &mut out,
+        &name[..length],
+        &mut file,
+        found.bytes,
+        lent,
+        i,
+        cells,
+    )?;
+    Ok(Done {
         more: true,
         compared,
-    }
+    })
 }
 
 // All files that the arguments name; returns how many cases were compared.
-fn all(cells: &mut [u16]) -> usize {
+fn all<R: Env + Files + Print + Eprint>(rt: &R, cells: &mut [u16]) -> io::Result<usize> {
     let mut compared: usize = 0;
-    let mut i: usize = 1;
-    while i < 2000 {
-        let done = one(i, cells);
+    for k in 0..1000 {
+        let done = one(rt, 2 * k + 1, cells)?;
         if !done.more {
-            return compared;
+            return Ok(compared);
         }
-        compared = std::num::wrapping_add_usize(compared, done.compared);
-        i = i + 2;
+        compared = compared.wrapping_add(done.compared);
     }
-    compared
+    Ok(compared)
 }
 
-fn main() {
+fn main(rt: HostRuntime) -> io::Result<()> {
     let mut cells = [0u16; 140000];
-    let compared = all(&mut cells);
-    io::print_decimal(STDOUT_FILENO, compared as u64);
-    io::write_all(STDOUT_FILENO, b" cases compared\n");
+    let compared = all(&rt, &mut cells)?;
+    println!(rt; "{compared} cases compared")
 }

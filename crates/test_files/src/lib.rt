@@ -1,13 +1,25 @@
 // What the programs that judge stored files share: the files and numbers that their arguments name, and the flags they lend.
 // Each flag holds 7 before a call, which no judge writes, so that a byte that changed is seen.
-ghost use Rattle.std.specs.Prelude.{◌≤◌, ◌≡◌, length};
-ghost use Rattle.io.specs.Counts.{IsPrefixLen};
+#![tactic(auto)]
+
+ghost use Rattle.std.specs.Prelude.{◌≡◌, ◌≤◌, IfSome, length, take};
 
 use index::layout::MAX_BINDINGS;
 use plan_check::Verdict;
+use std::env::Env;
+use std::fs::File;
+use std::io::Read;
+use std::rt::Files;
+use std::str;
 
 // This many flags are enough for every file.
 pub const FLAGS: usize = MAX_BINDINGS;
+
+// How long a buffer for the name of a file is, and one for a file: more than the 60,000 bytes of the longest case file, so that a
+// longer one is seen to be longer.
+pub const NAME_BUFFER: usize = 4096;
+
+pub const FILE_BUFFER: usize = 65536;
 
 // What each flag holds before a call.
 pub const BEFORE: u8 = 7;
@@ -125,11 +137,11 @@ fn decimal(text: &[u8]) -> usize
 }
 
 // The number in argument i, at most 1,024; 0 where there is none.
-pub fn number_argument(i: usize) -> usize
+pub fn number_argument<R: Env>(rt: &R, i: usize) -> usize
     ensures { result ≤ 1024 }
 {
-    let mut text = io::buffer();
-    let digits = os::arg(i, &mut text);
+    let mut text = [0u8; NAME_BUFFER];
+    let digits = rt.arg(i, &mut text).unwrap_or(0);
     decimal(&text[..digits])
 }
 
@@ -142,28 +154,62 @@ pub fn stem(path: &[u8]) -> &[u8] {
     &path[..n]
 }
 
+// Reads until the buffer is full, the file ends or a read fails; returns how many bytes stand at the start of the buffer.
+fn read_full<R: Read>(file: &mut R, buffer: &mut [u8]) -> usize
+    ensures { result ≤ length buffer.new }
+{
+    let mut at: usize = 0;
+    for _turn in 0..buffer.len() {
+        match file.read(&mut buffer[at..]) {
+            Ok(0) => return at,
+            Ok(count) => at = at + count,
+            Err(_) => return at,
+        }
+    }
+    at
+}
+
+// Reads the file of a name; returns how many of its bytes were read. Where there is no such file, a line on standard error says so.
+fn read_file<R: Files + Eprint>(rt: &R, name: &str, buffer: &mut [u8]) -> Option<usize>
+    ensures { IfSome result (λ n. n ≤ length buffer.new) }
+{
+    match File::open(rt, name) {
+        Ok(mut file) => Some(read_full(&mut file, buffer)),
+        Err(error) => {
+            let _ = eprintln!(rt; "{name}: {error}");
+            None
+        }
+    }
+}
+
 // Reads the file that argument i names, and its name. Where there is such an argument and no such file, a line on standard error
 // says so.
-pub fn read_named(i: usize, name: &mut [u8], file: &mut [u8]) -> Named
-    ensures prefix_len { IsPrefixLen result.name name.new }
-    ensures prefix_len_2 { IsPrefixLen result.bytes file.new }
+pub fn read_named<R: Env + Files + Eprint>(
+    rt: &R,
+    i: usize,
+    name: &mut [u8],
+    file: &mut [u8],
+) -> Named
+    ensures in_name { result.name ≤ length name.new }
+    ensures name_len { result.name ≡ length (take result.name name.new) }
+    ensures in_file { result.bytes ≤ length file.new }
+    ensures bytes_len { result.bytes ≡ length (take result.bytes file.new) }
 {
     let none = Named {
         there: false,
         name: 0,
         bytes: 0,
     };
-    let n = os::arg(i, name);
-    if os::errno() != 0 {
+    let Ok(n) = rt.arg(i, name) else {
         return none;
-    }
-    let fd = os::open_read(&name[..n]);
-    if fd < 0 {
-        os::fail(&name[..n]);
+    };
+    let Ok(path) = str::from_utf8(&name[..n]) else {
+        let _ = eprintln!(rt; "argument {i} is not UTF-8");
         return none;
-    }
-    let bytes = io::read_full(fd, file);
-    libc::close(fd);
+    };
+    let Some(bytes) = read_file(rt, path, file) else {
+        return none;
+    };
     Named {
         there: true,
         name: n,

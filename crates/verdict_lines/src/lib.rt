@@ -8,6 +8,7 @@ ghost use Rattle.verdict_lines.specs.Lines.{Puts, numbered, line_of, of_word, ro
 
 use index::layout::MAX_STATES;
 use plan_check::Verdict;
+use std::io::Write;
 
 // Copies a text into a line from a place on, as much of it as there is room for; returns the place behind it.
 fn put(line: &mut [u8], from: usize, text: &[u8]) -> usize
@@ -126,15 +127,21 @@ pub fn put_reason(
 }
 
 // Writes the line of a verdict, without a line end.
-pub fn write_verdict(fd: i32, verdict: Verdict) {
+pub fn write_verdict<W: Write>(out: &mut W, verdict: Verdict) -> std::io::Result<()> {
     let mut line = [0u8; 128];
     let n = put_verdict(&mut line, verdict);
-    io::write_all(fd, &line[..n]);
+    out.write_all(&line[..n])
 }
 
 // Writes the line of a dropped binding, without a line end.
-pub fn write_reason(fd: i32, binding: usize, round: usize, node: usize, goal: usize) {
+pub fn write_reason<W: Write>(
+    out: &mut W,
+    binding: usize,
+    round: usize,
+    node: usize,
+    goal: usize,
+) -> std::io::Result<()> {
     let mut line = [0u8; 128];
     let n = put_reason(&mut line, binding, round, node, goal);
-    io::write_all(fd, &line[..n]);
+    out.write_all(&line[..n])
 }

@@ -1,4 +1,4 @@
-//! The lines that the scope gives, for the reference and, where `rt staticlib capi` has made the archive, for the library.
+//! The lines that the scope gives, for the reference and, where `rt lib` in crates/capi has made the archive, for the library.
 
 use differential::explanation::{self, LENT};
 use differential::verdict::Verdict;
@@ -31,7 +31,7 @@ fn reference_answers_the_lines_of_the_scope() {
 }
 
 #[test]
-#[cfg_attr(without_library, ignore = "`rt staticlib capi` makes the library")]
+#[cfg_attr(without_library, ignore = "`rt lib` in crates/capi makes the library")]
 fn library_answers_the_lines_of_the_scope() {
     try_lines(|file, flags| library::judge(file, flags).expect("a verdict"));
 }
@@ -44,7 +44,7 @@ fn reference_explains_the_lines_of_the_scope() {
 }
 
 #[test]
-#[cfg_attr(without_library, ignore = "`rt staticlib capi` makes the library")]
+#[cfg_attr(without_library, ignore = "`rt lib` in crates/capi makes the library")]
 fn library_explains_them_as_the_reference_does() {
     for line in ground::lines() {
         let (mut ours, mut theirs) = ([9; LENT], [9; LENT]);
@@ -56,7 +56,7 @@ fn library_explains_them_as_the_reference_does() {
 }
 
 #[test]
-#[cfg_attr(without_library, ignore = "`rt staticlib capi` makes the library")]
+#[cfg_attr(without_library, ignore = "`rt lib` in crates/capi makes the library")]
 fn library_needs_less_than_1_mb_of_stack() {
     let (right, wrong) = stack::try_files().expect("threads");
     assert!(right > 0 && wrong == 0, "{wrong} wrong answers");
