@@ -109,7 +109,9 @@ def spelled(name):
             return name
         return "".join(part[:1].upper() + part[1:] for part in name.split("-"))
     name = name.replace("-", "_")
-    name = re.sub(r"(?<=[a-z0-9])([A-Z])", lambda m: "_" + m.group(1).lower(), name)
+    # twice, for two capitals side by side
+    for _ in range(2):
+        name = re.sub(r"(?<=[a-z0-9])([A-Z])", lambda m: "_" + m.group(1).lower(), name)
     return name.replace("′", "'")
 
 

@@ -37,7 +37,7 @@ use Rattle.rounds.specs.declared.tested.Sizes.{Sizes}
 use Rattle.rounds.specs.Resting.{test_of, Frame}
 use Rattle.rounds.specs.shrinking.Shrinking.{ShrinksByRounds}
 use Rattle.rounds.proofs.shrinking.Flagged.{chosen_take}
-use Rattle.binding_cases.specs.Judging.{FindsStart, IsShrunk, IsExplained, Places, Fills, Lent, JudgesBindings}
+use Rattle.binding_cases.specs.Judging.{FindsStart, IsShrunk, Places, Fills, Lent, JudgesBindings}
 use Rattle.binding_cases.proofs.Parts.{users_room, no_answer}
 
 -- an index that is the same up to the places of transitions has the same entries
@@ -66,7 +66,7 @@ known_same {counts = counts} same known =
     inside Kind.path i h = omega arith
 
 -- the tables that were filled, and what the rounds and the search for the start binding left
-module _ (file before counts ends lent-firsts lent-table read write : List ℕ) (hints : ℕ) (lent flags lent-reasons reasons : List ℕ) (r : Bool) (kept rounds total transitions rules types : ℕ) (index firsts t placed reads : List ℕ) (nodes words : ℕ) (sizes : Sizes) where
+module _ (file before counts ends lent-firsts lent-table read write : List ℕ) (hints : ℕ) (lent flags : List ℕ) (r : Bool) (kept rounds total transitions rules types : ℕ) (index firsts t placed reads : List ℕ) (nodes words : ℕ) (sizes : Sizes) where
   abbrev sets : List ℕ
   sets = drop test_cells reads
 
@@ -74,7 +74,7 @@ module _ (file before counts ends lent-firsts lent-table read write : List ℕ) 
       (fills-rows : FillsRows file before transitions index) (fills-firsts : FillsFirsts file index rules lent-firsts firsts) (fills-table : FillsTable file index counts ends firsts lent-table t nodes)
       (ew : words ≡ (total + 31) / word_bits) (places : Places (hints % place_limit) (hints % place_limit + (total * words + total)) read placed) (fills : Fills t total words placed reads)
       (en : sizes.nodes ≡ nodes) (eg : sizes.goals ≡ types + max_states) (eb : sizes.bindings ≡ total)
-      (shrinks : ShrinksByRounds t sets firsts sizes (answers_of reads write) (users_of reads write) lent flags lent-reasons reasons kept rounds) (starts : FindsStart t flags total r) where
+      (shrinks : ShrinksByRounds t sets firsts sizes (answers_of reads write) (users_of reads write) lent flags kept rounds) (starts : FindsStart t flags total r) where
     module _ (lens : List ℕ) (rs : List Record) (known₀ : Known file before lens counts rs) (ok : Passed rs) (ends_are : EndsAre rs ends) (whole : refuse_whole rs (length lent) ≡ none)
         (enough : index_size ≤ length before) (few : nodes_in (payloads Kind.rule rs) ≤ ends_size) (room_for : Lent rs lent-firsts lent-table read write hints) where
       known : Known file index lens counts rs
@@ -178,12 +178,6 @@ module _ (file before counts ends lent-firsts lent-table read write : List ℕ) 
           ((fills.filled few_placed).filled rs table.types table.bindings bindings_count bindings_few words_are
           (subst (λ w. (count Kind.type rs + max_states) * w ≤ length (drop test_cells placed)) (sym words_are) sets_long) no_sets))
 
-      under : (i : ℕ) → get_or (answers_of reads write) (i * 3) 0 < 1
-      under i = let z = no_answer reads write room_for.no_answers (i * 3) in omega arith
-
-      is_explained : IsExplained rs lent-reasons reasons
-      is_explained = record { long = shrinks.reasons_long; numbers_are = shrinks.reasons_are rs frame candidates users_long under (enough_flags rs (length lent) whole) }
-
       is_shrunk : IsShrunk (shrunk (automaton_of rs) (plan_of rs) (bindings_of rs)) lent flags r kept total rounds
       unfolding shrunk accepts
       is_shrunk =
@@ -191,6 +185,7 @@ module _ (file before counts ends lent-firsts lent-table read write : List ℕ) 
           let test = test_of rs in
           let long = bindings_many rs in
           let flagged = enough_flags rs (length lent) whole in
+          let under : (i : ℕ) → get_or (answers_of reads write) (i * 3) 0 < 1 = λ i. let z = no_answer reads write room_for.no_answers (i * 3) in omega arith in
           let many_kept : length (kept_flags test bs) ≡ length bs = kept_flags_length test bs in
           let written : flags ≡ kept_flags test bs ++ drop (count Kind.binding rs) lent = shrinks.flags_are rs frame candidates users_long under flagged in
           let taken : take (length bs) flags ≡ kept_flags test bs = ap (take (length bs)) written ∙ take_at (kept_flags test bs) (drop (count Kind.binding rs) lent) (length bs) many_kept in
@@ -204,5 +199,5 @@ module _ (file before counts ends lent-firsts lent-table read write : List ℕ) 
           }
 
     -- THE BINDINGS ARE JUDGED
-    pub judged : JudgesBindings file before counts ends lent-firsts lent-table read write hints lent flags lent-reasons reasons r kept total rounds
-    judged = record { judged = λ lens rs known₀ ok ends_are whole enough few room_for. (is_shrunk lens rs known₀ ok ends_are whole enough few room_for, is_explained lens rs known₀ ok ends_are whole enough few room_for) }
+    pub judged : JudgesBindings file before counts ends lent-firsts lent-table read write hints lent flags r kept total rounds
+    judged = record { judged = λ lens rs known₀ ok ends_are whole enough few room_for. is_shrunk lens rs known₀ ok ends_are whole enough few room_for }

@@ -7,12 +7,11 @@ use Rattle.scheme.specs.Flags.{is_kept, chosen}
 use Rattle.scheme.specs.Acceptance.{is_start}
 use Rattle.casefile.specs.Records.{Record}
 use Rattle.casefile.specs.Kinds.{Kind, payloads, count}
-use Rattle.casefile.specs.Tables.{plan_of, automaton_of, types_of, bindings_of}
+use Rattle.casefile.specs.Tables.{plan_of, automaton_of, bindings_of}
 use Rattle.casefile.specs.Refusals.{refuse_whole}
 use Rattle.casefile.specs.Promises.{Passed}
 use Rattle.casefile.specs.BindingCases.{Shrunk, shrunk}
-use Rattle.casefile.specs.Explanations.{explained_numbers}
-use Rattle.index.specs.layout.Layout.{max_states, ends_size, index_size, rows_size, place_limit, test_users, test_answers, test_cells, reason_cells}
+use Rattle.index.specs.layout.Layout.{max_states, ends_size, index_size, rows_size, place_limit, test_users, test_answers, test_cells}
 use Rattle.index.specs.entries.Known.{Known}
 use Rattle.rules.specs.reading.RuleBodies.{nodes_in}
 use Rattle.intake.specs.plan.PlanTests.{EndsAre}
@@ -40,11 +39,6 @@ pub record IsShrunk (s : Shrunk) (lent flags : List ℕ) (accepted : Bool) (kept
   pub rounds_are : rounds ≡ s.rounds
   pub flags_are : flags ≡ s.flags ++ drop (length s.flags) lent
 
--- why bindings were dropped, and the lent numbers afterwards, where there is room for those of all bindings
-pub record IsExplained (rs : List Record) (lent reasons : List ℕ) : Type 0 where
-  pub long : length reasons ≡ length lent
-  pub numbers_are : reason_cells * count Kind.binding rs ≤ length lent → reasons ≡ explained_numbers (automaton_of rs) (plan_of rs) (types_of rs) (bindings_of rs) ++ drop (reason_cells * count Kind.binding rs) lent
-
 -- where users and answers begin is written, and the sets of candidates stay
 pub record Places (users answers : ℕ) (r r' : List ℕ) : Type 0 where
   pub long : length r' ≡ length r
@@ -69,7 +63,7 @@ pub record Lent (rs : List Record) (firsts t r w : List ℕ) (hints : ℕ) : Typ
   pub no_answers : (i : ℕ) → get_or w i 0 ≡ 0
 
 -- the promise, for the tables of a file that is not refused
-pub record JudgesBindings (file index counts ends firsts t r w : List ℕ) (hints : ℕ) (lent flags lent-reasons reasons : List ℕ) (accepted : Bool) (kept total rounds : ℕ) : Type 0 where
+pub record JudgesBindings (file index counts ends firsts t r w : List ℕ) (hints : ℕ) (lent flags : List ℕ) (accepted : Bool) (kept total rounds : ℕ) : Type 0 where
   pub judged : (lens : List ℕ) (rs : List Record) → Known file index lens counts rs → Passed rs → EndsAre rs ends → refuse_whole rs (length lent) ≡ none
       → index_size ≤ length index → nodes_in (payloads Kind.rule rs) ≤ ends_size → Lent rs firsts t r w hints
-      → IsShrunk (shrunk (automaton_of rs) (plan_of rs) (bindings_of rs)) lent flags accepted kept total rounds × IsExplained rs lent-reasons reasons
+      → IsShrunk (shrunk (automaton_of rs) (plan_of rs) (bindings_of rs)) lent flags accepted kept total rounds

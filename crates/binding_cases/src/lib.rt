@@ -81,7 +81,7 @@ fn fill_candidates(t: &[u16], bindings: usize, words: usize, r: &mut [u32])
 
 // Judges the bindings of a file, with the tables of its records; their flags are written, 1 for a kept binding and 0 for a dropped
 // one. Behind its entries the index gets where its transitions lie. The flat table, what tests read and what they write are lent with
-// all entries 0; so many cells of what they write are hints. Why bindings were dropped is written where there is room for all of them.
+// all entries 0; so many cells of what they write are hints.
 pub fn judge_bindings(
     file: &[u8],
     index: &mut [u16],
@@ -93,9 +93,8 @@ pub fn judge_bindings(
     w: &mut [u32],
     hints: usize,
     flags: &mut [u8],
-    reasons: &mut [u16],
 ) -> Shrunken
-    ensures { JudgesBindings file.now index.old counts.now ends.now firsts.old t.old r.old w.old hints flags.old flags.new reasons.old reasons.new result.accepted result.kept result.total result.rounds }
+    ensures { JudgesBindings file.now index.old counts.now ends.now firsts.old t.old r.old w.old hints flags.old flags.new result.accepted result.kept result.total result.rounds }
 {
     let total = place_at(counts, BINDING);
     fill_rows(file, index, place_at(counts, TRANSITION));
@@ -111,7 +110,7 @@ pub fn judge_bindings(
         goals: place_at(counts, TYPE) + MAX_STATES,
         bindings: total,
     };
-    let ended = shrink(t, firsts, sizes, r, w, flags, reasons);
+    let ended = shrink(t, firsts, sizes, r, w, flags);
     let accepted = start_kept(t, flags, total);
     Shrunken {
         accepted,

@@ -7,9 +7,7 @@ use Rattle.plan_check.specs.Verdicts.{answer_as}
 use Rattle.demands.specs.Demands.{Demand1, Demand2, Demand3}
 use Rattle.plan_check.specs.declared.Verdict.{Verdict}
 use Rattle.plan_check.specs.declared.Verdict.TheVariants.{Proved, Unproved, Refuted, Refused}
-use Rattle.demands.specs.Answers.{Answer}
-use Rattle.demands.specs.Explanations.{Explains}
-use Rattle.capi.specs.Exports.{words_of, Judges, ExplainsFile}
+use Rattle.capi.specs.Exports.{words_of, Judges}
 
 -- the words of each verdict
 module _ (v : Verdict) (a b c : ℕ) where
@@ -42,7 +40,3 @@ exported file lent marks v (one, (two, three)) out e =
       demand2 = two;
       demand3 = three;
     }
-
--- what explains
-pub explained : (file lent numbers : List ℕ) (a : Answer) → Explains file lent a numbers → (words : List ℕ) → words ≡ words_of a → ExplainsFile file lent numbers words (get_or words 0 0)
-explained file lent numbers a is words e = record { a = a; are_words = e; is_number = ap (λ w. get_or w 0 0) e; explains = is }

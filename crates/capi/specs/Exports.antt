@@ -2,7 +2,6 @@
 use Rattle.std.specs.Prelude.{ℕ, ◌≡◌, List, [], ◌∷◌, length, get_or}
 use Rattle.demands.specs.Answers.{Answer, proved, unproved, refuted, refused, answer, flags_after}
 use Rattle.demands.specs.Demands.{Demand2, Demand3}
-use Rattle.demands.specs.Explanations.{Explains}
 
 -- the number of an answer: 0 proved, 1 unproved, 2 refuted, 3 refused; then its values, 0 where there are fewer than three
 unfoldable pub words_of : Answer → List ℕ
@@ -21,10 +20,3 @@ pub record Judges (file lent marks out : List ℕ) (r : ℕ) : Type 0 where
   pub are_marks : marks ≡ flags_after file lent
   pub demand2 : Demand2 file lent a marks
   pub demand3 : Demand3 file a
-
--- the same of what explains: `numbers` are the lent numbers afterwards
-pub record ExplainsFile (file lent numbers out : List ℕ) (r : ℕ) : Type 0 where
-  pub a : Answer
-  pub are_words : out ≡ words_of a
-  pub is_number : r ≡ get_or (words_of a) 0 0
-  pub explains : Explains file lent a numbers

@@ -1,10 +1,9 @@
 // The judge for programs in other languages.
 ghost use Rattle.std.specs.Prelude.{◌≡◌};
-ghost use Rattle.capi.specs.Exports.{words_of, Judges, ExplainsFile};
+ghost use Rattle.capi.specs.Exports.{words_of, Judges};
 ghost use Rattle.plan_check.specs.Verdicts.{answer_as};
 
-use index::layout::Reasons;
-use plan_check::{Verdict, explain, judge};
+use plan_check::{Verdict, judge};
 
 // The number of a verdict, 0 proved, 1 unproved, 2 refuted, 3 refused, and its values, 0 where there are fewer than three.
 fn words_of(verdict: Verdict) -> [u64; 4]
@@ -39,15 +38,4 @@ pub extern "C" fn plan_judge(file: &[u8], flags: &mut [u8], out: &mut [u64; 4]) 
     let words = words_of(judge(file, flags));
     *out = words;
     words[0]
-}
-
-// Explains the bytes of a file: the four numbers of each binding are written into those that are lent. The number of the verdict is
-// returned, and stands in `out` before its three values.
-#[unsafe(no_mangle)]
-pub extern "C" fn plan_explain(file: &[u8], reasons: &mut Reasons, out: &mut [u64; 4]) -> u64
-    ensures { ExplainsFile file.now reasons.old reasons.new out.new result }
-{
-    let answer = words_of(explain(file, reasons));
-    *out = answer;
-    answer[0]
 }

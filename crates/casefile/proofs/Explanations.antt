@@ -17,7 +17,7 @@ use Rattle.scheme.specs.Types.{Ty, state, same}
 use Rattle.scheme.specs.Typing.{Automaton, Binding}
 use Rattle.scheme.specs.Rounds.{after}
 use Rattle.scheme.specs.Flags.{round_of}
-use Rattle.scheme.specs.Acceptance.{start_binding, binding_holds, binding_reason}
+use Rattle.scheme.specs.Acceptance.{start_binding, holds_exactly, binding_reason}
 use Rattle.scheme.proofs.Lists.{T→true, true→T, false_T}
 use Rattle.scheme.proofs.Exact.{same→≡, ≡→same, same_refl}
 use Rattle.casefile.specs.Explanations.{of_state, of_type, number_of, Explanation, explanation, explained, goal_number, four_numbers, numbers_from, explained_numbers}
@@ -64,18 +64,18 @@ module _ (aut : Automaton) (plan : Plan) (types : List Ty) (offered : List Bindi
       numbers_at (explained aut plan types offered) 0 (length offered) i k (4 * i + k) h l refl ∙ ap (λ j. get_or (four_numbers (explained aut plan types offered j)) k 0) (zero-add i)
 
   -- nothing is said of a binding that no round drops
-  pub explained_kept : (i : ℕ) → round_of (binding_holds aut plan) offered i ≡ 0 → explained aut plan types offered i ≡ none
+  pub explained_kept : (i : ℕ) → round_of (holds_exactly aut plan) offered i ≡ 0 → explained aut plan types offered i ≡ none
   unfolding explained
   explained_kept i e = rw e refl
 
   -- and of one that round n drops, its reason under the set after one round less
-  pub explained_dropped : (i n : ℕ) → round_of (binding_holds aut plan) offered i ≡ suc n
-      → explained aut plan types offered i ≡ some (explanation types (suc n) (binding_reason aut plan (after (binding_holds aut plan) n offered) (get_or offered i start_binding)))
+  pub explained_dropped : (i n : ℕ) → round_of (holds_exactly aut plan) offered i ≡ suc n
+      → explained aut plan types offered i ≡ some (explanation types (suc n) (binding_reason aut plan (after (holds_exactly aut plan) n offered) (get_or offered i start_binding)))
   unfolding explained
   explained_dropped i n e =
       let less : suc n - 1 ≡ n = omega arith in
       rw (e, ne_eqb (suc n) 0 (λ z. omega arith))
-      (ap (λ k. some (explanation types (suc n) (binding_reason aut plan (after (binding_holds aut plan) k offered) (get_or offered i start_binding)))) less)
+      (ap (λ k. some (explanation types (suc n) (binding_reason aut plan (after (holds_exactly aut plan) k offered) (get_or offered i start_binding)))) less)
 
 -- the number of a state is not that of a type
 pub goals_apart : (q m : ℕ) → q < 16 → goal_number (of_state q) ≡ goal_number (of_type m) → ⊥

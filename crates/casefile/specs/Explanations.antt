@@ -8,7 +8,7 @@ use Rattle.scheme.specs.Typing.{Automaton, Binding}
 use Rattle.scheme.specs.Rounds.{after}
 use Rattle.scheme.specs.Flags.{round_of}
 use Rattle.scheme.specs.Reasons.{Reason}
-use Rattle.scheme.specs.Acceptance.{start_binding, binding_holds, binding_reason}
+use Rattle.scheme.specs.Acceptance.{start_binding, holds_exactly, binding_reason}
 
 -- the type wanted as it is printed: "`type` with its number if it is no state"
 pub data Wanted : Type 0 where
@@ -38,8 +38,8 @@ explanation types n r = record { round = n; node = r.place; wanted = wanted_in t
 -- what is said of binding i: nothing where it is kept; else its reason "under the set as that round began"
 unfoldable pub explained : Automaton → Plan → List Ty → List Binding → ℕ → Option Explanation
 explained aut plan types offered i =
-    let n = round_of (binding_holds aut plan) offered i in
-    let why = binding_reason aut plan (after (binding_holds aut plan) (n - 1) offered) (get_or offered i start_binding) in
+    let n = round_of (holds_exactly aut plan) offered i in
+    let why = binding_reason aut plan (after (holds_exactly aut plan) (n - 1) offered) (get_or offered i start_binding) in
     if eqb n 0 then none else some (explanation types n why)
 
 -- the type wanted as a number: a state by its own, a type behind the 16 numbers of states

@@ -11,7 +11,7 @@ use Rattle.scheme.specs.Types.{Ty, state, arrow, domains}
 use Rattle.scheme.specs.Typing.{Automaton, Binding, head_types}
 use Rattle.scheme.specs.Rounds.{after}
 use Rattle.scheme.specs.Flags.{round_of}
-use Rattle.scheme.specs.Acceptance.{start_binding, binding_holds, binding_reason}
+use Rattle.scheme.specs.Acceptance.{start_binding, holds_exactly, binding_reason}
 use Rattle.scheme.proofs.Rounds.{after_sub}
 use Rattle.scheme.proofs.Falls.{falls_out, falls_kept, falls_gone, falls_fails}
 use Rattle.scheme.proofs.Reasons.{search_stands, reason_exactly}
@@ -50,20 +50,20 @@ module _ (rs : List Record) where
 
   -- the set as round n + 1 began
   abbrev begun : ℕ → List Binding
-  begun n = after (binding_holds aut plan) n offered
+  begun n = after (holds_exactly aut plan) n offered
 
   module _ (i : ℕ) (h : i < length offered) where
     abbrev it : Binding
     it = get_or offered i start_binding
 
-    dropped : (n : ℕ) → round_of (binding_holds aut plan) offered i ≡ suc n → TrueExplanation aut plan (types_of rs) offered i (explanation (types_of rs) (suc n) (binding_reason aut plan (begun n) it))
+    dropped : (n : ℕ) → round_of (holds_exactly aut plan) offered i ≡ suc n → TrueExplanation aut plan (types_of rs) offered i (explanation (types_of rs) (suc n) (binding_reason aut plan (begun n) it))
     unfolding explanation
     dropped n e =
         let less : suc n - 1 ≡ n = omega arith in
-        let (there, gone) = falls_out (binding_holds aut plan) offered i n h e in
-        let read = reason_exactly aut plan (begun n) it (falls_fails (binding_holds aut plan) offered i n start_binding h e) in
+        let (there, gone) = falls_out (holds_exactly aut plan) offered i n h e in
+        let read = reason_exactly aut plan (begun n) it (falls_fails (holds_exactly aut plan) offered i n start_binding h e) in
         let (head, count, inside, is_node, none_leads) = search_stands (λ a b. a ≡ b) (head_types aut (begun n) (domains it.type)) (record { head = nt 0; count = 0 }) (body plan it.nonterminal) read in
-        let listed = wanted_listed rs (λ a b. a ≡ b) aut plan (begun n) it (after_sub (binding_holds aut plan) n offered) (get_d_mem offered i start_binding h) read in
+        let listed = wanted_listed rs (λ a b. a ≡ b) aut plan (begun n) it (after_sub (holds_exactly aut plan) n offered) (get_d_mem offered i start_binding h) read in
         record {
           from_one = omega arith;
           kept_before = rw less there;
@@ -79,11 +79,11 @@ module _ (rs : List Record) where
         }
 
     true_of : TrueOf aut plan (types_of rs) offered i (explained aut plan (types_of rs) offered i)
-    true_of = by (round_of (binding_holds aut plan) offered i) refl
+    true_of = by (round_of (holds_exactly aut plan) offered i) refl
       where
-        by : (n : ℕ) → round_of (binding_holds aut plan) offered i ≡ n → TrueOf aut plan (types_of rs) offered i (explained aut plan (types_of rs) offered i)
-        by zero e = rw (explained_kept aut plan (types_of rs) offered i e) (is_kept_law (falls_kept (binding_holds aut plan) offered i h e))
-        by (suc n) e = rw (explained_dropped aut plan (types_of rs) offered i n e) (is_dropped (falls_gone (binding_holds aut plan) offered i n e) (dropped n e))
+        by : (n : ℕ) → round_of (holds_exactly aut plan) offered i ≡ n → TrueOf aut plan (types_of rs) offered i (explained aut plan (types_of rs) offered i)
+        by zero e = rw (explained_kept aut plan (types_of rs) offered i e) (is_kept_law (falls_kept (holds_exactly aut plan) offered i h e))
+        by (suc n) e = rw (explained_dropped aut plan (types_of rs) offered i n e) (is_dropped (falls_gone (holds_exactly aut plan) offered i n e) (dropped n e))
 
     -- its four numbers stand before what is left of those lent
     says_at : (rest : List ℕ) (k : ℕ) → k < 4 → get_or (explained_numbers aut plan (types_of rs) offered ++ rest) (4 * i + k) 0 ≡ get_or (four_numbers (explained aut plan (types_of rs) offered i)) k 0

@@ -15,7 +15,7 @@ use Rattle.scheme.specs.Flags.{bit, is_kept, chosen, retested, round_flags, roun
 use Rattle.scheme.specs.Flags
 use Rattle.scheme.specs.Replay.{argument, descend, follow, unless, stuck, arrived, exceeds, followed, replay}
 use Rattle.scheme.specs.Reasons.{leads_to, reason, reason_for}
-use Rattle.scheme.specs.Acceptance.{binding_holds, binding_reason, is_start, accepts}
+use Rattle.scheme.specs.Acceptance.{holds_exactly, binding_reason, is_start, accepts}
 use Rattle.casefile.specs.Fields.{field}
 use Rattle.casefile.specs.Records.{whole, record_at, walk, is_remark, counting, records_of, listed}
 use Rattle.casefile.specs.Remarks.{bytes_at, copied, without_remarks}
@@ -32,7 +32,7 @@ use Rattle.demands.specs.Ground.{Line, ReasonLine, starred, small, reasons, E, p
 
 -- a line with what the definitions say in the place of what is expected; it unfolds all that an answer is made of
 pub run : Line → Line
-unfolding found any all keep_if select last_or same_sort arguments tree_sort ◌++ᵗ◌ countᵗ term_at nodes applied put takeᵗ dropᵗ terms complete depth head_sort sort_of body members same takes domains final fits has types_at con_types bound head_types holds round after kept count_to rounds bit is_kept chosen retested round_flags Flags.flags_after_rounds kept_flags argument descend follow unless stuck arrived exceeds followed replay binding_holds is_start accepts field whole record_at walk is_remark counting records_of number kind_of of_kind payloads count grow sort_from sorts_of arities_of signatures_of cells_of head_of nodes_of first_term body_of plan_of state_count_spec transition_of transitions_of targets_at automaton_of words members_at arrow_from type_from types_of bindings_of first too_long wrong_length too_many wrong_cell_spec wrong_targets_spec same_bytes_spec ascends_from ascends before follows too_large out_of_range repeats misplaced refuse_as refuse_kind last_kind refuse_record wrong_body wrong_bodies wrong_start misfits refuse_whole unless_refused accepted_case case_from case_of path_answer replayed shrunk refusal binding_outcome path_outcome outcome_of answer flags_after
+unfolding found any all keep_if select last_or same_sort arguments tree_sort ◌++ᵗ◌ countᵗ term_at nodes applied put takeᵗ dropᵗ terms complete depth head_sort sort_of body members same takes domains final fits has types_at con_types bound head_types holds round after kept count_to rounds bit is_kept chosen retested round_flags Flags.flags_after_rounds kept_flags argument descend follow unless stuck arrived exceeds followed replay holds_exactly is_start accepts field whole record_at walk is_remark counting records_of number kind_of of_kind payloads count grow sort_from sorts_of arities_of signatures_of cells_of head_of nodes_of first_term body_of plan_of state_count_spec transition_of transitions_of targets_at automaton_of words members_at arrow_from type_from types_of bindings_of first too_long wrong_length too_many wrong_cell_spec wrong_targets_spec same_bytes_spec ascends_from ascends before follows too_large out_of_range repeats misplaced refuse_as refuse_kind last_kind refuse_record wrong_body wrong_bodies wrong_start misfits refuse_whole unless_refused accepted_case case_from case_of path_answer replayed shrunk refusal binding_outcome path_outcome outcome_of answer flags_after
 run l = record { file = l.file; lent = l.lent; says = (answer l.file (length l.lent)).answer; flags = flags_after l.file l.lent }
 
 -- the same for a line of the explanations; it unfolds what they are made of besides

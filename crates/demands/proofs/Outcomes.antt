@@ -12,7 +12,7 @@ use Rattle.scheme.specs.Lists.{if◌then◌else◌}
 use Rattle.scheme.specs.Reduction.{Plan, start}
 use Rattle.scheme.specs.Typing.{Automaton, Binding}
 use Rattle.scheme.specs.Rounds.{kept, rounds}
-use Rattle.scheme.specs.Acceptance.{start_binding, binding_holds, accepts}
+use Rattle.scheme.specs.Acceptance.{start_binding, holds_exactly, accepts}
 use Rattle.scheme.specs.Terms.{nodes}
 use Rattle.scheme.specs.Replay.{is_error_path, Ending, refutes, lost, outgrown, elsewhere, replay}
 use Rattle.scheme.specs.Paths.{starting, Ends}
@@ -38,15 +38,15 @@ use Rattle.demands.proofs.PlainWords.{over, answer_of, binding_says, not_refuted
 -- Binding cases.
 module _ (aut : Automaton) (plan : Plan) (offered : List Binding) where
   verdict_by : (k r : ℕ) (b : Bool) → accepts aut plan offered ≡ b
-      → (Memᴰ start_binding (kept (binding_holds aut plan) offered) × ((if b then proved k (length offered) r else unproved k (length offered) r) ≡ proved k (length offered) r))
-      ⊎ ((Memᴰ start_binding (kept (binding_holds aut plan) offered) → ⊥) × ((if b then proved k (length offered) r else unproved k (length offered) r) ≡ unproved k (length offered) r))
+      → (Memᴰ start_binding (kept (holds_exactly aut plan) offered) × ((if b then proved k (length offered) r else unproved k (length offered) r) ≡ proved k (length offered) r))
+      ⊎ ((Memᴰ start_binding (kept (holds_exactly aut plan) offered) → ⊥) × ((if b then proved k (length offered) r else unproved k (length offered) r) ≡ unproved k (length offered) r))
   verdict_by k r true e = inl (accepts_out aut plan offered e, refl)
   verdict_by k r false e = inr (λ m. false≢true (sym e ∙ accepts_in aut plan offered m), refl)
 
-  shrinks : (rest : List ℕ) → Shrinks aut plan offered (kept_flags (binding_holds aut plan) offered ++ rest) (binding_outcome (shrunk aut plan offered)).answer
+  shrinks : (rest : List ℕ) → Shrinks aut plan offered (kept_flags (holds_exactly aut plan) offered ++ rest) (binding_outcome (shrunk aut plan offered)).answer
   unfolding binding_outcome shrunk
   shrinks rest =
-      let test = binding_holds aut plan in
+      let test = holds_exactly aut plan in
       record {
         kept = kept test offered;
         rounds = rounds test offered;
@@ -67,7 +67,7 @@ module _ (aut : Automaton) (plan : Plan) (offered : List Binding) where
 
   proved_accepts : (k n r : ℕ) → (binding_outcome (shrunk aut plan offered)).answer ≡ proved k n r → accepts aut plan offered ≡ true
   unfolding binding_outcome shrunk
-  proved_accepts k n r e = by (length (kept (binding_holds aut plan) offered)) (rounds (binding_holds aut plan) offered) (accepts aut plan offered) e
+  proved_accepts k n r e = by (length (kept (holds_exactly aut plan) offered)) (rounds (holds_exactly aut plan) offered) (accepts aut plan offered) e
     where
       by : (m c : ℕ) (b : Bool) → (if b then proved m (length offered) c else unproved m (length offered) c) ≡ proved k n r → b ≡ true
       by m c true f = refl
@@ -113,7 +113,7 @@ module _ (aut : Automaton) (plan : Plan) (letters : List ℕ) where
 
 of_binding_case : (rs : List Record) (lent : List ℕ) → Shrinks (automaton_of rs) (plan_of rs) (bindings_of rs) (over (outcome_of (binding_case rs)).written lent) (outcome_of (binding_case rs)).answer
 unfolding outcome_of binding_outcome shrunk
-of_binding_case rs lent = shrinks (automaton_of rs) (plan_of rs) (bindings_of rs) (drop (length (kept_flags (binding_holds (automaton_of rs) (plan_of rs)) (bindings_of rs))) lent)
+of_binding_case rs lent = shrinks (automaton_of rs) (plan_of rs) (bindings_of rs) (drop (length (kept_flags (holds_exactly (automaton_of rs) (plan_of rs)) (bindings_of rs))) lent)
 
 of_path_case : (rs : List Record) (ls : List ℕ) → PathJudged (automaton_of rs) (plan_of rs) ls (outcome_of (path_case rs ls)).answer
 unfolding outcome_of

@@ -8,7 +8,7 @@ use mathlib.Core.List.{List, [], ◌++◌}
 use lib.ListN.{length, get_or, drop, length-append, length-drop}
 use lib.Seq.{get_or-append-add, get_or-drop}
 use Rattle.scheme.specs.Lists.{if◌then◌else◌}
-use Rattle.scheme.specs.Acceptance.{binding_holds}
+use Rattle.scheme.specs.Acceptance.{holds_exactly}
 use Rattle.scheme.proofs.Flags.{kept_flags_length}
 use Rattle.casefile.specs.Records.{Record}
 use Rattle.casefile.specs.Kinds.{Kind, payloads}
@@ -110,7 +110,7 @@ module _ (file lent : List ℕ) where
   unfolding outcome_of refusal binding_outcome shrunk
   words (refused_case r) e = refuses r.number r.place (case_numbered file (length lent) r e)
   words (binding_case rs) e =
-      binding_words rs e (shrunk (automaton_of rs) (plan_of rs) (bindings_of rs)) (kept_flags_length (binding_holds (automaton_of rs) (plan_of rs)) (bindings_of rs))
+      binding_words rs e (shrunk (automaton_of rs) (plan_of rs) (bindings_of rs)) (kept_flags_length (holds_exactly (automaton_of rs) (plan_of rs)) (bindings_of rs))
   words (path_case rs ls) e = path_words rs ls e (replayed (automaton_of rs) (plan_of rs) ls) refl
 
   -- DEMAND 1 of whatever equals the answer and the flags of the definitions

@@ -7,7 +7,7 @@ use Rattle.scheme.specs.Typing.{Automaton, Binding}
 use Rattle.scheme.specs.TypingRules.{HoldsByRules}
 use Rattle.scheme.specs.Rounds.{round, after}
 use Rattle.scheme.specs.Flags.{chosen}
-use Rattle.scheme.specs.Acceptance.{start_binding, binding_holds}
+use Rattle.scheme.specs.Acceptance.{start_binding, holds_exactly}
 use Rattle.scheme.specs.Replay.{Ending}
 use Rattle.scheme.specs.Paths.{starting, Within, ReplaysTo, Ends}
 use Rattle.scheme.specs.Safety.{SafetyRule}
@@ -85,9 +85,9 @@ pub record Shrinks (aut : Automaton) (plan : Plan) (offered : List Binding) (mar
   pub is_marked : chosen marks offered ≡ kept
   pub are_bits : (i : ℕ) → i < length offered → (get_or marks i 0 ≡ 0) ⊎ (get_or marks i 0 ≡ 1)
   -- it is what that count of rounds leaves, after which a further round drops nothing, and after fewer it does
-  pub is_left : after (binding_holds aut plan) rounds offered ≡ kept
-  pub is_final : round (binding_holds aut plan) kept ≡ kept
-  pub is_least : (n : ℕ) → n < rounds → round (binding_holds aut plan) (after (binding_holds aut plan) n offered) ≡ after (binding_holds aut plan) n offered → ⊥
+  pub is_left : after (holds_exactly aut plan) rounds offered ≡ kept
+  pub is_final : round (holds_exactly aut plan) kept ≡ kept
+  pub is_least : (n : ℕ) → n < rounds → round (holds_exactly aut plan) (after (holds_exactly aut plan) n offered) ≡ after (holds_exactly aut plan) n offered → ⊥
   -- "it is never more than the bindings dropped"
   pub is_bounded : rounds + length kept ≤ length offered
   -- proved exactly when the start symbol at state 0 is kept

@@ -10,7 +10,7 @@ use Rattle.scheme.specs.Typing.{Automaton, Binding, head_types}
 use Rattle.scheme.specs.ReasonRules.{LeadsOff, ReasonByRules}
 use Rattle.scheme.specs.Rounds.{after}
 use Rattle.scheme.specs.Flags.{is_kept, flags_after_rounds, kept_flags}
-use Rattle.scheme.specs.Acceptance.{start_binding, binding_holds}
+use Rattle.scheme.specs.Acceptance.{start_binding, holds_exactly}
 use Rattle.casefile.specs.Records.{Record, records_of, listed}
 use Rattle.casefile.specs.Tables.{plan_of, automaton_of, types_of, bindings_of}
 use Rattle.casefile.specs.Cases.{Case, refused_case, binding_case, path_case, case_of}
@@ -49,8 +49,8 @@ no_node = record { head = nt 0; count = 0 }
 pub record TrueExplanation (aut : Automaton) (plan : Plan) (types : List Ty) (offered : List Binding) (i : ℕ) (e : Explanation) : Type 0 where
   -- the round is the true one, counted from 1: the binding is kept after one round less, and gone after it
   pub from_one : 1 ≤ e.round
-  pub kept_before : is_kept (get_or (flags_after_rounds (binding_holds aut plan) offered (e.round - 1) (replicate (length offered) 1)) i 0) ≡ true
-  pub gone_after : is_kept (get_or (flags_after_rounds (binding_holds aut plan) offered e.round (replicate (length offered) 1)) i 0) ≡ false
+  pub kept_before : is_kept (get_or (flags_after_rounds (holds_exactly aut plan) offered (e.round - 1) (replicate (length offered) 1)) i 0) ≡ true
+  pub gone_after : is_kept (get_or (flags_after_rounds (holds_exactly aut plan) offered e.round (replicate (length offered) 1)) i 0) ≡ false
   -- the node is one of its body, in prefix order from 0: a head with so many arguments
   pub head : Head
   pub count : ℕ
@@ -58,16 +58,16 @@ pub record TrueExplanation (aut : Automaton) (plan : Plan) (types : List Ty) (of
   pub is_node : get_or (flat (body plan (get_or offered i start_binding).nonterminal)) e.node no_node ≡ record { head = head; count = count }
   -- the type wanted there is the one that the search reaches under the set as that round began, and it is printed
   pub goal : Ty
-  pub is_reached : ReasonByRules (λ a b. a ≡ b) aut plan (after (binding_holds aut plan) (e.round - 1) offered) (get_or offered i start_binding) e.node goal
+  pub is_reached : ReasonByRules (λ a b. a ≡ b) aut plan (after (holds_exactly aut plan) (e.round - 1) offered) (get_or offered i start_binding) e.node goal
   pub is_printed : Names types e.wanted goal
   -- no type of that node's head leads to it under that set
-  pub no_type_leads : (τ : Ty) → Memᴰ τ (head_types aut (after (binding_holds aut plan) (e.round - 1) offered) (domains (get_or offered i start_binding).type) head)
+  pub no_type_leads : (τ : Ty) → Memᴰ τ (head_types aut (after (holds_exactly aut plan) (e.round - 1) offered) (domains (get_or offered i start_binding).type) head)
       → LeadsOff (λ a b. a ≡ b) count goal τ → ⊥
 
 -- What is said of binding i is true: it is kept when the rounds have ended, or it was dropped and its explanation is true.
 pub data TrueOf (aut : Automaton) (plan : Plan) (types : List Ty) (offered : List Binding) (i : ℕ) : Option Explanation → Type 0 where
-  is_kept_law : is_kept (get_or (kept_flags (binding_holds aut plan) offered) i 0) ≡ true → TrueOf aut plan types offered i none
-  is_dropped : {e : Explanation} → is_kept (get_or (kept_flags (binding_holds aut plan) offered) i 0) ≡ false → TrueExplanation aut plan types offered i e → TrueOf aut plan types offered i (some e)
+  is_kept_law : is_kept (get_or (kept_flags (holds_exactly aut plan) offered) i 0) ≡ true → TrueOf aut plan types offered i none
+  is_dropped : {e : Explanation} → is_kept (get_or (kept_flags (holds_exactly aut plan) offered) i 0) ≡ false → TrueExplanation aut plan types offered i e → TrueOf aut plan types offered i (some e)
 
 -- THE EXPLANATIONS: a is the answer, `numbers` the lent numbers afterwards.
 pub record Explains (file lent : List ℕ) (a : Answer) (numbers : List ℕ) : Type 0 where

@@ -2,10 +2,10 @@
 use Prim.Native.Nat.{ℕ, zero, suc, ◌+◌, ◌*◌, ◌/◌, ◌<◌, ◌≤◌}
 use native.Mathlib.Omega.{arith}
 use native.Mathlib.Nat.{mul-le-mul}
-use mathlib.Core.Path.{◌≡◌, refl, sym, ap, subst, ◌∙◌}
+use mathlib.Core.Path.{◌≡◌, refl, sym, subst}
 use mathlib.Core.Bool.{Bool, false}
-use mathlib.Core.List.{List, [], ◌∷◌, ◌++◌}
-use lib.ListN.{length, get_or, drop, replicate}
+use mathlib.Core.List.{List, [], ◌∷◌}
+use lib.ListN.{length, get_or, replicate}
 use Rattle.scheme.specs.Lists.{any}
 use Rattle.scheme.specs.Reduction.{Plan}
 use Rattle.scheme.specs.Typing.{Automaton, Binding}
@@ -14,16 +14,15 @@ use Rattle.scheme.specs.Flags.{flags_after_rounds, kept_flags}
 use Rattle.scheme.specs.Acceptance.{accepts}
 use Rattle.casefile.specs.Records.{Record, records_of, listed}
 use Rattle.casefile.specs.Kinds.{Kind, number, payloads, count}
-use Rattle.casefile.specs.Tables.{plan_of, automaton_of, types_of, bindings_of}
+use Rattle.casefile.specs.Tables.{bindings_of}
 use Rattle.casefile.specs.BindingCases.{shrunk}
-use Rattle.casefile.specs.Explanations.{explained, numbers_from, explained_numbers}
 use Rattle.casefile.proofs.Plans.{bindings_many}
-use Rattle.index.specs.layout.Layout.{max_nonterminals, max_types, max_bindings, max_states, node_bytes, ends_size, index_size, rows_size, rows_at, row_cells, node_cells, word_bits, cell_words, place_limit, test_cells, reason_cells}
+use Rattle.index.specs.layout.Layout.{max_nonterminals, max_types, max_bindings, max_states, node_bytes, ends_size, index_size, rows_size, rows_at, row_cells, node_cells, word_bits, cell_words, place_limit, test_cells}
 use Rattle.index.specs.entries.Index.{Indexed}
 use Rattle.rules.specs.reading.RuleBodies.{nodes_in}
 use Rattle.rules.specs.first_nodes.FirstNodes.{CountsAll}
 use Rattle.rules.proofs.rules.Room.{file_room, count_few}
-use Rattle.binding_cases.specs.Judging.{IsShrunk, IsExplained, Lent, JudgesBindings}
+use Rattle.binding_cases.specs.Judging.{IsShrunk, Lent, JudgesBindings}
 use Rattle.plan_check.specs.Promises.{of_bindings_spec, HasNodes, JudgesWithin, JudgesBindingCase}
 use Rattle.plan_check.specs.declared.Verdict.{Verdict}
 use Rattle.plan_check.specs.declared.Verdict.TheVariants.{Unproved}
@@ -69,9 +68,9 @@ module _ {nodes types bindings : ℕ} {index firsts table r w : List ℕ} {hints
         no_answers = no_answers;
       }
 
-  pub frame_judges : {file counts ends lent marks was now : List ℕ} {accepted : Bool} {kept total rounds : ℕ}
-      → JudgesBindings file index counts ends firsts table r w hints lent marks was now accepted kept total rounds
-      → JudgesWithin nodes types bindings file index counts ends lent marks was now accepted kept total rounds
+  pub frame_judges : {file counts ends lent marks : List ℕ} {accepted : Bool} {kept total rounds : ℕ}
+      → JudgesBindings file index counts ends firsts table r w hints lent marks accepted kept total rounds
+      → JudgesWithin nodes types bindings file index counts ends lent marks accepted kept total rounds
   frame_judges {file} judges =
       record {
         judged = λ n t b lens known ok ends_are whole.
@@ -100,17 +99,8 @@ module _ {file index counts : List ℕ} where
             omega arith;
       }
 
--- nor is any explained
-none_explained : (rs : List Record) (was : List ℕ) → count Kind.binding rs ≡ 0 → length (bindings_of rs) ≡ 0 → IsExplained rs was was
-unfolding explained_numbers numbers_from
-none_explained rs was z e =
-    record {
-      long = refl;
-      numbers_are = λ room. sym (ap (λ n. numbers_from (explained (automaton_of rs) (plan_of rs) (types_of rs) (bindings_of rs)) 0 n ++ drop (reason_cells * count Kind.binding rs) was) e ∙ ap (λ n. drop (reason_cells * n) was) z);
-    }
-
-module _ {file index counts ends lent was : List ℕ} where
-  pub no_bindings_judged : {total : ℕ} → total ≡ get_or counts 8 0 → total ≡ 0 → JudgesBindingCase file index counts ends lent lent was was (Unproved 0 0 0)
+module _ {file index counts ends lent : List ℕ} where
+  pub no_bindings_judged : {total : ℕ} → total ≡ get_or counts 8 0 → total ≡ 0 → JudgesBindingCase file index counts ends lent lent (Unproved 0 0 0)
   unfolding number of_bindings_spec
   no_bindings_judged e z =
       record {
@@ -122,14 +112,14 @@ module _ {file index counts ends lent was : List ℕ} where
             let rs = listed (records_of file) in
             let many = bindings_many rs in
             let counted = (known.entries Kind.binding).counted in
-            (none_shrunk _ _ (bindings_of rs) lent (omega arith), none_explained rs was (omega arith) (omega arith));
+            none_shrunk _ _ (bindings_of rs) lent (omega arith);
         is_verdict = refl;
       }
 
   -- a frame that has room for the nodes, types and bindings of the file, by the counts
   pub case_judged : {nodes types bindings most many total : ℕ} → HasNodes file index counts most → (most ≤ nodes) × (many ≤ types) × (total ≤ bindings) → many ≡ get_or counts 7 0 → total ≡ get_or counts 8 0
-      → {marks now : List ℕ} {accepted : Bool} {kept offered rounds : ℕ} {v : Verdict} → JudgesWithin nodes types bindings file index counts ends lent marks was now accepted kept offered rounds
-      → v ≡ of_bindings_spec accepted kept offered rounds → JudgesBindingCase file index counts ends lent marks was now v
+      → {marks : List ℕ} {accepted : Bool} {kept offered rounds : ℕ} {v : Verdict} → JudgesWithin nodes types bindings file index counts ends lent marks accepted kept offered rounds
+      → v ≡ of_bindings_spec accepted kept offered rounds → JudgesBindingCase file index counts ends lent marks v
   unfolding number
   case_judged has (n, t, b) et eb judges e =
       record {
@@ -146,8 +136,8 @@ module _ {file index counts ends lent was : List ℕ} where
       }
 
   -- the frame that has room for every file
-  pub all_judged : {marks now : List ℕ} {accepted : Bool} {kept total rounds : ℕ} {v : Verdict} → JudgesWithin ends_size max_types max_bindings file index counts ends lent marks was now accepted kept total rounds
-      → v ≡ of_bindings_spec accepted kept total rounds → JudgesBindingCase file index counts ends lent marks was now v
+  pub all_judged : {marks : List ℕ} {accepted : Bool} {kept total rounds : ℕ} {v : Verdict} → JudgesWithin ends_size max_types max_bindings file index counts ends lent marks accepted kept total rounds
+      → v ≡ of_bindings_spec accepted kept total rounds → JudgesBindingCase file index counts ends lent marks v
   all_judged judges e =
       record {
         accepted = _;

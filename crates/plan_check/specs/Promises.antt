@@ -1,5 +1,5 @@
 -- What our own functions promise each other; nothing here has to be believed.
-use Rattle.std.specs.Prelude.{ℕ, ◌≤◌, ◌≡◌, Bool, true, false, List, [], ◌∷◌, ◌++◌, length, get_or, drop}
+use Rattle.std.specs.Prelude.{ℕ, ◌≤◌, ◌≡◌, Bool, true, false, List, [], ◌∷◌, length, get_or}
 use Rattle.std.proofs.Math.Option.{none}
 use Rattle.scheme.specs.Lists.{if◌then◌else◌}
 use Rattle.casefile.specs.Records.{records_of, listed}
@@ -7,19 +7,14 @@ use Rattle.casefile.specs.Kinds.{Kind, payloads, count}
 use Rattle.casefile.specs.Tables.{plan_of, automaton_of, bindings_of}
 use Rattle.casefile.specs.Refusals.{refuse_whole}
 use Rattle.casefile.specs.Promises.{Passed}
-use Rattle.casefile.specs.Cases.{case_of}
 use Rattle.casefile.specs.BindingCases.{shrunk}
-use Rattle.demands.specs.Explanations.{numbers_of}
-use Rattle.index.specs.layout.Layout.{max_file, reasons_size, tiny_nodes, tiny_types, tiny_bindings_spec, small_nodes, small_types, small_bindings_spec, modest_nodes, modest_types, modest_bindings_spec, plain_nodes, plain_types, plain_bindings_spec, broad_nodes, broad_types, broad_bindings_spec, middle_nodes, middle_types, middle_bindings_spec, wide_frame, wide_nodes, wide_types, wide_bindings_spec}
+use Rattle.index.specs.layout.Layout.{max_file, tiny_nodes, tiny_types, tiny_bindings_spec, small_nodes, small_types, small_bindings_spec, modest_nodes, modest_types, modest_bindings_spec, plain_nodes, plain_types, plain_bindings_spec, broad_nodes, broad_types, broad_bindings_spec, middle_nodes, middle_types, middle_bindings_spec, wide_frame, wide_nodes, wide_types, wide_bindings_spec}
 use Rattle.index.specs.entries.Known.{Known}
 use Rattle.rules.specs.reading.RuleBodies.{nodes_in}
 use Rattle.intake.specs.plan.PlanTests.{EndsAre}
-use Rattle.intake.specs.declared.evidence.Case.{Case}
-use Rattle.intake.specs.declared.evidence.Case.TheVariants.{Refused as Refused'', Path}
-use Rattle.replay.specs.replay.Replays.{ReplaysPath}
 use Rattle.replay.specs.declared.replay.Replayed.{Replayed}
 use Rattle.replay.specs.declared.replay.Replayed.TheVariants.{Refuted as Refuted', Refused as Refused'}
-use Rattle.binding_cases.specs.Judging.{IsShrunk, IsExplained}
+use Rattle.binding_cases.specs.Judging.{IsShrunk}
 use Rattle.plan_check.specs.declared.Verdict.{Verdict}
 use Rattle.plan_check.specs.declared.Verdict.TheVariants.{Proved, Unproved, Refuted, Refused}
 
@@ -33,16 +28,16 @@ of_path_spec (Refuted' n q c) = Refuted n q c
 of_path_spec (Refused' n p) = Refused n p
 
 -- what the definitions keep of the bindings of a file that is not refused, by its tables
-abbrev pub Judges : (file index counts ends lent marks lent-reasons reasons : List ℕ) (accepted : Bool) (kept total rounds : ℕ) → Type 0
-Judges file index counts ends lent marks lent-reasons reasons accepted kept total rounds =
+abbrev pub Judges : (file index counts ends lent marks : List ℕ) (accepted : Bool) (kept total rounds : ℕ) → Type 0
+Judges file index counts ends lent marks accepted kept total rounds =
     (lens : List ℕ) → Known file index lens counts (listed (records_of file)) → Passed (listed (records_of file)) → EndsAre (listed (records_of file)) ends
     → refuse_whole (listed (records_of file)) (length lent) ≡ none
-    → IsShrunk (shrunk (automaton_of (listed (records_of file))) (plan_of (listed (records_of file))) (bindings_of (listed (records_of file)))) lent marks accepted kept total rounds × IsExplained (listed (records_of file)) lent-reasons reasons
+    → IsShrunk (shrunk (automaton_of (listed (records_of file))) (plan_of (listed (records_of file))) (bindings_of (listed (records_of file)))) lent marks accepted kept total rounds
 
 -- so it is where the file has no more than given numbers of nodes, types and bindings
-pub record JudgesWithin (nodes types bindings : ℕ) (file index counts ends lent marks lent-reasons reasons : List ℕ) (accepted : Bool) (kept total rounds : ℕ) : Type 0 where
+pub record JudgesWithin (nodes types bindings : ℕ) (file index counts ends lent marks : List ℕ) (accepted : Bool) (kept total rounds : ℕ) : Type 0 where
   pub judged : nodes_in (payloads Kind.rule (listed (records_of file))) ≤ nodes → count Kind.type (listed (records_of file)) ≤ types → count Kind.binding (listed (records_of file)) ≤ bindings
-      → Judges file index counts ends lent marks lent-reasons reasons accepted kept total rounds
+      → Judges file index counts ends lent marks accepted kept total rounds
 
 -- a file whose records passed has no more than a given number of nodes, by its tables
 pub record HasNodes (file index counts : List ℕ) (nodes : ℕ) : Type 0 where
@@ -63,20 +58,11 @@ pub record HasRoom (frame nodes types bindings : ℕ) (r : Bool) : Type 0 where
   pub room : r ≡ true → (f : ℕ) → frame ≡ f → f ≤ wide_frame → (nodes ≤ get_or room_nodes f 0) × (types ≤ get_or room_types f 0) × (bindings ≤ get_or room_bindings f 0)
   pub last : r ≡ false → frame ≤ wide_frame
 
--- v is the verdict on the bindings of a file, by its tables, the lent flags became `marks`, and the lent numbers `reasons`
-pub record JudgesBindingCase (file index counts ends lent marks lent-reasons reasons : List ℕ) (v : Verdict) : Type 0 where
+-- v is the verdict on the bindings of a file, by its tables, and the lent flags became `marks`
+pub record JudgesBindingCase (file index counts ends lent marks : List ℕ) (v : Verdict) : Type 0 where
   pub accepted : Bool
   pub kept : ℕ
   pub total : ℕ
   pub rounds : ℕ
-  pub judged : length file ≤ max_file → Judges file index counts ends lent marks lent-reasons reasons accepted kept total rounds
+  pub judged : length file ≤ max_file → Judges file index counts ends lent marks accepted kept total rounds
   pub is_verdict : v ≡ of_bindings_spec accepted kept total rounds
-
--- v is the verdict on what is no binding case, by its tables
-pub record JudgesOther (file index counts : List ℕ) (c : Case) (v : Verdict) : Type 0 where
-  pub of_refused : (n p : ℕ) → c ≡ Refused'' n p → v ≡ Refused n p
-  pub of_path_law : c ≡ Path → (p : Replayed) × ReplaysPath file index counts p × (v ≡ of_path_spec p)
-
--- the lent numbers afterwards, where there is room for those of every file
-pub record Explained (file : List ℕ) (flags : ℕ) (lent reasons : List ℕ) : Type 0 where
-  pub numbers_are : reasons_size ≤ length lent → reasons ≡ numbers_of (case_of file flags) ++ drop (length (numbers_of (case_of file flags))) lent

@@ -55,15 +55,14 @@ pub(crate) fn tiny_bindings(
     ends: &[u16],
     firsts: &mut Rows,
     flags: &mut [u8],
-    reasons: &mut [u16],
 ) -> Shrunken
-    ensures { JudgesWithin tiny_nodes tiny_types tiny_bindings_spec file.now index.old counts.now ends.now flags.old flags.new reasons.old reasons.new result.accepted result.kept result.total result.rounds }
+    ensures { JudgesWithin tiny_nodes tiny_types tiny_bindings_spec file.now index.old counts.now ends.now flags.old flags.new result.accepted result.kept result.total result.rounds }
 {
     let mut t = [0u16; TINY_TABLE];
     let mut r = [0u32; TINY_READ];
     let mut w = [0u32; TINY_WRITE];
     judge_bindings(
-        file, index, counts, ends, firsts, &mut t, &mut r, &mut w, NO_HINTS, flags, reasons,
+        file, index, counts, ends, firsts, &mut t, &mut r, &mut w, NO_HINTS, flags,
     )
 }
 
@@ -75,15 +74,14 @@ pub(crate) fn small_bindings(
     ends: &[u16],
     firsts: &mut Rows,
     flags: &mut [u8],
-    reasons: &mut [u16],
 ) -> Shrunken
-    ensures { JudgesWithin small_nodes small_types small_bindings_spec file.now index.old counts.now ends.now flags.old flags.new reasons.old reasons.new result.accepted result.kept result.total result.rounds }
+    ensures { JudgesWithin small_nodes small_types small_bindings_spec file.now index.old counts.now ends.now flags.old flags.new result.accepted result.kept result.total result.rounds }
 {
     let mut t = [0u16; SMALL_TABLE];
     let mut r = [0u32; SMALL_READ];
     let mut w = [0u32; SMALL_WRITE];
     judge_bindings(
-        file, index, counts, ends, firsts, &mut t, &mut r, &mut w, NO_HINTS, flags, reasons,
+        file, index, counts, ends, firsts, &mut t, &mut r, &mut w, NO_HINTS, flags,
     )
 }
 
@@ -95,15 +93,14 @@ pub(crate) fn modest_bindings(
     ends: &[u16],
     firsts: &mut Rows,
     flags: &mut [u8],
-    reasons: &mut [u16],
 ) -> Shrunken
-    ensures { JudgesWithin modest_nodes modest_types modest_bindings_spec file.now index.old counts.now ends.now flags.old flags.new reasons.old reasons.new result.accepted result.kept result.total result.rounds }
+    ensures { JudgesWithin modest_nodes modest_types modest_bindings_spec file.now index.old counts.now ends.now flags.old flags.new result.accepted result.kept result.total result.rounds }
 {
     let mut t = [0u16; MODEST_TABLE];
     let mut r = [0u32; MODEST_READ];
     let mut w = [0u32; MODEST_WRITE];
     judge_bindings(
-        file, index, counts, ends, firsts, &mut t, &mut r, &mut w, NO_HINTS, flags, reasons,
+        file, index, counts, ends, firsts, &mut t, &mut r, &mut w, NO_HINTS, flags,
     )
 }
 
@@ -115,15 +112,14 @@ pub(crate) fn plain_bindings(
     ends: &[u16],
     firsts: &mut Rows,
     flags: &mut [u8],
-    reasons: &mut [u16],
 ) -> Shrunken
-    ensures { JudgesWithin plain_nodes plain_types plain_bindings_spec file.now index.old counts.now ends.now flags.old flags.new reasons.old reasons.new result.accepted result.kept result.total result.rounds }
+    ensures { JudgesWithin plain_nodes plain_types plain_bindings_spec file.now index.old counts.now ends.now flags.old flags.new result.accepted result.kept result.total result.rounds }
 {
     let mut t = [0u16; PLAIN_TABLE];
     let mut r = [0u32; PLAIN_READ];
     let mut w = [0u32; PLAIN_WRITE];
     judge_bindings(
-        file, index, counts, ends, firsts, &mut t, &mut r, &mut w, NO_HINTS, flags, reasons,
+        file, index, counts, ends, firsts, &mut t, &mut r, &mut w, NO_HINTS, flags,
     )
 }
 
@@ -135,15 +131,14 @@ pub(crate) fn broad_bindings(
     ends: &[u16],
     firsts: &mut Rows,
     flags: &mut [u8],
-    reasons: &mut [u16],
 ) -> Shrunken
-    ensures { JudgesWithin broad_nodes broad_types broad_bindings_spec file.now index.old counts.now ends.now flags.old flags.new reasons.old reasons.new result.accepted result.kept result.total result.rounds }
+    ensures { JudgesWithin broad_nodes broad_types broad_bindings_spec file.now index.old counts.now ends.now flags.old flags.new result.accepted result.kept result.total result.rounds }
 {
     let mut t = [0u16; BROAD_TABLE];
     let mut r = [0u32; BROAD_READ];
     let mut w = [0u32; BROAD_WRITE];
     judge_bindings(
-        file, index, counts, ends, firsts, &mut t, &mut r, &mut w, FEW_HINTS, flags, reasons,
+        file, index, counts, ends, firsts, &mut t, &mut r, &mut w, FEW_HINTS, flags,
     )
 }
 
@@ -155,15 +150,14 @@ pub(crate) fn middle_bindings(
     ends: &[u16],
     firsts: &mut Rows,
     flags: &mut [u8],
-    reasons: &mut [u16],
 ) -> Shrunken
-    ensures { JudgesWithin middle_nodes middle_types middle_bindings_spec file.now index.old counts.now ends.now flags.old flags.new reasons.old reasons.new result.accepted result.kept result.total result.rounds }
+    ensures { JudgesWithin middle_nodes middle_types middle_bindings_spec file.now index.old counts.now ends.now flags.old flags.new result.accepted result.kept result.total result.rounds }
 {
     let mut t = [0u16; MIDDLE_TABLE];
     let mut r = [0u32; MIDDLE_READ];
     let mut w = [0u32; MIDDLE_WRITE];
     judge_bindings(
-        file, index, counts, ends, firsts, &mut t, &mut r, &mut w, HINTS, flags, reasons,
+        file, index, counts, ends, firsts, &mut t, &mut r, &mut w, HINTS, flags,
     )
 }
 
@@ -175,15 +169,14 @@ pub(crate) fn wide_bindings(
     ends: &[u16],
     firsts: &mut Rows,
     flags: &mut [u8],
-    reasons: &mut [u16],
 ) -> Shrunken
-    ensures { JudgesWithin wide_nodes wide_types wide_bindings_spec file.now index.old counts.now ends.now flags.old flags.new reasons.old reasons.new result.accepted result.kept result.total result.rounds }
+    ensures { JudgesWithin wide_nodes wide_types wide_bindings_spec file.now index.old counts.now ends.now flags.old flags.new result.accepted result.kept result.total result.rounds }
 {
     let mut t = [0u16; WIDE_TABLE];
     let mut r = [0u32; WIDE_READ];
     let mut w = [0u32; WIDE_WRITE];
     judge_bindings(
-        file, index, counts, ends, firsts, &mut t, &mut r, &mut w, NO_HINTS, flags, reasons,
+        file, index, counts, ends, firsts, &mut t, &mut r, &mut w, NO_HINTS, flags,
     )
 }
 
@@ -195,14 +188,13 @@ pub(crate) fn all_bindings(
     ends: &[u16],
     firsts: &mut Rows,
     flags: &mut [u8],
-    reasons: &mut [u16],
 ) -> Shrunken
-    ensures { JudgesWithin ends_size max_types max_bindings file.now index.old counts.now ends.now flags.old flags.new reasons.old reasons.new result.accepted result.kept result.total result.rounds }
+    ensures { JudgesWithin ends_size max_types max_bindings file.now index.old counts.now ends.now flags.old flags.new result.accepted result.kept result.total result.rounds }
 {
     let mut t = [0u16; TABLE];
     let mut r = [0u32; ALL_READ];
     let mut w = [0u32; ALL_WRITE];
     judge_bindings(
-        file, index, counts, ends, firsts, &mut t, &mut r, &mut w, HINTS, flags, reasons,
+        file, index, counts, ends, firsts, &mut t, &mut r, &mut w, HINTS, flags,
     )
 }

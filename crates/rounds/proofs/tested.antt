@@ -2,4 +2,3 @@ pub mod Clearing
 pub mod Placing
 pub mod Testing
 pub mod Retesting
-pub mod Entries

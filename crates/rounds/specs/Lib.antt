@@ -1,5 +1,4 @@
 pub mod Resting
-pub mod Explaining
 pub mod tested
 pub mod dropping
 pub mod shrinking

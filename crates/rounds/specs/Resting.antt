@@ -4,7 +4,7 @@
 use Rattle.std.specs.Prelude.{ℕ, ◌+◌, ◌*◌, ◌<◌, ◌≤◌, ◌≡◌, Bool, true, List, T, length, get_or}
 use Rattle.scheme.specs.Typing.{Binding}
 use Rattle.scheme.specs.Flags.{is_kept, chosen}
-use Rattle.scheme.specs.Acceptance.{binding_holds}
+use Rattle.scheme.specs.Acceptance.{holds_exactly}
 use Rattle.casefile.specs.Records.{Record}
 use Rattle.casefile.specs.Kinds.{Kind, count}
 use Rattle.casefile.specs.Tables.{plan_of, automaton_of, bindings_of}
@@ -22,7 +22,7 @@ total rs = count Kind.binding rs
 
 -- the test of a binding against a set, for the plan and the automaton of a file
 abbrev pub test_of : List Record → List Binding → Binding → Bool
-test_of rs = binding_holds (automaton_of rs) (plan_of rs)
+test_of rs = holds_exactly (automaton_of rs) (plan_of rs)
 
 -- binding b holds where the bindings with a flag are kept
 abbrev pub Holds : List Record → List ℕ → ℕ → Type 0

@@ -1,15 +1,15 @@
 // Shrinking by rounds: each round tests the bindings that rest on one that the round before dropped, against the set as the round
 // began, and drops those that fail; the rounds end with one that drops nothing.
-ghost use Rattle.std.specs.Prelude.{◌≡◌, ◌%◌, ◌<◌, ◌≤◌, length, get_or, drop};
+ghost use Rattle.std.specs.Prelude.{◌≡◌, ◌<◌, ◌≤◌, length, get_or, drop};
 ghost use Rattle.scheme.specs.Flags.{bit, is_kept};
-ghost use Rattle.index.specs.layout.Layout.{row_limit, test_cells};
+ghost use Rattle.index.specs.layout.Layout.{test_cells};
 ghost use Rattle.term_check.specs.Worlds.{answers_of, users_of};
-ghost use Rattle.rounds.specs.tested.Tested.{Placed, Same};
-ghost use Rattle.rounds.specs.shrinking.Shrinking.{Turns, ExplainsTurn, KeepsAll, Counts, NextRound, ExplainsRound, ClearsReasons, ShrinksByRounds};
+ghost use Rattle.rounds.specs.tested.Tested.{Same};
+ghost use Rattle.rounds.specs.shrinking.Shrinking.{Turns, KeepsAll, Counts, ShrinksByRounds};
 
 use crate::dropping::drop_failed;
 use crate::tested::{Course, Sizes, retest};
-use index::layout::{BINDING_WORDS, REASON_CELLS, ROW_LIMIT};
+use index::layout::{BINDING_WORDS, ROW_LIMIT};
 use marks::briefs::next_marked;
 
 // What the rounds leave beside the flags: how many bindings are kept, and how many rounds dropped something.
@@ -17,13 +17,6 @@ use marks::briefs::next_marked;
 pub struct Ended {
     pub kept: usize,
     pub rounds: usize,
-}
-
-// What a round leaves beside the flags: whether it dropped nothing, and is the last one; and the number of its last test.
-#[derive(Drop)]
-pub struct Next {
-    pub over: bool,
-    pub last: u32,
 }
 
 // Tests all bindings that are marked and kept, and marks those that fail. The course of the turn is returned.
@@ -35,23 +28,20 @@ fn turn(
     todo: &[u32],
     r: &mut [u32],
     w: &mut [u32],
-    reasons: &mut [u16],
     failed: &mut [u32],
-    round: usize,
     last: u32,
 ) -> Course
-    ensures { (length w.new ≡ length w.old) × Same r.old r.new × Turns t.now (drop test_cells r.old) firsts.now sizes flags.now todo.now (answers_of r.old w.old) (users_of r.old w.old) failed.old last (answers_of r.old w.new) (users_of r.old w.new) failed.new result × ExplainsTurn t.now (drop test_cells r.old) firsts.now sizes flags.now todo.now (answers_of r.old w.old) (users_of r.old w.old) failed.old last round failed.new reasons.old reasons.new }
+    ensures { (length w.new ≡ length w.old) × Same r.old r.new × Turns t.now (drop test_cells r.old) firsts.now sizes flags.now todo.now (answers_of r.old w.old) (users_of r.old w.old) failed.old last (answers_of r.old w.new) (users_of r.old w.new) failed.new result }
 {
     let total = sizes.bindings % ROW_LIMIT;
     let mut n = Course {
-        round,
         last,
         least: 0,
         past: 0,
     };
     let mut b = next_marked(todo, 0, BINDING_WORDS, 0, total);
     while b < total {
-        n = retest(t, firsts, sizes, flags, r, w, reasons, failed, n, b);
+        n = retest(t, firsts, sizes, flags, r, w, failed, n, b);
         b = next_marked(todo, 0, BINDING_WORDS, b + 1, total);
     }
     n
@@ -98,68 +88,9 @@ fn count_kept(flags: &[u8], n: usize) -> usize
     kept
 }
 
-// Sets all that is written of the first n bindings to 0, where there is room for it.
-fn no_reasons(reasons: &mut [u16], n: usize)
-    ensures { ClearsReasons (n % row_limit) reasons.old reasons.new }
-{
-    let end = n % ROW_LIMIT * REASON_CELLS;
-    if reasons.len() < end {
-        return;
-    }
-    let mut i: usize = 0;
-    while i < end {
-        reasons[i] = 0;
-        i = i + 1;
-    }
-}
-
-// One round: the bindings that are marked and kept are tested against the flags as it began; those that fail are explained, where there is
-// room for it, then dropped, and those that they served are marked in place of the others.
-pub fn next_round(
-    t: &[u16],
-    firsts: &[u16],
-    sizes: Sizes,
-    r: &mut [u32],
-    w: &mut [u32],
-    flags: &mut [u8],
-    reasons: &mut [u16],
-    todo: &mut [u32; BINDING_WORDS + 1],
-    round: usize,
-    last: u32,
-) -> Next
-    ensures { (length w.new ≡ length w.old) × Placed r.old r.new × NextRound t.now (drop test_cells r.old) firsts.now sizes (answers_of r.old w.old) (users_of r.old w.old) flags.old todo.old last (drop test_cells r.new) (answers_of r.old w.new) (users_of r.old w.new) flags.new todo.new result × ExplainsRound t.now (drop test_cells r.old) firsts.now sizes (answers_of r.old w.old) (users_of r.old w.old) flags.old todo.old last round flags.new reasons.old reasons.new }
-{
-    let mut failed = [0u32; BINDING_WORDS];
-    let n = turn(
-        t,
-        firsts,
-        sizes,
-        flags,
-        todo,
-        r,
-        w,
-        reasons,
-        &mut failed,
-        round,
-        last,
-    );
-    if n.past == 0 {
-        return Next {
-            over: true,
-            last: n.last,
-        };
-    }
-    *todo = [0u32; BINDING_WORDS + 1];
-    drop_failed(t, w, sizes, &failed, r, flags, todo, n);
-    Next {
-        over: false,
-        last: n.last,
-    }
-}
-
 // The bindings that are left when the rounds have ended, by the lent flags: 1 for a kept binding and 0 for a dropped one. All start
 // kept and marked. What is tested in a round is tested against the flags as it began. Each round but the last drops a binding, so there
-// is no round after as many as there are bindings and one. Why a binding is dropped is written, where there is room for all bindings.
+// is no round after as many as there are bindings and one.
 pub fn shrink(
     t: &[u16],
     firsts: &[u16],
@@ -167,36 +98,26 @@ pub fn shrink(
     r: &mut [u32],
     w: &mut [u32],
     flags: &mut [u8],
-    reasons: &mut [u16],
 ) -> Ended
-    ensures { ShrinksByRounds t.now (drop test_cells r.old) firsts.now sizes (answers_of r.old w.old) (users_of r.old w.old) flags.old flags.new reasons.old reasons.new result.kept result.rounds }
+    ensures { ShrinksByRounds t.now (drop test_cells r.old) firsts.now sizes (answers_of r.old w.old) (users_of r.old w.old) flags.old flags.new result.kept result.rounds }
 {
     let total = sizes.bindings % ROW_LIMIT;
     all_kept(flags, total);
-    no_reasons(reasons, total);
     let mut todo = [4294967295u32; BINDING_WORDS + 1];
     let mut rounds: usize = 0;
     let mut last: u32 = 0;
     while rounds <= total {
-        let next = next_round(
-            t,
-            firsts,
-            sizes,
-            r,
-            w,
-            flags,
-            reasons,
-            &mut todo,
-            rounds + 1,
-            last,
-        );
-        if next.over {
+        let mut failed = [0u32; BINDING_WORDS];
+        let n = turn(t, firsts, sizes, flags, &todo, r, w, &mut failed, last);
+        if n.past == 0 {
             return Ended {
                 kept: count_kept(flags, total),
                 rounds,
             };
         }
-        last = next.last;
+        last = n.last;
+        todo = [0u32; BINDING_WORDS + 1];
+        drop_failed(t, w, sizes, &failed, r, flags, &mut todo, n);
         rounds = rounds + 1;
     }
     Ended { kept: 0, rounds }

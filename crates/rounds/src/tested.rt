@@ -1,17 +1,14 @@
 // The test of one binding against those that are kept, and its mark where it fails.
 ghost use Rattle.std.specs.Prelude.{◌≡◌, ◌≤◌, length, drop};
 ghost use Rattle.index.specs.layout.Layout.{test_users, test_cells};
-ghost use Rattle.term_check.specs.Worlds.{case_of, answers_of, users_of};
-ghost use Rattle.rounds.specs.Explaining.{PutsReason, Explains};
-ghost use Rattle.rounds.specs.tested.Tested.{Same, Writes, Clears, Freshens, Fails, TestsBinding, ExplainsTest, Retests, ExplainsRetest};
+ghost use Rattle.term_check.specs.Worlds.{answers_of, users_of};
+ghost use Rattle.rounds.specs.tested.Tested.{Same, Writes, Clears, Freshens, Fails, TestsBinding, Retests};
 
 use index::entries::place_at;
 use index::layout::{
-    ENTRY_LIMIT, LAST_TEST, MAX_BINDINGS, NODE_CELLS, PLACE_LIMIT, REASON_CELLS, REASON_GOAL,
-    REASON_NODE, REASON_REST, REASON_ROUND, ROW_LIMIT, TEST_ANSWERS, TEST_USERS, WORD,
+    LAST_TEST, MAX_BINDINGS, NODE_CELLS, PLACE_LIMIT, ROW_LIMIT, TEST_ANSWERS, TEST_USERS, WORD,
 };
 use marks::{put_in, word_in};
-use reasons::{Reason, search};
 use records::fields::byte_at;
 use tables::reading::{end_of, own_of, symbol_of};
 use term_check::check::check_term;
@@ -25,11 +22,9 @@ pub struct Sizes {
     pub bindings: usize,
 }
 
-// The course of a turn: the number of the round, the number of the last test, the least binding that failed, and one more than the
-// greatest or 0.
+// The course of a turn: the number of the last test, the least binding that failed, and one more than the greatest or 0.
 #[derive(Clone, Copy)]
 pub struct Course {
-    pub round: usize,
     pub last: u32,
     pub least: usize,
     pub past: usize,
@@ -70,54 +65,18 @@ fn set_test(test: &[u32], r: &mut [u32])
     }
 }
 
-// Writes the round, the node and the goal of binding b, where there is room for them.
-fn put_reason(reasons: &mut [u16], b: usize, round: usize, why: Reason)
-    ensures { PutsReason b round why.node why.goal reasons.old reasons.new }
-{
-    let from = b % MAX_BINDINGS * REASON_CELLS;
-    if reasons.len() < from + REASON_CELLS {
-        return;
-    }
-    reasons[from + REASON_ROUND] = (round % ENTRY_LIMIT) as u16;
-    reasons[from + REASON_NODE] = (why.node % ENTRY_LIMIT) as u16;
-    reasons[from + REASON_GOAL] = (why.goal % ENTRY_LIMIT) as u16;
-    reasons[from + REASON_REST] = 0;
-}
-
-// Explains why the body under test, that of binding b, lacks a goal, where there is room for what is written of it.
-fn explain_failed(
-    t: &[u16],
-    r: &[u32],
-    w: &mut [u32],
-    reasons: &mut [u16],
-    round: usize,
-    b: usize,
-    goal: usize,
-)
-    ensures { (length w.new ≡ length w.old) × Explains (case_of t.now r.now) (answers_of r.now w.old) (users_of r.now w.old) round b goal reasons.old (answers_of r.now w.new) (users_of r.now w.new) reasons.new }
-{
-    if reasons.len() < b % MAX_BINDINGS * REASON_CELLS + REASON_CELLS {
-        return;
-    }
-    let why = search(t, r, w, goal);
-    put_reason(reasons, b, round, why);
-}
-
 // Whether binding b holds against those that are kept: its nonterminal's body has the final state of its type. What a yes rests on
-// is noted, and why it does not hold is written, where there is room for it. Where there is no room for the numbers of a test there is
-// none for notes.
+// is noted. Where there is no room for the numbers of a test there is none for notes.
 fn holds(
     t: &[u16],
     firsts: &[u16],
     sizes: Sizes,
     r: &mut [u32],
     w: &mut [u32],
-    reasons: &mut [u16],
-    round: usize,
     stamp: u32,
     b: usize,
 ) -> bool
-    ensures { (length w.new ≡ length w.old) × Same r.old r.new × TestsBinding t.now (drop test_cells r.old) firsts.now sizes (answers_of r.old w.old) (users_of r.old w.old) stamp b (answers_of r.old w.new) (users_of r.old w.new) result × ExplainsTest t.now (drop test_cells r.old) firsts.now sizes (answers_of r.old w.old) (users_of r.old w.old) stamp b round reasons.old reasons.new result }
+    ensures { (length w.new ≡ length w.old) × Same r.old r.new × TestsBinding t.now (drop test_cells r.old) firsts.now sizes (answers_of r.old w.old) (users_of r.old w.old) stamp b (answers_of r.old w.new) (users_of r.old w.new) result }
 {
     if r.len() <= TEST_ANSWERS {
         return false;
@@ -139,28 +98,22 @@ fn holds(
     ];
     set_test(&test, r);
     let goal = end_of(t, own);
-    if check_term(t, r, w, 0, goal) {
-        return true;
-    }
-    explain_failed(t, r, w, reasons, round, b, goal);
-    false
+    check_term(t, r, w, 0, goal)
 }
 
 // The course after binding b failed in the last test, and is greater than those that failed before.
 fn with_failed(n: Course, last: u32, b: usize) -> Course
-    ensures { Fails n last b result × (result.round ≡ n.round) }
+    ensures { Fails n last b result }
 {
     let past = b % ROW_LIMIT + 1;
     if n.past == 0 {
         return Course {
-            round: n.round,
             last,
             least: b,
             past,
         };
     }
     Course {
-        round: n.round,
         last,
         least: n.least,
         past,
@@ -175,20 +128,18 @@ pub fn retest(
     flags: &[u8],
     r: &mut [u32],
     w: &mut [u32],
-    reasons: &mut [u16],
     failed: &mut [u32],
     n: Course,
     b: usize,
 ) -> Course
-    ensures { (length w.new ≡ length w.old) × Same r.old r.new × (length failed.new ≡ length failed.old) × Retests t.now (drop test_cells r.old) firsts.now sizes flags.now (answers_of r.old w.old) (users_of r.old w.old) failed.old n b (answers_of r.old w.new) (users_of r.old w.new) failed.new result × ExplainsRetest t.now (drop test_cells r.old) firsts.now sizes flags.now (answers_of r.old w.old) (users_of r.old w.old) failed.old n b failed.new result reasons.old reasons.new }
+    ensures { (length w.new ≡ length w.old) × Same r.old r.new × (length failed.new ≡ length failed.old) × Retests t.now (drop test_cells r.old) firsts.now sizes flags.now (answers_of r.old w.old) (users_of r.old w.old) failed.old n b (answers_of r.old w.new) (users_of r.old w.new) failed.new result }
 {
     if byte_at(flags, b) == 0 {
         return n;
     }
     let stamp = freshen(r, w, n.last);
-    if holds(t, firsts, sizes, r, w, reasons, n.round, stamp, b) {
+    if holds(t, firsts, sizes, r, w, stamp, b) {
         return Course {
-            round: n.round,
             last: stamp,
             least: n.least,
             past: n.past,

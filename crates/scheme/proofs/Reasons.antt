@@ -21,7 +21,7 @@ use Rattle.scheme.specs.Types.{Ty, state, arrow, Tys, members, takes, domains, o
 use Rattle.scheme.specs.Typing.{Automaton, Binding, has, leads, head_types, holds}
 use Rattle.scheme.specs.Reasons.{Reason, leads_to, reason, lacking, reason_for}
 use Rattle.scheme.specs.ReasonRules.{First, at_once, behind, LeadsOff, HasHere, SearchEnds, this_node, an_argument, SearchEndsIn, the_first, a_later, ReasonByRules}
-use Rattle.scheme.specs.Acceptance.{binding_holds, binding_reason}
+use Rattle.scheme.specs.Acceptance.{holds_exactly, binding_reason}
 use Rattle.scheme.proofs.Lists.{T→true, true→T, false_T, any_false, all_in, and_false, not_out, not_in, found_out, none_some}
 use Rattle.scheme.proofs.Prefix.{length_flat}
 use Rattle.scheme.proofs.Exact.{same→≡, ≡→same}
@@ -243,8 +243,8 @@ module _ (aut : Automaton) (plan : Plan) (env : List Binding) (b : Binding) wher
       subst (λ k. SearchEnds Matches heads (body plan b.nonterminal) (final b.type) k (reason serves heads 0 (body plan b.nonterminal) (final b.type)).wanted) same ends
 
   -- the same under the exact match
-  pub reason_exactly : binding_holds aut plan env b ≡ false → ReasonByRules (λ a b. a ≡ b) aut plan env b (binding_reason aut plan env b).place (binding_reason aut plan env b).wanted
-  unfolding binding_holds binding_reason
+  pub reason_exactly : holds_exactly aut plan env b ≡ false → ReasonByRules (λ a b. a ≡ b) aut plan env b (binding_reason aut plan env b).place (binding_reason aut plan env b).wanted
+  unfolding holds_exactly binding_reason
   reason_exactly = reason_rules same (λ a b. a ≡ b) ≡→same same→≡
 
 -- The types that are wanted: what is true of all states and of the types that are bound, and of a type's parts where it is true of

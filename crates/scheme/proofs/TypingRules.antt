@@ -9,7 +9,7 @@ use Rattle.scheme.specs.Reduction.{Plan, body}
 use Rattle.scheme.specs.Types.{Ty, state, arrow, same, domains, final}
 use Rattle.scheme.specs.Typing.{Automaton, Binding, has, leads, head_types, holds}
 use Rattle.scheme.specs.TypingRules.{HeadHas, of_binding, of_parameter, of_transition, HasType, by_head, LeadsTo, by_match, by_argument, HoldsBy, HoldsByRules}
-use Rattle.scheme.specs.Acceptance.{binding_holds}
+use Rattle.scheme.specs.Acceptance.{holds_exactly}
 use Rattle.scheme.proofs.Heads.{bound_out, bound_in, con_types_out, con_types_in}
 use Rattle.scheme.proofs.Exact.{same→≡, ≡→same}
 use Rattle.scheme.proofs.Substitution.{has_out, has_in, leads_argument, leads_rest, leads_in}
@@ -74,10 +74,10 @@ module _ (serves : Ty → Ty → Bool) (Matches : Ty → Ty → Type 0) (aut : A
 
 -- the same under the exact match, where types that match are equal
 module _ (aut : Automaton) (plan : Plan) (env : List Binding) (b : Binding) where
-  pub exactly_rules : T (binding_holds aut plan env b) → HoldsByRules aut plan env b
-  unfolding binding_holds
+  pub exactly_rules : T (holds_exactly aut plan env b) → HoldsByRules aut plan env b
+  unfolding holds_exactly
   exactly_rules = holds_rules same (λ a b. a ≡ b) aut plan env b same→≡
 
-  pub rules_exactly : HoldsByRules aut plan env b → T (binding_holds aut plan env b)
-  unfolding binding_holds
+  pub rules_exactly : HoldsByRules aut plan env b → T (holds_exactly aut plan env b)
+  unfolding holds_exactly
   rules_exactly = rules_holds same (λ a b. a ≡ b) aut plan env b ≡→same

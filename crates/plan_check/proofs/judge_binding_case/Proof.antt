@@ -19,11 +19,8 @@ judge-in-requires c κs = search rules
 same_length : tie.Need-same-length
 same_length c = search rules
 
-same-length-2 : tie.Need-same-length-2
-same-length-2 c = search rules
-
 returns-2 : tie.Need-returns-2
-returns-2 c = c.before.before.before.before.judge-in.ensures c.before.before.before.before.before.before.before.before.before.nodes-at-most.ensures
+returns-2 c = c.before.before.judge-in.ensures c.before.before.before.before.before.before.nodes-at-most.ensures
 
 pub judge-binding-case-spec : {M : Type 1} → statement M
 judge-binding-case-spec =
@@ -34,5 +31,4 @@ judge-binding-case-spec =
     nodes-at-most-requires
     judge-in-requires
     same_length
-    same-length-2
     returns-2)

@@ -13,13 +13,14 @@ judge-with-requires c κs = search rules
 same_length : tie.Need-same-length
 same_length c = search rules
 
-same-length-2 : tie.Need-same-length-2
-same-length-2 c = search rules
-
 returns : tie.Need-returns
-returns c = λ short. c.before.before.before.before.before.judge-with.ensures (record { nodes = λ few n h. omega arith })
+returns c = λ short. c.before.before.before.judge-with.ensures (record { nodes = λ few n h. omega arith })
 
 pub judge-long-spec : {M : Type 1} → statement M
 judge-long-spec =
     tie.close
-    (tie.spec slice-aggregate-judge-with judge-with-requires same_length same-length-2 returns)
+    (tie.spec
+    slice-aggregate-judge-with
+    judge-with-requires
+    same_length
+    returns)

@@ -17,7 +17,7 @@ use Rattle.term_check.proofs.parts.Parting.{from_below, before_middle}
 use Rattle.rounds.specs.tested.Tested.{Placed, Same}
 use Rattle.rounds.specs.declared.tested.Sizes.{Sizes}
 use Rattle.rounds.specs.dropping.Dropping.{Joins, Drops, DropsAll}
-use Rattle.rounds.proofs.tested.Placing.{placed_none, moved, moved_sets, sets_lent, sets_back, sets_placed}
+use Rattle.rounds.proofs.tested.Placing.{placed_none, placed_more, moved, sets_lent, sets_back, sets_placed}
 
 -- no number is in a set of no words
 in_none : (words : List ℕ) (at m : ℕ) → length words ≡ 0 → In words at m → ⊥
@@ -67,6 +67,7 @@ pub drops_from : (r₀ r w t firsts : List ℕ) (sizes : Sizes) (b : ℕ) (sets 
 drops_from r₀ r w t firsts sizes b sets flags todo sets' flags' todo' p d = moved r₀ r p (λ answers users. Drops t firsts (users w) sizes b sets flags todo sets' flags' todo') d
 
 -- all that are dropped, by the users and the sets as they stood before
-pub drops_all_from : (r r₁ w t firsts : List ℕ) (sizes : Sizes) (failed flags todo : List ℕ) (least past : ℕ) (sets' flags' todo' : List ℕ) → Same r r₁ → DropsAll t firsts (users_of r₁ w) sizes failed (drop test_cells r₁) flags todo least past sets' flags' todo'
-    → DropsAll t firsts (users_of r w) sizes failed (drop test_cells r) flags todo least past sets' flags' todo'
-drops_all_from r r₁ w t firsts sizes failed flags todo least past sets' flags' todo' s d = moved_sets r r₁ s (λ sets answers users. DropsAll t firsts (users w) sizes failed sets flags todo least past sets' flags' todo') d
+pub drops_all_from : (r₀ r r₁ w t firsts : List ℕ) (sizes : Sizes) (failed flags todo : List ℕ) (least past : ℕ) (sets' flags' todo' : List ℕ) → Placed r₀ r → Same r r₁ → DropsAll t firsts (users_of r₁ w) sizes failed (drop test_cells r₁) flags todo least past sets' flags' todo'
+    → DropsAll t firsts (users_of r₀ w) sizes failed (drop test_cells r) flags todo least past sets' flags' todo'
+drops_all_from r₀ r r₁ w t firsts sizes failed flags todo least past sets' flags' todo' p s d =
+    moved r₀ r₁ (placed_more p s.placed) (λ answers users. DropsAll t firsts (users w) sizes failed (drop test_cells r) flags todo least past sets' flags' todo') (subst (λ l. DropsAll t firsts (users_of r₁ w) sizes failed l flags todo least past sets' flags' todo') s.sets d)

@@ -2,17 +2,13 @@
 -- round that keeps as many as before leaves the flags as they are.
 use Prim.Native.Nat.{ℕ, zero, suc, ◌<◌, ◌≤◌}
 use native.Mathlib.Omega.{arith}
-use native.Mathlib.Decide.{dec_lt}
 use native.Mathlib.Nat.{le_of_suc-le-suc}
-use mathlib.Core.Path.{◌≡◌, refl, sym, ap, subst, ◌∙◌}
+use mathlib.Core.Path.{◌≡◌, refl, ap, ◌∙◌}
 use mathlib.Core.Bool.{Bool, true, false, ◌&&◌}
 use mathlib.Core.List.{List, [], ◌∷◌}
-use lib.ListN.{length, get_or, take, get_or-eq_default}
-use lib.Seq.{get_or-take, length-take-le}
+use lib.ListN.{length, get_or, take}
 use Rattle.scheme.specs.Lists.{keep_if}
-use Rattle.scheme.specs.Rounds
 use Rattle.scheme.specs.Flags.{bit, is_kept, chosen, retested, round_flags, flags_after_rounds}
-use Rattle.scheme.proofs.Flags.{chosen_round}
 
 -- every flag is 0 or 1
 abbrev pub Small : List ℕ → Type 0
@@ -104,26 +100,10 @@ module _ {B : Type 0} (test : List B → B → Bool) where
   unfolding round_flags
   round_at bs fs = retested_at (chosen fs bs) fs bs
 
-  -- flags that a round made choose what it leaves
-  pub chosen_next : (bs : List B) (old new : List ℕ) → take (length bs) new ≡ round_flags test bs old → chosen new bs ≡ Rounds.round test (chosen old bs)
-  chosen_next bs old new e = sym (chosen_take new bs) ∙ ap (λ fs. chosen fs bs) e ∙ chosen_round test bs old
-
   -- a round that drops nothing leaves the flags
-  round_same : (bs : List B) (fs : List ℕ) → length fs ≡ length bs → Small fs → length (chosen fs bs) ≤ length (chosen (round_flags test bs fs) bs) → round_flags test bs fs ≡ fs
+  pub round_same : (bs : List B) (fs : List ℕ) → length fs ≡ length bs → Small fs → length (chosen fs bs) ≤ length (chosen (round_flags test bs fs) bs) → round_flags test bs fs ≡ fs
   unfolding round_flags
   round_same bs fs = retested_same (chosen fs bs) fs bs
-
-  pub next_same : (bs : List B) (old new : List ℕ) → length bs ≤ length old → ((i : ℕ) → i < length bs → get_or old i 0 ≤ 1) → take (length bs) new ≡ round_flags test bs old → length (chosen old bs) ≤ length (chosen new bs)
-      → take (length bs) new ≡ take (length bs) old
-  next_same bs old new long s e h =
-      let fs = take (length bs) old in
-      let a = ap length (chosen_take old bs) in
-      let b = ap length (sym (chosen_take new bs) ∙ ap (λ gs. chosen gs bs) (e ∙ sym (round_take bs old))) in
-      e ∙ sym (round_take bs old) ∙ round_same bs fs (length-take-le (length bs) old long) (λ i. small i (dec_lt i (length bs))) (omega arith)
-    where
-      small : (i : ℕ) → Dec (i < length bs) → get_or (take (length bs) old) i 0 ≤ 1
-      small i (yes l) = subst (λ x. x ≤ 1) (sym (get_or-take (length bs) old i 0 l)) (s i l)
-      small i (no l) = let z = get_or-eq_default (take (length bs) old) 0 (let n = length-take-le (length bs) old long in let k : length (take (length bs) old) ≤ i = omega arith in k) in omega arith
 
   -- and so do all after it
   pub after_same : (bs : List B) (n : ℕ) (fs : List ℕ) → round_flags test bs fs ≡ fs → flags_after_rounds test bs n fs ≡ fs

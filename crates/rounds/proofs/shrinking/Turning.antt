@@ -1,26 +1,26 @@
--- One turn over the marked bindings: those that are passed are tested, and all that is not marked rests on its notes as before;
--- why those that fail do is written.
+-- One turn over the marked bindings: those that are passed are tested, and all that is not marked rests on its notes as before.
 use Prim.Native.Nat.{ℕ, ◌+◌, ◌-◌, ◌*◌, ◌/◌, ◌%◌, ◌<◌, ◌≤◌}
 use native.Mathlib.Omega.{arith}
 use native.Mathlib.Decide.{dec_lt, ℕ_discrete}
-use mathlib.Core.Path.{◌≡◌, refl, sym, ap, subst, ◌∙◌}
+use mathlib.Core.Path.{◌≡◌, refl, sym, subst, ◌∙◌}
 use mathlib.Core.Bool.{true}
 use mathlib.Core.List.{List}
-use lib.ListN.{length, get_or}
+use lib.ListN.{length, get_or, drop}
 use Rattle.scheme.specs.Flags.{is_kept}
 use Rattle.casefile.specs.Records.{Record}
-use Rattle.index.specs.layout.Layout.{word_bits, max_binding_words, row_limit, reason_cells, entry_limit}
+use Rattle.index.specs.layout.Layout.{word_bits, max_binding_words, row_limit, test_cells}
 use Rattle.marks.specs.Marks.{bit_of, In}
 use Rattle.marks.specs.briefs.Briefs.{FindsMarked}
 use Rattle.answers.specs.Answers.{Under}
 use Rattle.tables.specs.Filling.{words_for}
+use Rattle.term_check.specs.Worlds.{answers_of, users_of}
 use Rattle.marks.proofs.briefs.Passing.{in_more, marked_more}
 use Rattle.rounds.specs.Resting.{total, Holds, Rests}
-use Rattle.rounds.specs.Explaining.{Entry}
-use Rattle.rounds.specs.tested.Tested.{Todo, Grows, Ranged, Retests, ExplainsRetest}
-use Rattle.rounds.specs.shrinking.Shrinking.{Turnable, Turns, ExplainsTurn}
+use Rattle.rounds.specs.tested.Tested.{Placed, Todo, Grows, Ranged, Retests}
+use Rattle.rounds.specs.shrinking.Shrinking.{Turnable, Turns}
 use Rattle.rounds.specs.declared.tested.Sizes.{Sizes}
 use Rattle.rounds.specs.declared.tested.Course.{Course}
+use Rattle.rounds.proofs.tested.Placing.{moved}
 
 pub rests_more : (rs : List Record) (kept users users' : List ℕ) → Grows users users' → (b : ℕ) → Rests rs kept users b → Rests rs kept users' b
 rests_more rs kept users users' g b r flags h = r flags (λ c l k n. h c l k (marked_more users users' g (c * words_for rs) (total rs * words_for rs + c) b n))
@@ -43,8 +43,8 @@ module _ (t sets firsts : List ℕ) (sizes : Sizes) (kept todo memo users failed
     pub failures : (rs : List Record) → Given rs → (c : ℕ) → c < total rs → In failed' 0 c → (is_kept (get_or kept c 0) ≡ true) × (Holds rs kept c → ⊥)
     pub settled : (rs : List Record) → Given rs → (c : ℕ) → c < total rs → is_kept (get_or kept c 0) ≡ true → (In failed' 0 c → ⊥) → (Todo todo c → c < b) → Rests rs kept users' c
 
-  pub turn_none : (round end b : ℕ) → FindsMarked todo 0 max_binding_words 0 end b → Turning memo users failed (record { round = round; last = last; least = 0; past = 0 }) b
-  turn_none round end b f =
+  pub turn_none : (end b : ℕ) → FindsMarked todo 0 max_binding_words 0 end b → Turning memo users failed (record { last = last; least = 0; past = 0 }) b
+  turn_none end b f =
       record {
         users_long = refl;
         failed_long = refl;
@@ -114,56 +114,7 @@ module _ (t sets firsts : List ℕ) (sizes : Sizes) (kept todo memo users failed
               w.settled rs g c l k no' (λ i. omega arith);
         }
 
--- why those that are passed and failed did is written
-module _ (t sets firsts : List ℕ) (sizes : Sizes) (kept todo memo users failed : List ℕ) (last round : ℕ) (reasons : List ℕ) where
-  pub record Explaining (failed' : List ℕ) (n : Course) (reasons' : List ℕ) : Type 0 where
-    pub same_round : n.round ≡ round
-    pub long : length reasons' ≡ length reasons
-    pub others : (rs : List Record) → Given t sets firsts sizes kept todo memo users failed last rs → (i : ℕ) → (In failed' 0 (i / reason_cells) → ⊥) → get_or reasons' i 0 ≡ get_or reasons i 0
-    pub entries : (rs : List Record) → Given t sets firsts sizes kept todo memo users failed last rs → reason_cells * total rs ≤ length reasons → round < entry_limit → (c : ℕ) → c < total rs → In failed' 0 c → Entry rs kept round c reasons'
-
-  pub explaining_none : Explaining failed (record { round = round; last = last; least = 0; past = 0 }) reasons
-  explaining_none = record { same_round = refl; long = refl; others = λ rs g i d. refl; entries = λ rs g room s c l i. absurd (g.none c i) }
-
-  pub explaining_all : (failed' : List ℕ) (n : Course) (reasons' : List ℕ) → Explaining failed' n reasons' → ExplainsTurn t sets firsts sizes kept todo memo users failed last round failed' reasons reasons'
-  explaining_all failed' n reasons' x = record { long = x.long; others = x.others; entries = x.entries }
-
-  module _ (memo' users' failed' : List ℕ) (n : Course) (b : ℕ) (w : Turning t sets firsts sizes kept todo memo users failed last memo' users' failed' n b) (end : ℕ) (is : end ≡ sizes.bindings % row_limit) (reasons' : List ℕ) (x : Explaining failed' n reasons') where
-    pub explaining_more : b < end → (memo'' users'' failed'' : List ℕ) (next : Course) (reasons'' : List ℕ) → Retests t sets firsts sizes kept memo' users' failed' n b memo'' users'' failed'' next
-        → ExplainsRetest t sets firsts sizes kept memo' users' failed' n b failed'' next reasons' reasons'' → Explaining failed'' next reasons''
-    explaining_more small memo'' users'' failed'' next reasons'' r y =
-        record {
-          same_round = y.same_round ∙ x.same_round;
-          long = y.one.long ∙ x.long;
-          others = λ rs g i d. other rs g i d (ℕ_discrete (i / reason_cells) b);
-          entries = λ rs g room s c l i. entry rs g room s c l i (ℕ_discrete c b);
-        }
-      where
-        inside : (rs : List Record) → Given t sets firsts sizes kept todo memo users failed last rs → b < total rs
-        inside rs g = let few = g.frame.few_bindings in let all = g.frame.bindings_are in omega arith
-
-        other : (rs : List Record) → Given t sets firsts sizes kept todo memo users failed last rs → (i : ℕ) → (In failed'' 0 (i / reason_cells) → ⊥) → Dec (i / reason_cells ≡ b) → get_or reasons'' i 0 ≡ get_or reasons i 0
-        other rs g i d (yes e) =
-            let l = inside rs g in
-            let few = g.frame.few_bindings in
-            let long = g.long in
-            let fl = w.failed_long in
-            ap (λ z. get_or z i 0) (y.held (omega arith) (omega arith) (λ k. d (subst (In failed'' 0) (sym e) k))) ∙ x.others rs g i (λ k. d (in_more failed' failed'' r.more 0 (i / reason_cells) k))
-        other rs g i d (no ne) =
-            let l = inside rs g in
-            let few = g.frame.few_bindings in
-            y.one.others i (λ e. ne (omega arith)) ∙ x.others rs g i (λ k. d (in_more failed' failed'' r.more 0 (i / reason_cells) k))
-
-        entry : (rs : List Record) → Given t sets firsts sizes kept todo memo users failed last rs → reason_cells * total rs ≤ length reasons → round < entry_limit → (c : ℕ) → c < total rs → In failed'' 0 c → Dec (c ≡ b) → Entry rs kept round c reasons''
-        entry rs g room s c l i (yes e) =
-            let ul = w.users_long in
-            let fits = g.room in
-            let sr = x.same_round in
-            let lr = x.long in
-            subst (λ z. Entry rs kept round z reasons'') (sym e)
-            (subst (λ z. Entry rs kept z b reasons'') sr
-            (y.entry rs g.frame g.candidates (omega arith) (w.under g.under) (inside rs g) (subst (In failed'' 0) e i) (λ k. let q = (w.ranged rs g).inside b k in let p = w.before in omega arith) (let m = inside rs g in omega arith) (omega arith)))
-        entry rs g room s c l i (no ne) = λ k m.
-            let h = inside rs g in
-            let few = g.frame.few_bindings in
-            y.one.others (c * reason_cells + k) (λ e. ne (omega arith)) ∙ x.entries rs g room s c l (r.only c i ne) k m
+-- the same by the places as they stood before
+pub turns_from : (r₀ r w w' t firsts : List ℕ) (sizes : Sizes) (kept todo failed : List ℕ) (last : ℕ) (failed' : List ℕ) (n : Course) → Placed r₀ r → Turns t (drop test_cells r) firsts sizes kept todo (answers_of r w) (users_of r w) failed last (answers_of r w') (users_of r w') failed' n
+    → Turns t (drop test_cells r) firsts sizes kept todo (answers_of r₀ w) (users_of r₀ w) failed last (answers_of r₀ w') (users_of r₀ w') failed' n
+turns_from r₀ r w w' t firsts sizes kept todo failed last failed' n p x = moved r₀ r p (λ answers users. Turns t (drop test_cells r) firsts sizes kept todo (answers w) (users w) failed last (answers w') (users w') failed' n) x

@@ -8,22 +8,16 @@ use lib.ListN.{length, get_or, set, length-set, get_or-eq_default}
 use lib.Seq.{get_or-set_same, get_or-set_other}
 use Rattle.rounds.specs.tested.Tested.{Freshens}
 
--- the first i words are 0, and the others as they were
+-- the first i words are 0
 pub record Cleared (words₀ words : List ℕ) (i : ℕ) : Type 0 where
   pub long : length words ≡ length words₀
   pub zeros : (k : ℕ) → k < i → get_or words k 0 ≡ 0
-  pub stays : (k : ℕ) → i ≤ k → get_or words k 0 ≡ get_or words₀ k 0
 
 pub cleared_none : (words : List ℕ) → Cleared words words 0
-cleared_none words = record { long = refl; zeros = λ k h. absurd (omega arith); stays = λ k h. refl }
+cleared_none words = record { long = refl; zeros = λ k h. absurd (omega arith) }
 
 pub cleared_more : (words₀ words : List ℕ) (i : ℕ) → i < length words → Cleared words₀ words i → Cleared words₀ (set words i 0) (i + 1)
-cleared_more words₀ words i h c =
-    record {
-      long = length-set words i 0 ∙ c.long;
-      zeros = λ k l. go k l (ℕ_discrete k i);
-      stays = λ k l. get_or-set_other words i k 0 0 (λ e. omega arith) ∙ c.stays k (omega arith);
-    }
+cleared_more words₀ words i h c = record { long = length-set words i 0 ∙ c.long; zeros = λ k l. go k l (ℕ_discrete k i) }
   where
     go : (k : ℕ) → k < i + 1 → Dec (k ≡ i) → get_or (set words i 0) k 0 ≡ 0
     go k l (yes e) = ap (λ j. get_or (set words i 0) j 0) e ∙ get_or-set_same words i 0 0 h

@@ -15,7 +15,7 @@ use Rattle.marks.specs.Marks.{In, Puts}
 use Rattle.answers.specs.Answers.{Under}
 use Rattle.term_check.specs.Worlds.{answers_of, users_of}
 use Rattle.marks.proofs.briefs.Passing.{in_more}
-use Rattle.rounds.specs.tested.Tested.{Same, Freshens, Fails, TestsBinding, Ranged, Retests, ExplainsRetest}
+use Rattle.rounds.specs.tested.Tested.{Same, Freshens, Fails, TestsBinding, Ranged, Retests}
 use Rattle.rounds.specs.declared.tested.Sizes.{Sizes}
 use Rattle.rounds.specs.declared.tested.Course.{Course}
 use Rattle.rounds.proofs.tested.Placing.{moved_sets}
@@ -57,7 +57,7 @@ module _ (t sets firsts : List ℕ) (sizes : Sizes) (kept memo users failed : Li
     on u = told.under (new.fresh u)
 
     -- one that holds
-    pub retest_holds : r ≡ true → Retests t sets firsts sizes kept memo users failed n b memo' users' failed (record { round = n.round; last = stamp; least = n.least; past = n.past })
+    pub retest_holds : r ≡ true → Retests t sets firsts sizes kept memo users failed n b memo' users' failed (record { last = stamp; least = n.least; past = n.past })
     retest_holds y =
         record {
           grows = told.grows;
@@ -112,12 +112,7 @@ module _ (t sets firsts : List ℕ) (sizes : Sizes) (kept memo users failed : Li
             later c i (yes e) = let q = l.later z in let u = l.past_is in let k = g.inside n.least (g.some_failed (omega arith)) in (omega arith, omega arith)
             later c i (no d) = let q = l.later z in let u = l.past_is in let k = g.inside c (only c i d) in (omega arith, omega arith)
 
--- what is said of it
-abbrev pub Retested : (t firsts : List ℕ) (sizes : Sizes) (kept failed : List ℕ) (n : Course) (b : ℕ) (w w' failed' : List ℕ) (a : Course) (reasons reasons' sets : List ℕ) → (List ℕ → List ℕ) → (List ℕ → List ℕ) → Type 0
-Retested t firsts sizes kept failed n b w w' failed' a reasons reasons' sets answers users =
-    Retests t sets firsts sizes kept (answers w) (users w) failed n b (answers w') (users w') failed' a × ExplainsRetest t sets firsts sizes kept (answers w) (users w) failed n b failed' a reasons reasons'
-
 -- the same by the places and the sets as they stood before
-pub retests_from : (r₀ r w w' t firsts : List ℕ) (sizes : Sizes) (kept failed : List ℕ) (n : Course) (b : ℕ) (failed' : List ℕ) (a : Course) (reasons reasons' : List ℕ) → Same r₀ r
-    → Retested t firsts sizes kept failed n b w w' failed' a reasons reasons' (drop test_cells r) (answers_of r) (users_of r) → Retested t firsts sizes kept failed n b w w' failed' a reasons reasons' (drop test_cells r₀) (answers_of r₀) (users_of r₀)
-retests_from r₀ r w w' t firsts sizes kept failed n b failed' a reasons reasons' s = moved_sets r₀ r s (Retested t firsts sizes kept failed n b w w' failed' a reasons reasons')
+pub retests_from : (r₀ r w w' t firsts : List ℕ) (sizes : Sizes) (kept failed : List ℕ) (n : Course) (b : ℕ) (failed' : List ℕ) (a : Course) → Same r₀ r → Retests t (drop test_cells r) firsts sizes kept (answers_of r w) (users_of r w) failed n b (answers_of r w') (users_of r w') failed' a
+    → Retests t (drop test_cells r₀) firsts sizes kept (answers_of r₀ w) (users_of r₀ w) failed n b (answers_of r₀ w') (users_of r₀ w') failed' a
+retests_from r₀ r w w' t firsts sizes kept failed n b failed' a s x = moved_sets r₀ r s (λ sets answers users. Retests t sets firsts sizes kept (answers w) (users w) failed n b (answers w') (users w') failed' a) x

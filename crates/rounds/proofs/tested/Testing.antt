@@ -1,28 +1,25 @@
 -- The test of a binding is the check of its nonterminal's body against the final state of its type, with the numbers of the test in front
--- of what is read and nothing remembered under the number of the test. After a no, what a search finds is the reason by the definitions.
+-- of what is read and nothing remembered under the number of the test.
 use Prim.Native.Nat.{ℕ, ◌+◌, ◌*◌, ◌/◌, ◌%◌, ◌<◌, ◌≤◌}
 use native.Mathlib.Omega.{arith}
 use native.Mathlib.Nat.{mul-le-mul}
 use mathlib.Core.Path.{◌≡◌, refl, sym, ap, subst, ◌∙◌}
-use mathlib.Core.Bool.{Bool, true, false, true≢false, false≢true}
+use mathlib.Core.Bool.{Bool, true, false, false≢true}
 use mathlib.Core.List.{List, [], ◌∷◌, append-nil}
-use mathlib.Core.Option.{some}
 use lib.ListN.{length, get_or, drop}
 use Rattle.scheme.specs.Terms.{nt, node, []ᵗ}
 use Rattle.scheme.specs.Prefix.{flat}
 use Rattle.scheme.specs.Reduction.{body}
 use Rattle.scheme.specs.Types.{Ty, final}
 use Rattle.scheme.specs.Typing.{holds}
-use Rattle.scheme.specs.Reasons.{reason_for}
-use Rattle.scheme.specs.Acceptance.{binding_holds, binding_reason}
+use Rattle.scheme.specs.Acceptance.{holds_exactly}
 use Rattle.scheme.specs.Flags.{is_kept}
 use Rattle.scheme.proofs.Lists.{get_d_map_in}
 use Rattle.casefile.specs.Records.{Record}
 use Rattle.casefile.specs.Kinds.{Kind, payloads, count}
-use Rattle.casefile.specs.Tables.{nodes_of, body_of, plan_of, types_of}
-use Rattle.casefile.specs.Explanations.{explanation, four_numbers}
+use Rattle.casefile.specs.Tables.{nodes_of, body_of, plan_of}
 use Rattle.casefile.proofs.TypeTable.{count_payloads}
-use Rattle.index.specs.layout.Layout.{max_bindings, row_limit, place_limit, node_cells, word_bits, test_own, test_base, test_binding, test_stamp, test_words, test_bindings, test_answers, test_cells}
+use Rattle.index.specs.layout.Layout.{test_own, test_base, test_binding, test_stamp, test_words, test_bindings, test_answers, test_cells}
 use Rattle.rules.specs.reading.RuleBodies.{rule_of, first_node}
 use Rattle.marks.specs.briefs.Briefs.{Marked}
 use Rattle.answers.specs.Answers.{Under}
@@ -31,16 +28,12 @@ use Rattle.tables.specs.reading.Cells.{end_of, own_of, symbol_of}
 use Rattle.tables.specs.Facts.{Goal, of_state_law, of_arrow, TypesAre, CandidatesAre, NodesAre, At, binding_at}
 use Rattle.tables.specs.Filling.{nodes_from, words_for}
 use Rattle.term_check.specs.notes.Notes.{own_in_spec, base_in, owner_in, stamp_in, wide_in, words_in, total_in, column_of, brief_of, Noted}
-use Rattle.term_check.specs.Worlds.{Case, case_of, World, Setting, Includes, Right, Ready, Keeps, Tells, ChecksTerm, Has, answers_of, users_of}
+use Rattle.term_check.specs.Worlds.{Case, case_of, World, Setting, Includes, Right, Ready, ChecksTerm, Has, answers_of, users_of}
 use Rattle.term_check.specs.Worlds as Worlds
-use Rattle.term_check.proofs.check.Keeping.{ready_on, keeps_on}
-use Rattle.reasons.specs.Searching.{reason_at, Lacks}
 use Rattle.rounds.specs.Resting.{total, Holds, Frame, Room}
-use Rattle.rounds.specs.Explaining.{Stand, HasCells, Explains}
-use Rattle.rounds.specs.tested.Tested.{Writes, TestsBinding, ExplainsTest}
+use Rattle.rounds.specs.tested.Tested.{Writes, TestsBinding}
 use Rattle.rounds.specs.declared.tested.Sizes.{Sizes}
 use Rattle.rounds.proofs.tested.Placing.{no_users, moved_sets, writes_same}
-use Rattle.rounds.proofs.tested.Entries.{writes_none}
 
 -- the final state of a type, as a goal
 pub end_goal : {rs : List Record} {t : List ℕ} → TypesAre rs t → (g : ℕ) (τ : Ty) → Goal rs g τ → Goal rs (end_of t g) (final τ)
@@ -79,7 +72,7 @@ module _ (t firsts : List ℕ) (sizes : Sizes) (before test memo users : List �
   all_in : total_in test ≡ all
   all_in = written.written test_bindings (omega arith)
 
-  module _ (own_is : own ≡ own_of t b) (first_is : first ≡ get_or firsts (symbol_of t b) 0) (base-is : base ≡ sizes.nodes % place_limit + first * node_cells) (number_is : number ≡ b % max_bindings) (words-is : words ≡ (sizes.bindings % row_limit + 31) / word_bits) (all-is : all ≡ sizes.bindings % row_limit) (goal_is : goal ≡ end_of t own) where
+  module _ (own_is : own ≡ own_of t b) (first_is : first ≡ get_or firsts (symbol_of t b) 0) (base-is : base ≡ sizes.nodes % 131072 + first * 3) (number_is : number ≡ b % 1024) (words-is : words ≡ (sizes.bindings % 2048 + 31) / 32) (all-is : all ≡ sizes.bindings % 2048) (goal_is : goal ≡ end_of t own) where
     module _ (rs : List Record) (kept : List ℕ) (frame : Frame rs t firsts sizes) (are : CandidatesAre rs kept sets (words_for rs)) (room : Room rs users) (under : Under memo stamp) (inside : b < total rs) where
       abbrev f : ℕ
       f = (binding_at rs b).nonterminal
@@ -114,10 +107,10 @@ module _ (t firsts : List ℕ) (sizes : Sizes) (before test memo users : List �
           omega arith
 
       column_for : (c : ℕ) → c < total rs → column_of test c ≡ c * words_for rs
-      column_for c h = let few = frame.few_bindings in let i : c % max_bindings ≡ c = omega arith in ap (λ k. k * words_in test) i ∙ ap (λ k. c * k) words_for_law
+      column_for c h = let few = frame.few_bindings in let i : c % 1024 ≡ c = omega arith in ap (λ k. k * words_in test) i ∙ ap (λ k. c * k) words_for_law
 
       brief_for : (c : ℕ) → c < total rs → brief_of test c ≡ total rs * words_for rs + c
-      brief_for c h = let few = frame.few_bindings in let i : c % max_bindings ≡ c = omega arith in ap (λ k. total_in test * words_in test + k) i ∙ ap (λ k. k * words_in test + c) all_for ∙ ap (λ k. total rs * k + c) words_for_law
+      brief_for c h = let few = frame.few_bindings in let i : c % 1024 ≡ c = omega arith in ap (λ k. total_in test * words_in test + k) i ∙ ap (λ k. k * words_in test + c) all_for ∙ ap (λ k. total rs * k + c) words_for_law
 
       is_own : Goal rs own τ
       is_own = subst (λ k. Goal rs k τ) (sym own_is) (frame.table.bindings.own b inside)
@@ -145,7 +138,7 @@ module _ (t firsts : List ℕ) (sizes : Sizes) (before test memo users : List �
                 let n = number_for in
                 let m : (c + 1) * words_for rs ≤ total rs * words_for rs = mul-le-mul {n₁ = c + 1} {m₁ = words_for rs} {n₂ = total rs} {m₂ = words_for rs} (omega arith) (omega arith) in
                 let e : (c + 1) * words_for rs ≡ c * words_for rs + words_for rs = omega arith in
-                let k : owner_in test / word_bits < words_for rs = omega arith in
+                let k : owner_in test / 32 < words_for rs = omega arith in
                 omega arith;
             briefs = λ c h. let i = brief_for c h in omega arith;
           }
@@ -169,11 +162,11 @@ module _ (t firsts : List ℕ) (sizes : Sizes) (before test memo users : List �
 
       -- what it is to hold
       pub to_holds : (flags : List ℕ) → Has w flags (body_of (rule_of rs f)) (final τ) → Holds rs flags b
-      unfolding binding_holds holds
+      unfolding holds_exactly holds
       to_holds flags h = subst (λ u. Has w flags u (final τ)) (sym (body_there rs f ruled)) h
 
       pub from_holds : (flags : List ℕ) → Holds rs flags b → Has w flags (body_of (rule_of rs f)) (final τ)
-      unfolding binding_holds holds
+      unfolding holds_exactly holds
       from_holds flags h = subst (λ u. Has w flags u (final τ)) (body_there rs f ruled) h
 
       -- flags that have what is noted for the binding
@@ -195,73 +188,21 @@ module _ (t firsts : List ℕ) (sizes : Sizes) (before test memo users : List �
               told.no y (w rs kept frame are room u h) (ready rs kept frame are room u h) (body_of (rule_of rs (binding_at rs b).nonterminal)) (at_first rs kept frame are room u h) (final (binding_at rs b).type) (is_goal rs kept frame are room u h) (from_holds rs kept frame are room u h kept k);
         }
 
-    -- why it does not hold, where the check said so and the reason is written
-    pub tests_explained : (memo₁ users₁ memo' users' : List ℕ) → ChecksTerm x memo users 0 goal memo₁ users₁ false → (round : ℕ) (reasons reasons' : List ℕ) → Explains x memo₁ users₁ round b goal reasons memo' users' reasons'
-        → ExplainsTest t sets firsts sizes memo users stamp b round reasons reasons' false
-    unfolding binding_reason reason_for
-    tests_explained memo₁ users₁ memo' users' told round reasons reasons' why =
-        record {
-          one = why.one;
-          held = λ y. absurd (false≢true y);
-          entry = λ y rs kept frame are room u h cells small.
-              let f = (binding_at rs b).nonterminal in
-              let τ = (binding_at rs b).type in
-              let world = w rs kept frame are room u h in
-              let ready₀ = ready rs kept frame are room u h in
-              let here = at_first rs kept frame are room u h in
-              let wanted = is_goal rs kept frame are room u h in
-              let number : b % max_bindings ≡ b = let few = frame.few_bindings in omega arith in
-              let lacks : Lacks world 0 goal (body_of (rule_of rs f)) (final τ) = record { here = here; goal = wanted; lacked = told.no refl world ready₀ (body_of (rule_of rs f)) here (final τ) wanted } in
-              subst (λ v. Stand reasons' b (four_numbers (some (explanation (types_of rs) round (reason_at world 0 v (final τ)))))) (sym (body_there rs f (ruled rs kept frame are room u h)))
-              (subst (λ c. Stand reasons' c (four_numbers (some (explanation (types_of rs) round (reason_at world 0 (body_of (rule_of rs f)) (final τ)))))) number
-              (why.entry world (ready_on told.keeps ready₀) (body_of (rule_of rs f)) (final τ) lacks (subst (HasCells reasons) (sym number) cells) small));
-        }
-
--- a no stays a no when more is remembered
-told_on : {x : Case} {memo users memo₁ users₁ memo' users' : List ℕ} {Y Y' N : World → Type 0} → Tells x memo users memo₁ users₁ Y N false → Keeps x memo₁ users₁ memo' users' → Tells x memo users memo' users' Y' N false
-told_on told k = record { keeps = keeps_on told.keeps k; yes = λ y. absurd (false≢true y); no = told.no }
-
 -- the same of the parts as they were before the numbers were written
-module _ (t firsts : List ℕ) (sizes : Sizes) (before test now : List ℕ) (stamp b own first base number words wide all goal : ℕ) (written : Writes (own ∷ base ∷ number ∷ stamp ∷ wide ∷ words ∷ all ∷ []) before test)
-    (e₁ : own ≡ own_of t b) (e₂ : first ≡ get_or firsts (symbol_of t b) 0) (e₃ : base ≡ sizes.nodes % place_limit + first * node_cells) (e₄ : number ≡ b % max_bindings) (e₅ : words ≡ (sizes.bindings % row_limit + 31) / word_bits) (e₆ : all ≡ sizes.bindings % row_limit) (e₇ : goal ≡ end_of t own) (round : ℕ) (reasons : List ℕ) where
-  -- what is said of the test, by its answer
-  abbrev Tested : List ℕ → List ℕ → Bool → List ℕ → (List ℕ → List ℕ) → (List ℕ → List ℕ) → Type 0
-  Tested later reasons' r sets answers users =
-      TestsBinding t sets firsts sizes (answers now) (users now) stamp b (answers later) (users later) r × ExplainsTest t sets firsts sizes (answers now) (users now) stamp b round reasons reasons' r
-
-  abbrev Checked : List ℕ → Bool → Type 0
-  Checked later r = ChecksTerm (case_of t test) (answers_of test now) (users_of test now) 0 goal (answers_of test later) (users_of test later) r
-
-  tested : (later : List ℕ) (r : Bool) → Checked later r → TestsBinding t (drop test_cells test) firsts sizes (answers_of test now) (users_of test now) stamp b (answers_of test later) (users_of test later) r
-  tested later = tests t firsts sizes before test (answers_of test now) (users_of test now) stamp b own first base number words wide all goal written e₁ e₂ e₃ e₄ e₅ e₆ e₇ (answers_of test later) (users_of test later)
-
-  pub tested_yes : (later : List ℕ) (r : Bool) → r ≡ true → Checked later r → Tested later reasons true (drop test_cells before) (answers_of before) (users_of before)
-  tested_yes later r y told =
-      moved_sets before test (writes_same _ before test written) (Tested later reasons true)
-      (tested later true (subst (Checked later) y told), record { one = writes_none b reasons; held = λ z. refl; entry = λ z. absurd (true≢false z) })
-
-  pub tested_no : (mid later : List ℕ) (r : Bool) → r ≡ false → Checked mid r → (reasons' : List ℕ) → Explains (case_of t test) (answers_of test mid) (users_of test mid) round b goal reasons (answers_of test later) (users_of test later) reasons'
-      → Tested later reasons' false (drop test_cells before) (answers_of before) (users_of before)
-  tested_no mid later r y told reasons' why =
-      let no_answer = subst (Checked mid) y told in
-      moved_sets before test (writes_same _ before test written) (Tested later reasons' false) (
-        tested later false (told_on no_answer why.keeps),
-        tests_explained t firsts sizes before test (answers_of test now) (users_of test now) stamp b own first base number words wide all goal written e₁ e₂ e₃ e₄ e₅ e₆ e₇ (answers_of test mid) (users_of test mid) (answers_of test later) (users_of test later) no_answer round reasons reasons' why,
-      )
+pub tests_before : (t firsts : List ℕ) (sizes : Sizes) (before test now : List ℕ) (stamp b : ℕ) (own first base number words wide all goal : ℕ) → Writes (own ∷ base ∷ number ∷ stamp ∷ wide ∷ words ∷ all ∷ []) before test
+    → own ≡ own_of t b → first ≡ get_or firsts (symbol_of t b) 0 → base ≡ sizes.nodes % 131072 + first * 3 → number ≡ b % 1024 → words ≡ (sizes.bindings % 2048 + 31) / 32 → all ≡ sizes.bindings % 2048 → goal ≡ end_of t own
+    → (later : List ℕ) (r : Bool) → ChecksTerm (case_of t test) (answers_of test now) (users_of test now) 0 goal (answers_of test later) (users_of test later) r
+    → TestsBinding t (drop test_cells before) firsts sizes (answers_of before now) (users_of before now) stamp b (answers_of before later) (users_of before later) r
+tests_before t firsts sizes before test now stamp b own first base number words wide all goal written e₁ e₂ e₃ e₄ e₅ e₆ e₇ later r told =
+    moved_sets before test (writes_same _ before test written) (λ sets answers users. TestsBinding t sets firsts sizes (answers now) (users now) stamp b (answers later) (users later) r)
+    (tests t firsts sizes before test (answers_of test now) (users_of test now) stamp b own first base number words wide all goal written e₁ e₂ e₃ e₄ e₅ e₆ e₇ (answers_of test later) (users_of test later) r told)
 
 -- no room for the numbers of a test
-module _ (t firsts : List ℕ) (sizes : Sizes) (r w : List ℕ) (stamp b : ℕ) (h : length r ≤ test_answers) where
-  no_room : (rs : List Record) → Room rs (users_of r w) → b < total rs → ⊥
-  no_room rs room l = let z = no_users r w h in let m = mul-le-mul {n₁ = 1} {m₁ = 1} {n₂ = total rs} {m₂ = words_for rs} (omega arith) (omega arith) in omega arith
-
-  pub tests_not : TestsBinding t (drop test_cells r) firsts sizes (answers_of r w) (users_of r w) stamp b (answers_of r w) (users_of r w) false
-  tests_not =
-      record {
-        grows = λ i k l e. e;
-        under = λ u i. let k = u i in omega arith;
-        yes = λ y. absurd (false≢true y);
-        no = λ y rs kept frame are room u l k. no_room rs room l;
-      }
-
-  pub explains_none : (round : ℕ) (reasons : List ℕ) → ExplainsTest t (drop test_cells r) firsts sizes (answers_of r w) (users_of r w) stamp b round reasons reasons false
-  explains_none round reasons = record { one = writes_none b reasons; held = λ y. refl; entry = λ y rs kept frame are room u l. absurd (no_room rs room l) }
+pub tests_not : (t firsts : List ℕ) (sizes : Sizes) (r w : List ℕ) (stamp b : ℕ) → length r ≤ test_answers → TestsBinding t (drop test_cells r) firsts sizes (answers_of r w) (users_of r w) stamp b (answers_of r w) (users_of r w) false
+tests_not t firsts sizes r w stamp b h =
+    record {
+      grows = λ i k l e. e;
+      under = λ u i. let k = u i in omega arith;
+      yes = λ y. absurd (false≢true y);
+      no = λ y rs kept frame are room u l k. let z = no_users r w h in let m = mul-le-mul {n₁ = 1} {m₁ = 1} {n₂ = total rs} {m₂ = words_for rs} (omega arith) (omega arith) in omega arith;
+    }

@@ -1,23 +1,20 @@
 -- What our own crates promise each other; nothing here has to be believed.
 -- Shrinking by rounds: each round tests the bindings whose notes the round before hit, and drops those that fail.
-use Rattle.std.specs.Prelude.{ℕ, ◌+◌, ◌*◌, ◌/◌, ◌%◌, ◌<◌, ◌≤◌, ◌≡◌, true, false, List, ◌++◌, length, get_or, take, drop, replicate}
+use Rattle.std.specs.Prelude.{ℕ, ◌+◌, ◌%◌, ◌<◌, ◌≤◌, ◌≡◌, true, List, ◌++◌, length, get_or, take, drop, replicate}
 use Rattle.scheme.specs.Typing.{Binding}
 use Rattle.scheme.specs.Rounds
-use Rattle.scheme.specs.Flags.{is_kept, chosen, round_flags, kept_flags}
+use Rattle.scheme.specs.Flags.{is_kept, chosen, kept_flags}
 use Rattle.casefile.specs.Records.{Record}
-use Rattle.casefile.specs.Tables.{plan_of, automaton_of, types_of, bindings_of}
-use Rattle.casefile.specs.Explanations.{explained_numbers}
-use Rattle.index.specs.layout.Layout.{max_binding_words, row_limit, reason_cells, entry_limit}
+use Rattle.casefile.specs.Tables.{bindings_of}
+use Rattle.index.specs.layout.Layout.{max_binding_words, row_limit}
 use Rattle.marks.specs.Marks.{In}
 use Rattle.answers.specs.Answers.{Under}
 use Rattle.tables.specs.Facts.{CandidatesAre}
 use Rattle.tables.specs.Filling.{words_for}
 use Rattle.rounds.specs.Resting.{total, test_of, Holds, Frame, Rests, Room}
-use Rattle.rounds.specs.Explaining.{Entry, Falls}
 use Rattle.rounds.specs.tested.Tested.{Ranged, Todo}
 use Rattle.rounds.specs.declared.tested.Sizes.{Sizes}
 use Rattle.rounds.specs.declared.tested.Course.{Course}
-use Rattle.rounds.specs.declared.shrinking.Next.{Next}
 
 -- the bindings that are kept and not marked rest on what is noted for them
 abbrev pub Settled : List Record → List ℕ → List ℕ → (ℕ → Type 0) → Type 0
@@ -43,12 +40,6 @@ pub record Turns (t sets firsts : List ℕ) (sizes : Sizes) (kept todo memo user
   pub failures : (rs : List Record) → Turnable t sets firsts sizes kept todo memo users failed last rs → (b : ℕ) → b < total rs → In failed' 0 b → (is_kept (get_or kept b 0) ≡ true) × (Holds rs kept b → ⊥)
   pub settled : (rs : List Record) → Turnable t sets firsts sizes kept todo memo users failed last rs → Settled rs kept users' (In failed' 0)
 
--- why those that failed did is written, where there is room for all bindings; nothing else changed
-pub record ExplainsTurn (t sets firsts : List ℕ) (sizes : Sizes) (kept todo memo users failed : List ℕ) (last round : ℕ) (failed' reasons reasons' : List ℕ) : Type 0 where
-  pub long : length reasons' ≡ length reasons
-  pub others : (rs : List Record) → Turnable t sets firsts sizes kept todo memo users failed last rs → (i : ℕ) → (In failed' 0 (i / reason_cells) → ⊥) → get_or reasons' i 0 ≡ get_or reasons i 0
-  pub entries : (rs : List Record) → Turnable t sets firsts sizes kept todo memo users failed last rs → reason_cells * total rs ≤ length reasons → round < entry_limit → (b : ℕ) → b < total rs → In failed' 0 b → Entry rs kept round b reasons'
-
 -- the first n flags say kept
 pub record KeepsAll (n : ℕ) (flags flags' : List ℕ) : Type 0 where
   pub long : length flags' ≡ length flags
@@ -59,42 +50,9 @@ pub record KeepsAll (n : ℕ) (flags flags' : List ℕ) : Type 0 where
 pub record Counts (flags : List ℕ) (n r : ℕ) : Type 0 where
   pub counted : (bs : List Binding) → length bs ≡ n → n ≤ length flags → r ≡ length (chosen flags bs)
 
--- what a round asks of a file
-pub record Rounding (t sets firsts : List ℕ) (sizes : Sizes) (memo users flags todo : List ℕ) (last : ℕ) (rs : List Record) : Type 0 where
-  pub frame : Frame rs t firsts sizes
-  pub candidates : CandidatesAre rs flags sets (words_for rs)
-  pub room : Room rs users
-  pub under : Under memo (last + 1)
-  pub settled : Settled rs flags users (Todo todo)
-  pub long : total rs ≤ length flags
-  pub small : (b : ℕ) → b < total rs → get_or flags b 0 ≤ 1
-
--- what a round leaves: the flags are those of the definition, and it can be asked for the next one; it is the last one where it dropped
--- nothing
-pub record NextRound (t sets firsts : List ℕ) (sizes : Sizes) (memo users flags todo : List ℕ) (last : ℕ) (sets' memo' users' flags' todo' : List ℕ) (n : Next) : Type 0 where
-  pub long : length flags' ≡ length flags
-  pub under : Under memo (last + 1) → Under memo' (n.last + 1)
-  pub over : n.over ≡ true → flags' ≡ flags
-  pub fewer : n.over ≡ false → (rs : List Record) → Rounding t sets firsts sizes memo users flags todo last rs → length (chosen flags' (bindings_of rs)) < length (chosen flags (bindings_of rs))
-  pub flags_are : (rs : List Record) → Rounding t sets firsts sizes memo users flags todo last rs → take (length (bindings_of rs)) flags' ≡ round_flags (test_of rs) (bindings_of rs) flags
-  pub stays : (rs : List Record) → Rounding t sets firsts sizes memo users flags todo last rs → drop (total rs) flags' ≡ drop (total rs) flags
-  pub again : (rs : List Record) → Rounding t sets firsts sizes memo users flags todo last rs → Rounding t sets' firsts sizes memo' users' flags' todo' n.last rs
-
--- why the bindings that it dropped were is written, where there is room for all bindings; nothing else changed
-pub record ExplainsRound (t sets firsts : List ℕ) (sizes : Sizes) (memo users flags todo : List ℕ) (last round : ℕ) (flags' reasons reasons' : List ℕ) : Type 0 where
-  pub long : length reasons' ≡ length reasons
-  pub others : (rs : List Record) → Rounding t sets firsts sizes memo users flags todo last rs → (i : ℕ) → (Falls rs flags flags' (i / reason_cells) → ⊥) → get_or reasons' i 0 ≡ get_or reasons i 0
-  pub entries : (rs : List Record) → Rounding t sets firsts sizes memo users flags todo last rs → reason_cells * total rs ≤ length reasons → round < entry_limit → (b : ℕ) → Falls rs flags flags' b → Entry rs flags round b reasons'
-
--- the cells of the first n bindings are 0, where there is room for them all
-pub record ClearsReasons (n : ℕ) (reasons reasons' : List ℕ) : Type 0 where
-  pub long : length reasons' ≡ length reasons
-  pub zeros : n * reason_cells ≤ length reasons → (i : ℕ) → i < n * reason_cells → get_or reasons' i 0 ≡ 0
-  pub stays : (i : ℕ) → n * reason_cells ≤ i → get_or reasons' i 0 ≡ get_or reasons i 0
-
 -- what the rounds leave, where there is a flag for each binding: the flags, how many bindings are kept, and how many rounds dropped
--- something; "bytes past the count are untouched"; and why each binding was dropped, where there is room for all
-pub record ShrinksByRounds (t sets firsts : List ℕ) (sizes : Sizes) (memo users flags flags' reasons reasons' : List ℕ) (kept rounds : ℕ) : Type 0 where
+-- something; "bytes past the count are untouched"
+pub record ShrinksByRounds (t sets firsts : List ℕ) (sizes : Sizes) (memo users flags flags' : List ℕ) (kept rounds : ℕ) : Type 0 where
   pub long : length flags' ≡ length flags
   pub flags_are : (rs : List Record) → Frame rs t firsts sizes → CandidatesAre rs (replicate (total rs) 1) sets (words_for rs) → Room rs users → Under memo 1 → total rs ≤ length flags
       → flags' ≡ kept_flags (test_of rs) (bindings_of rs) ++ drop (total rs) flags
@@ -102,6 +60,3 @@ pub record ShrinksByRounds (t sets firsts : List ℕ) (sizes : Sizes) (memo user
       → kept ≡ length (Rounds.kept (test_of rs) (bindings_of rs))
   pub rounds_are : (rs : List Record) → Frame rs t firsts sizes → CandidatesAre rs (replicate (total rs) 1) sets (words_for rs) → Room rs users → Under memo 1 → total rs ≤ length flags
       → rounds ≡ Rounds.rounds (test_of rs) (bindings_of rs)
-  pub reasons_long : length reasons' ≡ length reasons
-  pub reasons_are : (rs : List Record) → Frame rs t firsts sizes → CandidatesAre rs (replicate (total rs) 1) sets (words_for rs) → Room rs users → Under memo 1 → total rs ≤ length flags → reason_cells * total rs ≤ length reasons
-      → reasons' ≡ explained_numbers (automaton_of rs) (plan_of rs) (types_of rs) (bindings_of rs) ++ drop (reason_cells * total rs) reasons

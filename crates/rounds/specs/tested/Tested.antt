@@ -3,14 +3,13 @@
 use Rattle.std.specs.Prelude.{ℕ, ◌+◌, ◌*◌, ◌%◌, ◌<◌, ◌≤◌, ◌≡◌, Bool, true, false, List, length, get_or, drop}
 use Rattle.scheme.specs.Flags.{is_kept}
 use Rattle.casefile.specs.Records.{Record}
-use Rattle.index.specs.layout.Layout.{row_limit, word_bits, max_binding_words, test_users, test_answers, test_cells, entry_limit}
+use Rattle.index.specs.layout.Layout.{row_limit, word_bits, max_binding_words, test_users, test_answers, test_cells}
 use Rattle.marks.specs.Marks.{bit_of, In}
 use Rattle.marks.specs.briefs.Briefs.{Marked}
 use Rattle.answers.specs.Answers.{Under}
 use Rattle.tables.specs.Facts.{CandidatesAre}
 use Rattle.tables.specs.Filling.{words_for}
 use Rattle.rounds.specs.Resting.{total, Holds, Frame, Rests, Room}
-use Rattle.rounds.specs.Explaining.{Entry, HasCells, WritesOne}
 use Rattle.rounds.specs.declared.tested.Sizes.{Sizes}
 use Rattle.rounds.specs.declared.tested.Course.{Course}
 
@@ -64,12 +63,6 @@ pub record TestsBinding (t sets firsts : List ℕ) (sizes : Sizes) (memo users :
   pub yes : r ≡ true → (rs : List Record) (kept : List ℕ) → Frame rs t firsts sizes → CandidatesAre rs kept sets (words_for rs) → Room rs users → Under memo stamp → b < total rs → Rests rs kept users' b
   pub no : r ≡ false → (rs : List Record) (kept : List ℕ) → Frame rs t firsts sizes → CandidatesAre rs kept sets (words_for rs) → Room rs users → Under memo stamp → b < total rs → Holds rs kept b → ⊥
 
--- why binding b does not hold is written, where it does not and there is room for it
-pub record ExplainsTest (t sets firsts : List ℕ) (sizes : Sizes) (memo users : List ℕ) (stamp b round : ℕ) (reasons reasons' : List ℕ) (r : Bool) : Type 0 where
-  pub one : WritesOne b reasons reasons'
-  pub held : r ≡ true → reasons' ≡ reasons
-  pub entry : r ≡ false → (rs : List Record) (kept : List ℕ) → Frame rs t firsts sizes → CandidatesAre rs kept sets (words_for rs) → Room rs users → Under memo stamp → b < total rs → HasCells reasons b → round < entry_limit → Entry rs kept round b reasons'
-
 -- those that failed are from the least on and before the past, and the least is one of them
 pub record Ranged (failed : List ℕ) (n : Course) : Type 0 where
   pub inside : (c : ℕ) → In failed 0 c → (n.least ≤ c) × (c < n.past)
@@ -85,11 +78,3 @@ pub record Retests (t sets firsts : List ℕ) (sizes : Sizes) (kept memo users f
   pub ranged : n.past ≤ b → b < max_binding_words * word_bits → max_binding_words ≤ length failed → Ranged failed n → Ranged failed' r
   pub answer : (rs : List Record) → Frame rs t firsts sizes → CandidatesAre rs kept sets (words_for rs) → Room rs users → Under memo (n.last + 1) → max_binding_words ≤ length failed → b < total rs
       → (is_kept (get_or kept b 0) ≡ true → (In failed' 0 b → ⊥) → Rests rs kept users' b) × (In failed' 0 b → (In failed 0 b → ⊥) → (is_kept (get_or kept b 0) ≡ true) × (Holds rs kept b → ⊥))
-
--- why it failed is written, where there is room for it
-pub record ExplainsRetest (t sets firsts : List ℕ) (sizes : Sizes) (kept memo users failed : List ℕ) (n : Course) (b : ℕ) (failed' : List ℕ) (r : Course) (reasons reasons' : List ℕ) : Type 0 where
-  pub same_round : r.round ≡ n.round
-  pub one : WritesOne b reasons reasons'
-  pub held : b < max_binding_words * word_bits → max_binding_words ≤ length failed → (In failed' 0 b → ⊥) → reasons' ≡ reasons
-  pub entry : (rs : List Record) → Frame rs t firsts sizes → CandidatesAre rs kept sets (words_for rs) → Room rs users → Under memo (n.last + 1) → b < total rs → In failed' 0 b → (In failed 0 b → ⊥) → HasCells reasons b → n.round < entry_limit
-      → Entry rs kept n.round b reasons'

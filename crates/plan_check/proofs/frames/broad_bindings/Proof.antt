@@ -24,15 +24,12 @@ judge-bindings-requires c κs = search rules
 same_length : tie.Need-same-length
 same_length c = search rules
 
-same-length-2 : tie.Need-same-length-2
-same-length-2 c = search rules
-
 returns : tie.Need-returns
 returns c =
-    let a = c.before.before.before.before.before.before.before.before.before.before.before.before.before.before.before.before.before.before.before.before.args in
+    let a = c.before.before.before.before.before.before.before.before.before.before.before.before.before.before.before.before.args in
     let i : ◌≡◌ {A = ℕ} index_size (length a.index.now) = search rules in
     let f : ◌≡◌ {A = ℕ} rows_size (length a.firsts.now) = search rules in
-    frame_judges (omega arith) (zeros (read_of broad_types broad_bindings_spec)) (zeros (write_of few_hint_cells broad_bindings_spec broad_nodes broad_types)) c.before.before.before.before.before.before.before.judge-bindings.ensures
+    frame_judges (omega arith) (zeros (read_of broad_types broad_bindings_spec)) (zeros (write_of few_hint_cells broad_bindings_spec broad_nodes broad_types)) c.before.before.before.before.before.judge-bindings.ensures
 
 pub broad-bindings-spec : {M : Type 1} → statement M
 broad-bindings-spec =
@@ -43,5 +40,4 @@ broad-bindings-spec =
     slice-aggregate-judge-bindings-3
     judge-bindings-requires
     same_length
-    same-length-2
     returns)
