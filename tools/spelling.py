@@ -7,6 +7,8 @@ usage: python3 tools/spelling.py            at the top of the repository, once, 
 A name counts where a file of specs/, or of proofs/ outside a function's own proof, declares it. It is changed in those files, in the
 proofs of functions, in the clauses of the sources, in the must-fail edits and between backticks in the pages. A file in which the
 name comes from elsewhere keeps it there. Functions of src/, exported names, strings, inputs and outputs are not touched.
+
+Our own choice by a test, `if◌then◌else◌`, is `choose◌then◌else◌`: the gate keeps the first name for that of the library.
 """
 
 import os
@@ -178,11 +180,16 @@ def main(argv):
     def turn(text, kept, code):
         def one(found):
             token = found.group(0)
+            if token == "if" and code == "antt":
+                return "choose"
+            if token == "if◌then◌else◌":
+                return "choose◌then◌else◌"
             if token in kept:
                 return token
             return changes.get(token, token)
 
         if code == "rt":
+            text = text.replace("if◌then◌else◌", "choose◌then◌else◌")
             return re.sub(r"[A-Za-z_][A-Za-z0-9_']*(?:-[a-z][A-Za-z0-9_']*)*", one, text)
         return TOKEN.sub(one, text)
 
@@ -205,7 +212,7 @@ def main(argv):
         if path.endswith(".antt"):
             new = lines(text, imported(text))
         elif path.endswith(".md"):
-            new = re.sub(r"`[^`\n]*`", lambda m: turn(m.group(0), set(), "antt"), text)
+            new = re.sub(r"`[^`\n]*`", lambda m: turn(m.group(0), set(), "page"), text)
         elif path.endswith(".edit") and ".antt" in text.split("\n")[0]:
             new = turn(text, set(), "antt")
         else:

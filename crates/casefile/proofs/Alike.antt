@@ -7,7 +7,7 @@ use mathlib.Core.List.{List, [], ◌∷◌, ◌++◌, map, map-map, map-append}
 use mathlib.Core.Option.{Option, none, some}
 use borrow.Author.Tests.{ltb-false, le-ltb}
 use lib.ListN.{length}
-use Rattle.scheme.specs.Lists.{if◌then◌else◌, last_or}
+use Rattle.scheme.specs.Lists.{choose◌then◌else◌, last_or}
 use Rattle.scheme.specs.Sorts.{Sort}
 use Rattle.scheme.specs.Typing.{Binding}
 use Rattle.casefile.specs.Records.{Record, Walk, end, cut, next, records_of, listed}
@@ -201,7 +201,7 @@ fine_case : (s : List ℕ) (flags : ℕ) → Fine (case_of s flags) → (too_lon
 unfolding case_of
 fine_case s flags h = go (too_long s) h
   where
-    go : (b : Bool) → Fine (if b then refused_case (record { number = 1; place = 0 }) else case_from flags (records_of s) []) → (b ≡ false) × Fine (case_from flags (records_of s) [])
+    go : (b : Bool) → Fine (choose b then refused_case (record { number = 1; place = 0 }) else case_from flags (records_of s) []) → (b ≡ false) × Fine (case_from flags (records_of s) [])
     go true x = absurd (x _ refl)
     go false x = (refl, x)
 

@@ -11,7 +11,7 @@ use mathlib.Core.Option.{Option, none, some}
 use borrow.Author.Tests.{ne_eqb}
 use lib.ListN.{length, get_or, length-append, get_or-append}
 use lib.Seq.{get_or-append-add}
-use Rattle.scheme.specs.Lists.{if◌then◌else◌}
+use Rattle.scheme.specs.Lists.{choose◌then◌else◌}
 use Rattle.scheme.specs.Reduction.{Plan}
 use Rattle.scheme.specs.Types.{Ty, state, same}
 use Rattle.scheme.specs.Typing.{Automaton, Binding}
@@ -90,7 +90,7 @@ number_first [] m h ne = absurd (not-suc-le-zero h)
 number_first (σ ∷ σs) zero h ne = rw (T→true (same σ σ) (same_refl σ)) refl
 number_first (σ ∷ σs) (suc m) h ne = go (same (get_or σs m (state 0)) σ) refl (number_first σs m (le_of_suc-le-suc h) (λ j l. ne (suc j) (omega arith)))
   where
-    go : (v : Bool) → same (get_or σs m (state 0)) σ ≡ v → number_of (get_or σs m (state 0)) σs ≡ m → (if v then 0 else suc (number_of (get_or σs m (state 0)) σs)) ≡ suc m
+    go : (v : Bool) → same (get_or σs m (state 0)) σ ≡ v → number_of (get_or σs m (state 0)) σs ≡ m → (choose v then 0 else suc (number_of (get_or σs m (state 0)) σs)) ≡ suc m
     go true e ih = absurd (ne 0 (omega arith) (sym (same→≡ (get_or σs m (state 0)) σ (true→T e))))
     go false e ih = ap suc ih
 
@@ -103,7 +103,7 @@ number_listed {τ = τ} {types = σ ∷ σs} k = go (same τ σ) refl (Memᴰ.ca
     Stands : ℕ → Type 0
     Stands m = (m < length (σ ∷ σs)) × (get_or (σ ∷ σs) m (state 0) ≡ τ)
 
-    go : (v : Bool) → same τ σ ≡ v → (τ ≡ σ) ⊎ Memᴰ τ σs → (Memᴰ τ σs → (number_of τ σs < length σs) × (get_or σs (number_of τ σs) (state 0) ≡ τ)) → Stands (if v then 0 else suc (number_of τ σs))
+    go : (v : Bool) → same τ σ ≡ v → (τ ≡ σ) ⊎ Memᴰ τ σs → (Memᴰ τ σs → (number_of τ σs < length σs) × (get_or σs (number_of τ σs) (state 0) ≡ τ)) → Stands (choose v then 0 else suc (number_of τ σs))
     go true e c ih = (omega arith, sym (same→≡ τ σ (true→T e)))
     go false e (inl s) ih = absurd (false_T e (≡→same τ σ s))
     go false e (inr j) ih = let (l, s) = ih j in (omega arith, s)

@@ -9,7 +9,7 @@ use mathlib.Core.List.Memᴰ
 use mathlib.Core.List.{List, [], ◌∷◌, ◌++◌, map, Memᴰ}
 use lib.Dec.{eqb}
 use lib.ListN.{length, get_or}
-use Rattle.scheme.specs.Lists.{if◌then◌else◌, Subset}
+use Rattle.scheme.specs.Lists.{choose◌then◌else◌, Subset}
 use Rattle.scheme.specs.Reduction.{Plan}
 use Rattle.scheme.specs.Types.{Ty, state, arrow, Tys, members}
 use Rattle.scheme.specs.Typing.{Automaton, Binding}
@@ -51,7 +51,7 @@ made_parts : (types : List Ty) (p : List ℕ) (a : Tys) (r : Ty) → arrow a r �
 unfolding type_from arrow_from
 made_parts types p a r e = go (eqb (length p) 1) (words p) e
   where
-    go : (v : Bool) (ns : List ℕ) → arrow a r ≡ (if v then state (byte p 0) else arrow_from types ns) → Parts types a r
+    go : (v : Bool) (ns : List ℕ) → arrow a r ≡ (choose v then state (byte p 0) else arrow_from types ns) → Parts types a r
     go true ns f = absurd (let z : ◌≡◌ {A = ℕ} 0 1 = cc in omega arith)
     go false [] f = absurd (let z : ◌≡◌ {A = ℕ} 0 1 = cc in omega arith)
     go false (x ∷ ms) f =

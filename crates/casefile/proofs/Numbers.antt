@@ -7,7 +7,7 @@ use mathlib.Core.List.{List, [], ◌∷◌, ◌++◌}
 use mathlib.Core.Option.{Option, none, some}
 use lib.Dec.{eqb, ltb}
 use lib.ListN.{length}
-use Rattle.scheme.specs.Lists.{if◌then◌else◌}
+use Rattle.scheme.specs.Lists.{choose◌then◌else◌}
 use Rattle.scheme.specs.Sorts.{Sort}
 use Rattle.scheme.specs.Reduction.{Plan, start}
 use Rattle.scheme.specs.Typing.{Automaton, Binding}
@@ -47,7 +47,7 @@ unfolding first Numbered NumberedTests
 first_numbered [] w = tt
 first_numbered ((refuse n at p when b) ∷ ts) (h, w) = go b (first_numbered ts w)
   where
-    go : (b : Bool) → Numbered (first ts) → Numbered (if b then some (record { number = n; place = p }) else first ts)
+    go : (b : Bool) → Numbered (first ts) → Numbered (choose b then some (record { number = n; place = p }) else first ts)
     go true ih = h
     go false ih = ih
 
@@ -105,7 +105,7 @@ record_numbered : (rs : List Record) (r : Record) → Numbered (refuse_record rs
 unfolding refuse_record Numbered
 record_numbered rs r = go (ltb r.kind (last_kind rs)) (kind_numbered rs r (kind_of r.kind))
   where
-    go : (b : Bool) → Numbered (refuse_kind rs r (kind_of r.kind)) → Numbered (if b then some (record { number = 3; place = r.place }) else refuse_kind rs r (kind_of r.kind))
+    go : (b : Bool) → Numbered (refuse_kind rs r (kind_of r.kind)) → Numbered (choose b then some (record { number = 3; place = r.place }) else refuse_kind rs r (kind_of r.kind))
     go true w = omega arith
     go false w = w
 
@@ -129,7 +129,7 @@ numbered : (s : List ℕ) (flags : ℕ) → NumberedCase (case_of s flags)
 unfolding case_of NumberedCase
 numbered s flags = go (too_long s) (from_numbered flags (records_of s) [])
   where
-    go : (b : Bool) → NumberedCase (case_from flags (records_of s) []) → NumberedCase (if b then refused_case (record { number = 1; place = 0 }) else case_from flags (records_of s) [])
+    go : (b : Bool) → NumberedCase (case_from flags (records_of s) []) → NumberedCase (choose b then refused_case (record { number = 1; place = 0 }) else case_from flags (records_of s) [])
     go true w = omega arith
     go false w = w
 

@@ -12,7 +12,7 @@ use borrow.Author.Tests.{eqb-true}
 use lib.Dec.{eqb, ltb}
 use lib.ListN.{length, get_or, take, length-append, get_or-append}
 use lib.Seq.{take-append_seam, take-append-le, get_or-append_seam}
-use Rattle.scheme.specs.Lists.{if◌then◌else◌, keep_if, select}
+use Rattle.scheme.specs.Lists.{choose◌then◌else◌, keep_if, select}
 use Rattle.scheme.proofs.Lists.{select_append, none_some}
 use Rattle.casefile.specs.Records.{Record, Walk, end, cut, next, records_of, listed}
 use Rattle.casefile.specs.Kinds.{Kind, sort, constructor, nonterminal, rule, states, transition, type, binding, path, number, kind_of, of_kind, payloads, count}
@@ -67,7 +67,7 @@ pub passed_kind : (rs : List Record) (r : Record) → refuse_record rs r ≡ non
 unfolding refuse_record refuse_kind
 passed_kind rs r e = go (ltb r.kind (last_kind rs)) (kind_of r.kind) refl e
   where
-    go : (b : Bool) (x : Option Kind) → kind_of r.kind ≡ x → (if b then some (record { number = 3; place = r.place }) else refuse_kind rs r x) ≡ none
+    go : (b : Bool) (x : Option Kind) → kind_of r.kind ≡ x → (choose b then some (record { number = 3; place = r.place }) else refuse_kind rs r x) ≡ none
         → (b ≡ false) × ((k : Kind) × (x ≡ some k) × (refuse_as rs r k ≡ none))
     go true x f e = absurd (none_some e refl)
     go false none f e = absurd (none_some e refl)
@@ -186,7 +186,7 @@ module _ (flags : ℕ) where
     unfolding Known Outcome case_of
     from_case = by (too_long s) refl (from_walk (records_of s) [] nothing)
       where
-        by : (b : Bool) → too_long s ≡ b → Outcome (listed (records_of s)) (case_from flags (records_of s) []) → Known (if b then refused_case (record { number = 1; place = 0 }) else case_from flags (records_of s) [])
+        by : (b : Bool) → too_long s ≡ b → Outcome (listed (records_of s)) (case_from flags (records_of s) []) → Known (choose b then refused_case (record { number = 1; place = 0 }) else case_from flags (records_of s) [])
         by true e x = inl (record { number = 1; place = 0 }, refl)
         by false e (inl r) = inl r
         by false e (inr (ok, none-met, c)) = inr (record { all_records = refl; passed = ok; whole_file = none-met; short = e }, c)

@@ -1,7 +1,7 @@
 -- A file is refused by 1 to 12, or it is a binding case or a path case. Sections "What is turned away" and "Verdicts" of the scope.
 use Rattle.std.specs.Prelude.{ℕ, List, [], ◌∷◌, ◌++◌}
 use Rattle.std.proofs.Math.Option.{Option, none, some}
-use Rattle.scheme.specs.Lists.{if◌then◌else◌}
+use Rattle.scheme.specs.Lists.{choose◌then◌else◌}
 use Rattle.casefile.specs.Records.{Record, Walk, end, cut, next, records_of}
 use Rattle.casefile.specs.Kinds.{Kind, payloads}
 use Rattle.casefile.specs.Refusals.{Refusal, too_long, refuse_record, refuse_whole}
@@ -31,4 +31,4 @@ case_from flags (next r w) rs = let others = case_from flags w (rs ++ (r ∷ [])
 
 -- "Number 1 is tested first": the case of the bytes of a file, where `flags` flag bytes are lent
 unfoldable pub case_of : List ℕ → ℕ → Case
-case_of s flags = let others = case_from flags (records_of s) [] in if too_long s then refused_case (record { number = 1; place = 0 }) else others
+case_of s flags = let others = case_from flags (records_of s) [] in choose too_long s then refused_case (record { number = 1; place = 0 }) else others

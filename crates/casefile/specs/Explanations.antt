@@ -1,7 +1,7 @@
 -- Why the bindings of a case were dropped, and the numbers that say so. Note 2 of the change requests.
 use Rattle.std.specs.Prelude.{ℕ, zero, suc, ◌+◌, ◌-◌, List, [], ◌∷◌, ◌++◌, eqb, length, get_or}
 use Rattle.std.proofs.Math.Option.{Option, none, some}
-use Rattle.scheme.specs.Lists.{if◌then◌else◌}
+use Rattle.scheme.specs.Lists.{choose◌then◌else◌}
 use Rattle.scheme.specs.Reduction.{Plan}
 use Rattle.scheme.specs.Types.{Ty, state, arrow, same}
 use Rattle.scheme.specs.Typing.{Automaton, Binding}
@@ -18,7 +18,7 @@ pub data Wanted : Type 0 where
 -- the number of a type among those listed
 unfoldable pub number_of : Ty → List Ty → ℕ
 number_of τ [] = 0
-number_of τ (σ ∷ σs) = let more = suc (number_of τ σs) in if same τ σ then 0 else more
+number_of τ (σ ∷ σs) = let more = suc (number_of τ σs) in choose same τ σ then 0 else more
 
 -- a type as it is printed
 unfoldable pub wanted_in : List Ty → Ty → Wanted
@@ -40,7 +40,7 @@ unfoldable pub explained : Automaton → Plan → List Ty → List Binding → �
 explained aut plan types offered i =
     let n = round_of (holds_exactly aut plan) offered i in
     let why = binding_reason aut plan (after (holds_exactly aut plan) (n - 1) offered) (get_or offered i start_binding) in
-    if eqb n 0 then none else some (explanation types n why)
+    choose eqb n 0 then none else some (explanation types n why)
 
 -- the type wanted as a number: a state by its own, a type behind the 16 numbers of states
 unfoldable pub goal_number : Wanted → ℕ

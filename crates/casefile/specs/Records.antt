@@ -1,6 +1,6 @@
 -- Records and the walk over a file. Section "The case file" of the scope; remarks: Note 1 of the change requests.
 use Rattle.std.specs.Prelude.{ℕ, zero, suc, ◌+◌, Bool, ◌&&◌, List, [], ◌∷◌, length, take, drop, leb}
-use Rattle.scheme.specs.Lists.{if◌then◌else◌}
+use Rattle.scheme.specs.Lists.{choose◌then◌else◌}
 use Rattle.casefile.specs.Fields.{word}
 
 -- "A record is a two-byte payload length, a two-byte kind, then the payload"; its place is its first byte
@@ -28,7 +28,7 @@ unfoldable pub walk : ℕ → List ℕ → ℕ → Walk
 walk zero s at = end
 walk (suc n) s at =
     let rest = walk n s (at + 4 + word s at) in
-    if leb (length s) at then end else (if whole s at then next (record_at s at) rest else cut at)
+    choose leb (length s) at then end else (choose whole s at then next (record_at s at) rest else cut at)
 
 -- "Kinds 8000 (hexadecimal) and above are remarks"
 unfoldable pub is_remark : ℕ → Bool
@@ -38,7 +38,7 @@ is_remark kind = leb 0x8000 kind
 unfoldable pub counting : Walk → Walk
 counting end = end
 counting (cut at) = cut at
-counting (next r w) = let rest = counting w in if is_remark r.kind then rest else next r rest
+counting (next r w) = let rest = counting w in choose is_remark r.kind then rest else next r rest
 
 -- the walk over a file; a record fills at least four bytes, so there are no more records than bytes
 unfoldable pub records_of : List ℕ → Walk

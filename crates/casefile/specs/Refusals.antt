@@ -1,7 +1,7 @@
 -- Refusals 1 and 3 to 12: a number and a place. Section "What is turned away" of the scope.
 use Rattle.std.specs.Prelude.{ℕ, suc, ◌+◌, ◌%◌, Bool, true, false, ◌&&◌, ◌||◌, not, List, [], ◌∷◌, ◌++◌, map, ltb, leb, eqb, length, get_or, take, drop}
 use Rattle.std.proofs.Math.Option.{Option, none, some}
-use Rattle.scheme.specs.Lists.{if◌then◌else◌, found, any, last_or}
+use Rattle.scheme.specs.Lists.{choose◌then◌else◌, found, any, last_or}
 use Rattle.scheme.specs.Sorts.{Sort, o, same_sort, arguments}
 use Rattle.scheme.specs.Terms.{countᵗ}
 use Rattle.scheme.specs.Prefix.{terms, complete, depth}
@@ -26,7 +26,7 @@ pub data Test : Type 0 where
 -- the refusal of the first test that is met
 unfoldable pub first : List Test → Option Refusal
 first [] = none
-first ((refuse n at p when b) ∷ ts) = let others = first ts in if b then some (record { number = n; place = p }) else others
+first ((refuse n at p when b) ∷ ts) = let others = first ts in choose b then some (record { number = n; place = p }) else others
 
 -- 1: "over 60,000 bytes"
 unfoldable pub too_long : List ℕ → Bool
@@ -122,7 +122,7 @@ module _ (rs : List Record) (p : List ℕ) where
       leb qs (byte p 0) || leb (length ns) (byte p 1) || wrong_targets_spec qs (get_or ns (byte p 1) 0) (drop 2 p)
   out_of_range type =
       let n = count type rs in
-      if eqb (length p) 1 then leb (state_count_spec rs) (byte p 0) else any (λ (t : ℕ). leb n t) (words p)
+      choose eqb (length p) 1 then leb (state_count_spec rs) (byte p 0) else any (λ (t : ℕ). leb n t) (words p)
   out_of_range binding = leb (count nonterminal rs) (word p 0) || leb (count type rs) (word p 2)
   out_of_range path = false
 
@@ -165,7 +165,7 @@ last_kind rs = last_or 0 (map (λ (r : Record). r.kind) rs)
 unfoldable pub refuse_record : List Record → Record → Option Refusal
 refuse_record rs r =
     let others = refuse_kind rs r (kind_of r.kind) in
-    if ltb r.kind (last_kind rs) then some (record { number = 3; place = r.place }) else others
+    choose ltb r.kind (last_kind rs) then some (record { number = 3; place = r.place }) else others
 
 -- 9, a body: "not exactly one term of sort 0 within 64 levels"; s is its nonterminal's sort
 unfoldable pub wrong_body : List ℕ → List Sort → Sort → List ℕ → Bool

@@ -3,7 +3,7 @@
 -- what such records cannot hold is read as 0.
 use Rattle.std.specs.Prelude.{ℕ, ◌&&◌, List, [], ◌∷◌, ◌++◌, map, eqb, length, get_or, take, drop}
 use Rattle.std.proofs.Math.Option.{Option, none, some}
-use Rattle.scheme.specs.Lists.{if◌then◌else◌, last_or}
+use Rattle.scheme.specs.Lists.{choose◌then◌else◌, last_or}
 use Rattle.scheme.specs.Sorts.{Sort, o, ◌⇒◌}
 use Rattle.scheme.specs.Terms.{Head, con, nt, par, Term, Terms, []ᵗ, ◌∷ᵗ◌}
 use Rattle.scheme.specs.Prefix.{Node, terms}
@@ -91,7 +91,7 @@ transitions_of rs = map (transition_of (arities_of rs)) (payloads Kind.transitio
 -- the targets of the transition from a state at a constructor, where there is one
 unfoldable pub targets_at : List Transition → ℕ → ℕ → Option (List ℕ)
 targets_at [] q c = none
-targets_at (t ∷ ts) q c = let others = targets_at ts q c in if eqb t.from q && eqb t.constructor c then some t.targets else others
+targets_at (t ∷ ts) q c = let others = targets_at ts q c in choose eqb t.from q && eqb t.constructor c then some t.targets else others
 
 -- the automaton
 unfoldable pub automaton_of : List Record → Automaton
@@ -115,7 +115,7 @@ arrow_from types (r ∷ ms) = arrow (members_at types ms) (get_or types r (state
 
 -- a type record: "one byte: a state", or an arrow
 unfoldable pub type_from : List Ty → List ℕ → Ty
-type_from types p = if eqb (length p) 1 then state (byte p 0) else arrow_from types (words p)
+type_from types p = choose eqb (length p) 1 then state (byte p 0) else arrow_from types (words p)
 
 -- the types, in file order
 unfoldable pub types_of : List Record → List Ty

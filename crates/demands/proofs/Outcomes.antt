@@ -8,7 +8,7 @@ use mathlib.Core.Logic.{◌⊎◌, inl, inr}
 use mathlib.Core.Bool.{Bool, true, false, false≢true}
 use mathlib.Core.List.{List, [], ◌++◌, Memᴰ}
 use lib.ListN.{length, get_or, drop, get_or-append}
-use Rattle.scheme.specs.Lists.{if◌then◌else◌}
+use Rattle.scheme.specs.Lists.{choose◌then◌else◌}
 use Rattle.scheme.specs.Reduction.{Plan, start}
 use Rattle.scheme.specs.Typing.{Automaton, Binding}
 use Rattle.scheme.specs.Rounds.{kept, rounds}
@@ -38,8 +38,8 @@ use Rattle.demands.proofs.PlainWords.{over, answer_of, binding_says, not_refuted
 -- Binding cases.
 module _ (aut : Automaton) (plan : Plan) (offered : List Binding) where
   verdict_by : (k r : ℕ) (b : Bool) → accepts aut plan offered ≡ b
-      → (Memᴰ start_binding (kept (holds_exactly aut plan) offered) × ((if b then proved k (length offered) r else unproved k (length offered) r) ≡ proved k (length offered) r))
-      ⊎ ((Memᴰ start_binding (kept (holds_exactly aut plan) offered) → ⊥) × ((if b then proved k (length offered) r else unproved k (length offered) r) ≡ unproved k (length offered) r))
+      → (Memᴰ start_binding (kept (holds_exactly aut plan) offered) × ((choose b then proved k (length offered) r else unproved k (length offered) r) ≡ proved k (length offered) r))
+      ⊎ ((Memᴰ start_binding (kept (holds_exactly aut plan) offered) → ⊥) × ((choose b then proved k (length offered) r else unproved k (length offered) r) ≡ unproved k (length offered) r))
   verdict_by k r true e = inl (accepts_out aut plan offered e, refl)
   verdict_by k r false e = inr (λ m. false≢true (sym e ∙ accepts_in aut plan offered m), refl)
 
@@ -69,7 +69,7 @@ module _ (aut : Automaton) (plan : Plan) (offered : List Binding) where
   unfolding binding_outcome shrunk
   proved_accepts k n r e = by (length (kept (holds_exactly aut plan) offered)) (rounds (holds_exactly aut plan) offered) (accepts aut plan offered) e
     where
-      by : (m c : ℕ) (b : Bool) → (if b then proved m (length offered) c else unproved m (length offered) c) ≡ proved k n r → b ≡ true
+      by : (m c : ℕ) (b : Bool) → (choose b then proved m (length offered) c else unproved m (length offered) c) ≡ proved k n r → b ≡ true
       by m c true f = refl
       by m c false f = cc
 

@@ -7,7 +7,7 @@ use mathlib.Core.Bool.{Bool, true, false}
 use mathlib.Core.List.{List, [], ◌++◌}
 use lib.ListN.{length, get_or, drop, length-append, length-drop}
 use lib.Seq.{get_or-append-add, get_or-drop}
-use Rattle.scheme.specs.Lists.{if◌then◌else◌}
+use Rattle.scheme.specs.Lists.{choose◌then◌else◌}
 use Rattle.scheme.specs.Acceptance.{holds_exactly}
 use Rattle.scheme.proofs.Flags.{kept_flags_length}
 use Rattle.casefile.specs.Records.{Record}
@@ -40,8 +40,8 @@ pub binding_says : (s : Shrunk) → IsProved (binding_outcome s).answer ⊎ IsUn
 unfolding binding_outcome
 binding_says s = by s.accepted
   where
-    by : (b : Bool) → IsProved (if b then proved s.kept s.total s.rounds else unproved s.kept s.total s.rounds)
-        ⊎ IsUnproved (if b then proved s.kept s.total s.rounds else unproved s.kept s.total s.rounds)
+    by : (b : Bool) → IsProved (choose b then proved s.kept s.total s.rounds else unproved s.kept s.total s.rounds)
+        ⊎ IsUnproved (choose b then proved s.kept s.total s.rounds else unproved s.kept s.total s.rounds)
     by true = inl (s.kept, s.total, s.rounds, refl)
     by false = inr (s.kept, s.total, s.rounds, refl)
 

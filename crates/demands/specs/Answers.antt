@@ -1,6 +1,6 @@
 -- The answer for every file and every number of lent flags, and the flags afterwards. Section "Verdicts" of the scope.
 use Rattle.std.specs.Prelude.{ℕ, List, [], ◌++◌, length, drop}
-use Rattle.scheme.specs.Lists.{if◌then◌else◌}
+use Rattle.scheme.specs.Lists.{choose◌then◌else◌}
 use Rattle.casefile.specs.Refusals.{Refusal}
 use Rattle.casefile.specs.Tables.{plan_of, automaton_of, bindings_of}
 use Rattle.casefile.specs.Cases.{Case, refused_case, binding_case, path_case, case_of}
@@ -30,7 +30,7 @@ refusal r = record { answer = refused r.number r.place; written = [] }
 unfoldable pub binding_outcome : Shrunk → Outcome
 binding_outcome s =
     record {
-      answer = if s.accepted then proved s.kept s.total s.rounds else unproved s.kept s.total s.rounds;
+      answer = choose s.accepted then proved s.kept s.total s.rounds else unproved s.kept s.total s.rounds;
       written = s.flags;
     }
 

@@ -5,7 +5,7 @@ use mathlib.Core.Bool.{Bool, true, false}
 use mathlib.Core.List.{List, [], ◌++◌}
 use borrow.Author.Tests.{ltb-false}
 use lib.ListN.{length, get_or, drop}
-use Rattle.scheme.specs.Lists.{if◌then◌else◌}
+use Rattle.scheme.specs.Lists.{choose◌then◌else◌}
 use Rattle.casefile.specs.Records.{records_of, listed}
 use Rattle.casefile.specs.Kinds.{Kind, payloads}
 use Rattle.casefile.specs.Tables.{plan_of, automaton_of, bindings_of}
@@ -65,7 +65,7 @@ unfolding binding_outcome answer_as of_bindings_spec
 answer_bindings s lent marks b k t r w =
     (λ i. answer_as (of_bindings_spec (w.accepted_is i) (w.kept_is i) (w.total_is i) (w.rounds_are i))) ∙ by s.accepted
   where
-    by : (b : Bool) → answer_as (of_bindings_spec b s.kept s.total s.rounds) ≡ (if b then proved s.kept s.total s.rounds else unproved s.kept s.total s.rounds)
+    by : (b : Bool) → answer_as (of_bindings_spec b s.kept s.total s.rounds) ≡ (choose b then proved s.kept s.total s.rounds else unproved s.kept s.total s.rounds)
     by true = refl
     by false = refl
 

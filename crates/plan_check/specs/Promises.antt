@@ -1,7 +1,7 @@
 -- What our own functions promise each other; nothing here has to be believed.
 use Rattle.std.specs.Prelude.{ℕ, ◌≤◌, ◌≡◌, Bool, true, false, List, [], ◌∷◌, length, get_or}
 use Rattle.std.proofs.Math.Option.{none}
-use Rattle.scheme.specs.Lists.{if◌then◌else◌}
+use Rattle.scheme.specs.Lists.{choose◌then◌else◌}
 use Rattle.casefile.specs.Records.{records_of, listed}
 use Rattle.casefile.specs.Kinds.{Kind, payloads, count}
 use Rattle.casefile.specs.Tables.{plan_of, automaton_of, bindings_of}
@@ -20,7 +20,7 @@ use Rattle.plan_check.specs.declared.Verdict.TheVariants.{Proved, Unproved, Refu
 
 -- the verdict for the kept bindings: whether they are accepted, how many are kept and were offered, and the rounds
 unfoldable pub of_bindings_spec : Bool → ℕ → ℕ → ℕ → Verdict
-of_bindings_spec accepted k t r = if accepted then Proved k t r else Unproved k t r
+of_bindings_spec accepted k t r = choose accepted then Proved k t r else Unproved k t r
 
 -- the verdict for the answer to a path
 unfoldable pub of_path_spec : Replayed → Verdict

@@ -11,7 +11,7 @@ use mathlib.Core.Option.{Option, none, some}
 use lib.Dec.{eqb}
 use lib.ListN.{length, get_or}
 use borrow.Author.Tests.{eq-eqb, eqb-true}
-use Rattle.scheme.specs.Lists.{if◌then◌else◌, keep_if, first_of}
+use Rattle.scheme.specs.Lists.{choose◌then◌else◌, keep_if, first_of}
 use Rattle.scheme.specs.Types.{Ty}
 use Rattle.scheme.specs.Typing.{Binding, bound}
 use Rattle.scheme.specs.Flags.{is_kept, chosen}
@@ -20,11 +20,11 @@ module _ {A : Type 0} (p : A → Bool) where
   -- an element that passes comes first, one that fails does not
   pub first_here : (x : A) (xs : List A) → p x ≡ true → first_of p (x ∷ xs) ≡ some x
   unfolding first_of
-  first_here x xs e = ap (λ b. if b then some x else first_of p xs) e
+  first_here x xs e = ap (λ b. choose b then some x else first_of p xs) e
 
   pub first_behind : (x : A) (xs : List A) → p x ≡ false → first_of p (x ∷ xs) ≡ first_of p xs
   unfolding first_of
-  first_behind x xs e = ap (λ b. if b then some x else first_of p xs) e
+  first_behind x xs e = ap (λ b. choose b then some x else first_of p xs) e
 
   -- by membership
   pub first_only : (l : List A) (x : A) → Memᴰ x l → p x ≡ true → ((y : A) → Memᴰ y l → p y ≡ true → y ≡ x) → first_of p l ≡ some x

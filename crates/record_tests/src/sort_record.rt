@@ -1,6 +1,6 @@
 // The test of a sort record, 4 to 7.
 ghost use Rattle.std.specs.Prelude.{◌≡◌, get_or, leb};
-ghost use Rattle.scheme.specs.Lists.{if◌then◌else◌};
+ghost use Rattle.scheme.specs.Lists.{choose◌then◌else◌};
 ghost use Rattle.index.specs.entries.Tests.{TestsSort};
 
 use index::entries::place_at;

@@ -8,7 +8,7 @@ use mathlib.Core.Logic.{◌⊎◌, inl, inr}
 use mathlib.Core.Bool.{Bool, true, false, true≢false}
 use mathlib.Core.List.{List, [], ◌∷◌}
 use lib.ListN.{length, get_or, replicate, get_or-replicate}
-use Rattle.scheme.specs.Lists.{if◌then◌else◌}
+use Rattle.scheme.specs.Lists.{choose◌then◌else◌}
 use Rattle.scheme.specs.Rounds.{after}
 use Rattle.scheme.specs.Flags.{bit, is_kept, chosen, retested, round_flags, flags_after_rounds, falls_in, round_of, kept_flags}
 use Rattle.scheme.proofs.Flags.{chosen_after, chosen_ones}
@@ -97,7 +97,7 @@ module _ {B : Type 0} (test : List B → B → Bool) where
 
       go : (v : Bool) → is_kept (get_or (round_flags test bs fs) i 0) ≡ v
           → (is_kept (get_or (round_flags test bs fs) i 0) ≡ true → Says bs m (suc n) (round_flags test bs fs) i (falls_in test bs m (suc n) (round_flags test bs fs) i))
-          → Says bs (suc m) n fs i (if v then falls_in test bs m (suc n) (round_flags test bs fs) i else n)
+          → Says bs (suc m) n fs i (choose v then falls_in test bs m (suc n) (round_flags test bs fs) i else n)
       go true e ih = more (ih e)
       go false e ih = inr (zero, omega arith, omega arith, h, e)
 

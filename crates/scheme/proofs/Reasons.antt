@@ -13,7 +13,7 @@ use borrow.Author.Tests.{not-false, not-true}
 use lib.Dec.{T}
 use lib.ListN.{length, get_or, length-append, get_or-append}
 use lib.Seq.{get_or-append-add}
-use Rattle.scheme.specs.Lists.{if◌then◌else◌, found, first_of, found_or, all}
+use Rattle.scheme.specs.Lists.{choose◌then◌else◌, found, first_of, found_or, all}
 use Rattle.scheme.specs.Terms.{Head, con, nt, par, Term, node, Terms, []ᵗ, ◌∷ᵗ◌, countᵗ, nodes}
 use Rattle.scheme.specs.Prefix.{Node, flat, flats}
 use Rattle.scheme.specs.Reduction.{Plan, body}
@@ -36,7 +36,7 @@ module _ {A : Type 0} (p : A → Bool) where
   first_none [] e x m = absurd (Memᴰ.not-nil m)
   first_none (y ∷ ys) e x m = go (p y) refl e (Memᴰ.cases_cons m) (λ f k. first_none ys f x k)
     where
-      go : (v : Bool) → p y ≡ v → (if v then some y else first_of p ys) ≡ none → (x ≡ y) ⊎ Memᴰ x ys → (first_of p ys ≡ none → Memᴰ x ys → p x ≡ false) → p x ≡ false
+      go : (v : Bool) → p y ≡ v → (choose v then some y else first_of p ys) ≡ none → (x ≡ y) ⊎ Memᴰ x ys → (first_of p ys ≡ none → Memᴰ x ys → p x ≡ false) → p x ≡ false
       go true w f c ih = absurd (none_some f refl)
       go false w f (inl s) ih = ap p s ∙ w
       go false w f (inr k) ih = ih f k
@@ -47,7 +47,7 @@ module _ {A : Type 0} (p : A → Bool) where
   first_some [] x e = absurd (none_some refl e)
   first_some (y ∷ ys) x e = go (p y) refl e (first_some ys x)
     where
-      go : (v : Bool) → p y ≡ v → (if v then some y else first_of p ys) ≡ some x → (first_of p ys ≡ some x → First (λ z. T (p z)) ys x) → First (λ z. T (p z)) (y ∷ ys) x
+      go : (v : Bool) → p y ≡ v → (choose v then some y else first_of p ys) ≡ some x → (first_of p ys ≡ some x → First (λ z. T (p z)) ys x) → First (λ z. T (p z)) (y ∷ ys) x
       go true w f ih = let s : y ≡ x = cc in subst (First (λ z. T (p z)) (y ∷ ys)) s (at_once (true→T w))
       go false w f ih = behind (false_T w) (ih f)
 

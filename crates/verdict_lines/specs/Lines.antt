@@ -1,7 +1,7 @@
 -- The lines of the four answers, and that of a dropped binding, as bytes in ASCII. Section "Verdicts" of the scope, and Note 2 of the
 -- change requests.
 use Rattle.std.specs.Prelude.{ℕ, zero, suc, ◌+◌, ◌-◌, ◌/◌, ◌%◌, ◌≤◌, ◌≡◌, List, [], ◌∷◌, ◌++◌, ltb, length, take}
-use Rattle.scheme.specs.Lists.{if◌then◌else◌}
+use Rattle.scheme.specs.Lists.{choose◌then◌else◌}
 use Rattle.casefile.specs.Explanations.{Wanted, of_state, of_type, Explanation}
 use Rattle.demands.specs.Answers.{Answer, proved, unproved, refuted, refused}
 
@@ -84,7 +84,7 @@ unfoldable pub numeral_within : ℕ → ℕ → List ℕ
 numeral_within zero n = []
 numeral_within (suc fuel) n =
     let front = numeral_within fuel (n / 10) in
-    if ltb n 10 then digit n ∷ [] else front ++ (digit (n % 10) ∷ [])
+    choose ltb n 10 then digit n ∷ [] else front ++ (digit (n % 10) ∷ [])
 
 -- "All numbers are decimal": the digits, with no zeros in front; 0 is `0`
 unfoldable pub numeral : ℕ → List ℕ
@@ -112,7 +112,7 @@ reason_line binding e = numbered binding_word binding ++ numbered round_word e.r
 
 -- a goal that is lent as a number, read as the type wanted: a state below 16, a type behind these numbers
 unfoldable pub wanted_as : ℕ → Wanted
-wanted_as goal = if ltb goal 16 then of_state goal else of_type (goal - 16)
+wanted_as goal = choose ltb goal 16 then of_state goal else of_type (goal - 16)
 
 -- what the numbers of a dropped binding say: its round, the node and the goal
 abbrev pub explanation_as : ℕ → ℕ → ℕ → Explanation

@@ -8,7 +8,7 @@ use borrow.Author.Tests.{lt-ltb, le-ltb, eq-eqb, ne_eqb}
 use lib.Dec.{ltb, eqb}
 use lib.ListN.{length, get_or, set, length-set}
 use lib.Seq.{set_out, get_or-set_same, get_or-set_other}
-use Rattle.scheme.specs.Lists.{if◌then◌else◌}
+use Rattle.scheme.specs.Lists.{choose◌then◌else◌}
 use Rattle.casefile.specs.Fields.{word}
 use Rattle.casefile.specs.Kinds.{Kind, number, kind_of}
 use Rattle.index.specs.layout.Layout.{hashes_at, links_at}
@@ -38,7 +38,7 @@ pub stored_length : (a : List ℕ) (i v : ℕ) → length (stored a i v) ≡ len
 unfolding stored
 stored_length a i v = by (ltb v 65536)
   where
-    by : (b : Bool) → length (if b then set a i v else a) ≡ length a
+    by : (b : Bool) → length (choose b then set a i v else a) ≡ length a
     by true = length-set a i v
     by false = refl
 
@@ -50,7 +50,7 @@ pub stored_other : (a : List ℕ) (i v j : ℕ) → (j ≡ i → ⊥) → get_or
 unfolding stored
 stored_other a i v j ne = by (ltb v 65536)
   where
-    by : (b : Bool) → get_or (if b then set a i v else a) j 0 ≡ get_or a j 0
+    by : (b : Bool) → get_or (choose b then set a i v else a) j 0 ≡ get_or a j 0
     by true = get_or-set_other a i j v 0 ne
     by false = refl
 
@@ -67,7 +67,7 @@ pub lens_length : (lens : List ℕ) (kind n : ℕ) (p : List ℕ) → length (le
 unfolding lens_after
 lens_length lens kind n p = by (eqb kind 1)
   where
-    by : (b : Bool) → length (if b then stored lens (n + 1) (get_or lens (word p 2) 0 + 1) else lens) ≡ length lens
+    by : (b : Bool) → length (choose b then stored lens (n + 1) (get_or lens (word p 2) 0 + 1) else lens) ≡ length lens
     by true = stored_length lens (n + 1) (get_or lens (word p 2) 0 + 1)
     by false = refl
 
@@ -93,6 +93,6 @@ pub chains_length : (index : List ℕ) (kind n : ℕ) (p : List ℕ) → length 
 unfolding chains_after
 chains_length index kind n p = by (eqb kind 7)
   where
-    by : (b : Bool) → length (if b then stored (stored index (links_at + n) (get_or index (hashes_at + hash_of_spec p) 0)) (hashes_at + hash_of_spec p) (n + 1) else index) ≡ length index
+    by : (b : Bool) → length (choose b then stored (stored index (links_at + n) (get_or index (hashes_at + hash_of_spec p) 0)) (hashes_at + hash_of_spec p) (n + 1) else index) ≡ length index
     by true = stored_length (stored index (links_at + n) (get_or index (hashes_at + hash_of_spec p) 0)) (hashes_at + hash_of_spec p) (n + 1) ∙ stored_length index (links_at + n) (get_or index (hashes_at + hash_of_spec p) 0)
     by false = refl

@@ -8,7 +8,7 @@ use mathlib.Core.List.{List, []}
 use borrow.Author.Tests.{lt-ltb, le-ltb}
 use lib.Dec.{leb}
 use lib.ListN.{get_or, length, take, drop}
-use Rattle.scheme.specs.Lists.{if◌then◌else◌}
+use Rattle.scheme.specs.Lists.{choose◌then◌else◌}
 use Rattle.casefile.specs.Fields.{word}
 use Rattle.casefile.specs.Records.{Record}
 use Rattle.records.specs.fields.Promises.{HasLength}
@@ -31,7 +31,7 @@ pub part_none : (file : List ℕ) (start : ℕ) → part_of file start 0 ≡ []
 unfolding part_of
 part_none file start = go (leb (start + 0) (length file))
   where
-    go : (b : Bool) → (if b then take 0 (drop start file) else []) ≡ []
+    go : (b : Bool) → (choose b then take 0 (drop start file) else []) ≡ []
     go true = refl
     go false = refl
 

@@ -8,7 +8,7 @@ use mathlib.Core.Option.{Option, none, some}
 use borrow.Author.Tests.{eq-eqb, ne_eqb, lt-ltb, le-ltb}
 use lib.Dec.{ltb, eqb}
 use lib.ListN.{length, get_or}
-use Rattle.scheme.specs.Lists.{if◌then◌else◌}
+use Rattle.scheme.specs.Lists.{choose◌then◌else◌}
 use Rattle.casefile.specs.Fields.{word}
 use Rattle.casefile.specs.Records.{Record}
 use Rattle.casefile.specs.Kinds.{nonterminal, rule, states, type, binding, path, of_kind, payloads, count, place_of}
@@ -25,7 +25,7 @@ unfolding or_else
 or_else_assoc none y z = refl
 or_else_assoc (some x) y z = refl
 
-or_else_if : (b : Bool) (x : Refusal) (y z : Option Refusal) → or_else (if b then some x else y) z ≡ (if b then some x else or_else y z)
+or_else_if : (b : Bool) (x : Refusal) (y z : Option Refusal) → or_else (choose b then some x else y) z ≡ (choose b then some x else or_else y z)
 unfolding or_else
 or_else_if true x y z = refl
 or_else_if false x y z = refl
@@ -38,11 +38,11 @@ or_else_none : (x y : Option Refusal) → x ≡ none → or_else x y ≡ y
 unfolding or_else
 or_else_none x y e = ap (λ z. or_else z y) e
 
-if_true : {A : Type 0} (b : Bool) (x y : A) → b ≡ true → (if b then x else y) ≡ x
-if_true b x y e = ap (λ z. if z then x else y) e
+if_true : {A : Type 0} (b : Bool) (x y : A) → b ≡ true → (choose b then x else y) ≡ x
+if_true b x y e = ap (λ z. choose z then x else y) e
 
-if_false : {A : Type 0} (b : Bool) (x y : A) → b ≡ false → (if b then x else y) ≡ y
-if_false b x y e = ap (λ z. if z then x else y) e
+if_false : {A : Type 0} (b : Bool) (x y : A) → b ≡ false → (choose b then x else y) ≡ y
+if_false b x y e = ap (λ z. choose z then x else y) e
 
 first_append : (xs ys : List Test) → first (xs ++ ys) ≡ or_else (first xs) (first ys)
 unfolding first or_else
@@ -50,7 +50,7 @@ first_append [] ys = refl
 first_append ((refuse n at p when true) ∷ xs) ys = refl
 first_append ((refuse n at p when false) ∷ xs) ys = first_append xs ys
 
-first_one : (n p : ℕ) (b : Bool) (ts : List Test) → first ((refuse n at p when b) ∷ ts) ≡ (if b then some (record { number = n; place = p }) else first ts)
+first_one : (n p : ℕ) (b : Bool) (ts : List Test) → first ((refuse n at p when b) ∷ ts) ≡ (choose b then some (record { number = n; place = p }) else first ts)
 unfolding first
 first_one n p b ts = refl
 
@@ -73,13 +73,13 @@ module _ (rs : List Record) (flags : ℕ) where
 
   -- what is left behind each test
   abbrev from12 : Option Refusal
-  from12 = if ltb flags (count binding rs) then some (record { number = 12; place = 0 }) else none
+  from12 = choose ltb flags (count binding rs) then some (record { number = 12; place = 0 }) else none
 
   abbrev from10 : Option Refusal
-  from10 = if wrong10 then some (record { number = 10; place = 0 }) else or_else unfit from12
+  from10 = choose wrong10 then some (record { number = 10; place = 0 }) else or_else unfit from12
 
   -- all of them, in order
-  whole_is : refuse_whole rs flags ≡ (if wrong8 then some (record { number = 8; place = 0 }) else or_else (first (wrong_start (of_kind nonterminal rs))) (or_else bodies from10))
+  whole_is : refuse_whole rs flags ≡ (choose wrong8 then some (record { number = 8; place = 0 }) else or_else (first (wrong_start (of_kind nonterminal rs))) (or_else bodies from10))
   unfolding refuse_whole
   whole_is = simp (first_append, first_one, first_nil, or_else_assoc, or_else_if)
 
@@ -129,14 +129,14 @@ module _ (rs : List Record) (flags : ℕ) where
 
 -- The start symbol's sort.
 module _ (rs : List Record) (n : ℕ) (s place : ℕ) (some-there : 0 < count nonterminal rs) (is_sort : s ≡ word (get_or (payloads nonterminal rs) 0 []) 0) (is_place : place ≡ place_of nonterminal rs 0) where
-  start_tests : first (wrong_start (of_kind nonterminal rs)) ≡ (if not (eqb s 0) then some (record { number = 9; place = place }) else none)
+  start_tests : first (wrong_start (of_kind nonterminal rs)) ≡ (choose not (eqb s 0) then some (record { number = 9; place = place }) else none)
   unfolding wrong_start count payloads
   start_tests = by (of_kind nonterminal rs) some-there is_sort is_place
     where
       by : (l : List Record) → 0 < length l → s ≡ word (get_or (map (λ (r : Record). r.payload) l) 0 []) 0 → place ≡ get_or (map (λ (r : Record). r.place) l) 0 0
-          → first (wrong_start l) ≡ (if not (eqb s 0) then some (record { number = 9; place = place }) else none)
+          → first (wrong_start l) ≡ (choose not (eqb s 0) then some (record { number = 9; place = place }) else none)
       by [] h e f = absurd (omega arith)
-      by (r ∷ l) h e f = first_one 9 r.place (not (eqb (word r.payload 0) 0)) [] ∙ ap₂ (λ x y. if not (eqb x 0) then some (record { number = 9; place = y }) else first []) (sym e) (sym f) ∙ ap (λ z. if not (eqb s 0) then some (record { number = 9; place = place }) else z) first_nil
+      by (r ∷ l) h e f = first_one 9 r.place (not (eqb (word r.payload 0) 0)) [] ∙ ap₂ (λ x y. choose not (eqb x 0) then some (record { number = 9; place = y }) else first []) (sym e) (sym f) ∙ ap (λ z. choose not (eqb s 0) then some (record { number = 9; place = place }) else z) first_nil
 
   pub start_wrong : (s ≡ 0 → ⊥) → first (wrong_start (of_kind nonterminal rs)) ≡ some (record { number = 9; place = place })
   start_wrong ne = start_tests ∙ if_true _ _ _ (ap not (ne_eqb s 0 ne))

@@ -8,7 +8,7 @@ use mathlib.Core.List.{List, [], map}
 use borrow.Author.Tests.{lt-ltb, le-ltb, le-leb, lt-leb, eq-eqb, ne_eqb, eqb-true, not-false}
 use lib.Dec.{eqb}
 use lib.ListN.{length, get_or, length-map}
-use Rattle.scheme.specs.Lists.{if◌then◌else◌, any}
+use Rattle.scheme.specs.Lists.{choose◌then◌else◌, any}
 use Rattle.scheme.specs.Sorts.{o, arguments}
 use Rattle.casefile.specs.Fields.{byte, word}
 use Rattle.casefile.specs.Records.{Record}
@@ -70,7 +70,7 @@ module _ (file index lens : List ℕ) (n sorts constructors nonterminals : ℕ) 
           signature_at : (i : ℕ) → i < nonterminals → get_or (map (λ (q : List ℕ). get_or (sorts_of rs) (word q 0) o) (payloads nonterminal rs)) i o ≡ get_or (sorts_of rs) (word (get_or (payloads nonterminal rs) i []) 0) o
           signature_at i j = get_d_map_in (λ (q : List ℕ). get_or (sorts_of rs) (word q 0) o) (payloads nonterminal rs) i o [] (subst (λ m. i < m) (sym ix.counted ∙ count_payloads nonterminal rs) j)
 
-      pub rule_rest : length p ≤ max_body → (r : Bool) → r ≡ any (wrong_cell_spec constructors nonterminals a) (cells_of p) → code_for rs p rule ≡ (if r then 6 else 0)
+      pub rule_rest : length p ≤ max_body → (r : Bool) → r ≡ any (wrong_cell_spec constructors nonterminals a) (cells_of p) → code_for rs p rule ≡ (choose r then 6 else 0)
       unfolding code_for wrong_length too_many too_large out_of_range misplaced arities_of
       rule_rest l r er =
           simp (

@@ -7,7 +7,7 @@ use mathlib.Core.List.{List, [], ◌∷◌}
 use borrow.Author.Tests.{lt-ltb, le-ltb, le-leb, lt-leb, eq-eqb, ne_eqb, leb-true, leb-false}
 use lib.Dec.{leb, ltb, leb-suc-suc}
 use lib.ListN.{length, get_or}
-use Rattle.scheme.specs.Lists.{if◌then◌else◌}
+use Rattle.scheme.specs.Lists.{choose◌then◌else◌}
 use Rattle.scheme.specs.Sorts.{o, arguments}
 use Rattle.casefile.specs.Fields.{word}
 use Rattle.casefile.specs.Records.{Record}
@@ -35,7 +35,7 @@ module _ (file index lens : List ℕ) (n : ℕ) (p : List ℕ) (rs : List Record
   unfolding code_for wrong_length too_many
   sort_many h m = simp (eq-eqb (length p) 4 h, ix.counted, le-leb max_sorts n m)
 
-  module _ (h : length p ≡ 4) (m : n < max_sorts) (from to a : ℕ) (ef : from ≡ word p 0) (et : to ≡ word p 2) (ea : a ≡ (if leb to n then get_or lens to 0 else 0)) where
+  module _ (h : length p ≡ 4) (m : n < max_sorts) (from to a : ℕ) (ef : from ≡ word p 0) (et : to ≡ word p 2) (ea : a ≡ (choose leb to n then get_or lens to 0 else 0)) where
     -- the argument count of the sort that `to` names
     large : too_large rs p sort ≡ leb 8 a
     unfolding too_large
@@ -44,7 +44,7 @@ module _ (file index lens : List ℕ) (n : ℕ) (p : List ℕ) (rs : List Record
         by : (v : Bool) → leb to n ≡ v → (ltb (word p 2) (length (sorts_of rs)) && ltb 8 (suc (length (arguments (get_or (sorts_of rs) (word p 2) o))))) ≡ leb 8 a
         by true e =
             let l : to < suc n = (let q = leb-true to n e in omega arith) in
-            let k : get_or lens to 0 ≡ a = sym (ea ∙ ap (λ v. if v then get_or lens to 0 else 0) e) in
+            let k : get_or lens to 0 ≡ a = sym (ea ∙ ap (λ v. choose v then get_or lens to 0 else 0) e) in
             let j : length (arguments (get_or (sorts_of rs) (word p 2) o)) ≡ a = ap (λ z. length (arguments (get_or (sorts_of rs) z o))) (sym et) ∙ sym (sl to l) ∙ k in
             simp (← et, sorts_many, lt-ltb to (suc n) l) (ap (λ z. ltb 8 (suc z)) (ap (λ z. length (arguments (get_or (sorts_of rs) z o))) et ∙ j) ∙ same_test a)
           where
@@ -52,7 +52,7 @@ module _ (file index lens : List ℕ) (n : ℕ) (p : List ℕ) (rs : List Record
             same_test x = leb-suc-suc 8 x
         by false e =
             let l : suc n ≤ to = leb-false to n e in
-            let k : a ≡ 0 = ea ∙ ap (λ v. if v then get_or lens to 0 else 0) e in
+            let k : a ≡ 0 = ea ∙ ap (λ v. choose v then get_or lens to 0 else 0) e in
             simp (← et, sorts_many, le-ltb to (suc n) l, k)
 
     pub sort_large : 8 ≤ a → 5 ≡ code_for rs p sort
@@ -67,14 +67,14 @@ module _ (file index lens : List ℕ) (n : ℕ) (p : List ℕ) (rs : List Record
     unfolding code_for wrong_length too_many out_of_range
     sort_to l k j = simp (eq-eqb (length p) 4 h, ix.counted, lt-leb max_sorts n m, large, lt-leb 8 a l, sorts_many, ← ef, ← et, lt-leb (suc n) from (omega arith), le-leb (suc n) to j)
 
-    pub sort_rest : a < 8 → from ≤ n → to ≤ n → (r : Bool) → Repeats file index 0 n p r → code_for rs p sort ≡ (if r then 7 else 0)
+    pub sort_rest : a < 8 → from ≤ n → to ≤ n → (r : Bool) → Repeats file index 0 n p r → code_for rs p sort ≡ (choose r then 7 else 0)
     unfolding code_for wrong_length too_many out_of_range misplaced
     sort_rest l k j r rep =
         simp (eq-eqb (length p) 4 h, ix.counted, lt-leb max_sorts n m, large, lt-leb 8 a l, sorts_many, ← ef, ← et, lt-leb (suc n) from (omega arith), lt-leb (suc n) to (omega arith), ← rep sort rs refl ix (omega arith) (omega arith))
 
 -- the argument count of a listed sort
-pub arguments_none : (lens : List ℕ) (n s : ℕ) → n < s → 0 ≡ (if leb s n then get_or lens s 0 else 0)
-arguments_none lens n s h = sym (ap (λ v. if v then get_or lens s 0 else 0) (lt-leb s n h))
+pub arguments_none : (lens : List ℕ) (n s : ℕ) → n < s → 0 ≡ (choose leb s n then get_or lens s 0 else 0)
+arguments_none lens n s h = sym (ap (λ v. choose v then get_or lens s 0 else 0) (lt-leb s n h))
 
-pub arguments_there : (lens : List ℕ) (n s r : ℕ) → s ≤ n → r ≡ get_or lens s 0 → r ≡ (if leb s n then get_or lens s 0 else 0)
-arguments_there lens n s r h e = e ∙ sym (ap (λ v. if v then get_or lens s 0 else 0) (le-leb s n h))
+pub arguments_there : (lens : List ℕ) (n s r : ℕ) → s ≤ n → r ≡ get_or lens s 0 → r ≡ (choose leb s n then get_or lens s 0 else 0)
+arguments_there lens n s r h e = e ∙ sym (ap (λ v. choose v then get_or lens s 0 else 0) (le-leb s n h))

@@ -7,7 +7,7 @@ use mathlib.Core.List.{List}
 use borrow.Author.Tests.{lt-ltb, le-ltb, le-leb, lt-leb, eq-eqb, ne_eqb}
 use lib.Dec.{leb}
 use lib.ListN.{length, drop}
-use Rattle.scheme.specs.Lists.{if◌then◌else◌, any}
+use Rattle.scheme.specs.Lists.{choose◌then◌else◌, any}
 use Rattle.casefile.specs.Fields.{byte}
 use Rattle.casefile.specs.Records.{Record}
 use Rattle.casefile.specs.Kinds.{type, count}
@@ -29,7 +29,7 @@ module _ (n states : ℕ) (p : List ℕ) where
   unfolding or_repeat
   refuses r h = record { decides = h; few = λ z. absurd (omega arith) }
 
-  passes : n < max_types → length p ≤ max_type → ((rs : List Record) → count type rs ≡ n → state_count_spec rs ≡ states → code_for rs p type ≡ (if repeats rs p type then 7 else 0)) → CodesAlone n states p 0
+  passes : n < max_types → length p ≤ max_type → ((rs : List Record) → count type rs ≡ n → state_count_spec rs ≡ states → code_for rs p type ≡ (choose repeats rs p type then 7 else 0)) → CodesAlone n states p 0
   unfolding or_repeat
   passes m l h = record { decides = h; few = λ z. (m, l) }
 
@@ -98,7 +98,7 @@ module _ (file index : List ℕ) (n states : ℕ) (p : List ℕ) (r : ℕ) (alon
       stands zero ne = absurd (ne refl)
       stands (suc r) ne = refl
 
-  pub tested_listed : r ≡ 0 → (again b : Bool) → again ≡ b → Listed file index p again → TestsType file index n states p (if b then 7 else 0)
+  pub tested_listed : r ≡ 0 → (again b : Bool) → again ≡ b → Listed file index p again → TestsType file index n states p (choose b then 7 else 0)
   unfolding or_repeat
   tested_listed e again b eb is rs ix st ch =
       let (few, short) = alone.few e in

@@ -1,7 +1,7 @@
 -- What our own crates promise each other; nothing here has to be believed.
 -- The code of a type's payload taken alone: all of 4 to 7 but whether an earlier type has the same payload.
 use Rattle.std.specs.Prelude.{ℕ, zero, suc, ◌<◌, ◌≤◌, ◌≡◌, Bool, List, length}
-use Rattle.scheme.specs.Lists.{if◌then◌else◌}
+use Rattle.scheme.specs.Lists.{choose◌then◌else◌}
 use Rattle.casefile.specs.Records.{Record}
 use Rattle.casefile.specs.Kinds.{type, count}
 use Rattle.casefile.specs.Tables.{state_count_spec}
@@ -11,7 +11,7 @@ use Rattle.index.specs.entries.Codes.{code_for}
 
 -- a code other than 0 stands; where it is 0, a repeat is refused by 7
 unfoldable pub or_repeat : ℕ → Bool → ℕ
-or_repeat zero again = if again then 7 else 0
+or_repeat zero again = choose again then 7 else 0
 or_repeat (suc r) again = suc r
 
 -- r and whether the payload is repeated decide; where r is 0, the payload and the types before it are few

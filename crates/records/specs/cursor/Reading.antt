@@ -1,7 +1,7 @@
 -- What our own crates promise each other; nothing here has to be believed.
 -- What reading a file from a place on finds. Section "The case file" of the scope, and refusal 2 of its table.
 use Rattle.std.specs.Prelude.{ℕ, ◌+◌, List, [], length, take, drop, leb}
-use Rattle.scheme.specs.Lists.{if◌then◌else◌}
+use Rattle.scheme.specs.Lists.{choose◌then◌else◌}
 use Rattle.casefile.specs.Records.{Record, Walk, end, cut, next}
 use Rattle.casefile.specs.Promises.{records_from}
 use Rattle.records.specs.declared.cursor.Read.{Read}
@@ -23,4 +23,4 @@ read_at s at = read_first (records_from s at)
 
 -- the len bytes from start on; nothing where they run past the end
 unfoldable pub part_of : List ℕ → ℕ → ℕ → List ℕ
-part_of s start len = if leb (start + len) (length s) then take len (drop start s) else []
+part_of s start len = choose leb (start + len) (length s) then take len (drop start s) else []

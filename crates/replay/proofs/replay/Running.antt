@@ -8,7 +8,7 @@ use mathlib.Core.Option.{Option, none, some}
 use borrow.Author.Tests.{eq-eqb, ne_eqb, lt-ltb}
 use lib.ListN.{length, get_or, drop, drop_of_length-le}
 use lib.Seq.{drop-cons}
-use Rattle.scheme.specs.Lists.{if◌then◌else◌}
+use Rattle.scheme.specs.Lists.{choose◌then◌else◌}
 use Rattle.scheme.specs.Sorts.{o}
 use Rattle.scheme.specs.Sorting.{sort_of}
 use Rattle.scheme.specs.Terms.{Head, con, nt, par, Term, node, Terms, []ᵗ, nodes}
@@ -179,7 +179,7 @@ module _ {file index : List ℕ} {rules constructors : ℕ} {table : List (List 
                 same =
                     ap (λ j. replay max_term (automaton_of rs) (plan_of rs) j (drop j path) a.term a.state) e
                     ∙ ap (λ j. replay max_term (automaton_of rs) (plan_of rs) j (drop (suc i) path) a.term a.state) (sym e ∙ ei)
-                    ∙ sym (ap (λ b. if b then outgrown i else replay max_term (automaton_of rs) (plan_of rs) (i + 1) (drop (suc i) path) a.term a.state) limit)
+                    ∙ sym (ap (λ b. choose b then outgrown i else replay max_term (automaton_of rs) (plan_of rs) (i + 1) (drop (suc i) path) a.term a.state) limit)
                     ∙ sym (ap (followed max_term i letter (λ a. replay max_term (automaton_of rs) (plan_of rs) (i + 1) (drop (suc i) path) a.term a.state)) eo)
                     ∙ sym (one_more rs x.term x.state)
                     ∙ x.same;
@@ -192,7 +192,7 @@ module _ {file index : List ℕ} {rules constructors : ℕ} {table : List (List 
     stop_at Lost moves a others e = ap (λ x. path_answer (followed max_term i letter others x)) (sym e)
     stop_at TooLarge moves a others (z, (b, eo, large)) =
         let over : exceeds max_term letter b.term ≡ true = rw (eq-eqb letter 0 z, lt-ltb max_term (nodes b.term) large) in
-        sym (ap (λ x. path_answer (followed max_term i letter others x)) eo ∙ ap (λ c. path_answer (if c then outgrown i else others b)) over)
+        sym (ap (λ x. path_answer (followed max_term i letter others x)) eo ∙ ap (λ c. path_answer (choose c then outgrown i else others b)) over)
     stop_at (At next) moves a others x = absurd (moves next refl)
 
     pub run_stop : ((h : Held) → step ≡ At h → ⊥) → (r : Replayed) → r ≡ stopped_at step i → Runs file index rules constructors table path cells₀ r

@@ -8,7 +8,7 @@ use mathlib.Core.Option.{none, some}
 use borrow.Author.Tests.{eq-eqb, ne_eqb}
 use lib.ListN.{length, get_or, take}
 use lib.Seq.{get_or-take}
-use Rattle.scheme.specs.Lists.{if◌then◌else◌}
+use Rattle.scheme.specs.Lists.{choose◌then◌else◌}
 use Rattle.casefile.specs.Fields.{byte}
 use Rattle.casefile.specs.Records.{Record}
 use Rattle.casefile.specs.Kinds.{Kind, payloads}
@@ -51,11 +51,11 @@ packed_digit file place k h =
 -- the targets at a place
 targets_none : (file : List ℕ) (arity place : ℕ) → place ≡ 0 → targets_from file arity place ≡ none
 unfolding targets_from
-targets_none file arity place e = ap (λ b. if b then none else some (take arity (four_at file place))) (eq-eqb place 0 e)
+targets_none file arity place e = ap (λ b. choose b then none else some (take arity (four_at file place))) (eq-eqb place 0 e)
 
 targets_there : (file : List ℕ) (arity place : ℕ) → (place ≡ 0 → ⊥) → targets_from file arity place ≡ some (take arity (four_at file place))
 unfolding targets_from
-targets_there file arity place ne = ap (λ b. if b then none else some (take arity (four_at file place))) (ne_eqb place 0 ne)
+targets_there file arity place ne = ap (λ b. choose b then none else some (take arity (four_at file place))) (ne_eqb place 0 ne)
 
 module _ {file index : List ℕ} {constructors : ℕ} {rs : List Record} (ok : Passed rs) (one : length (payloads Kind.states rs) ≤ 1) (ix : Indexed file index Kind.constructor constructors rs) (few : constructors ≤ max_constructors) (rows : RowsFor file index rs)
     (t : List ℕ) (says : (c : ℕ) → c < max_constructors → ConstructorSays file index constructors c t) where

@@ -5,7 +5,7 @@ use mathlib.Core.Path.{◌≡◌, refl, sym, ap, ◌∙◌}
 use mathlib.Core.List.{List}
 use borrow.Author.Tests.{eq-eqb, ne_eqb}
 use lib.ListN.{get_or}
-use Rattle.scheme.specs.Lists.{if◌then◌else◌}
+use Rattle.scheme.specs.Lists.{choose◌then◌else◌}
 use Rattle.index.specs.layout.Layout.{no_number, number_cell, next_cell}
 use Rattle.tables.specs.reading.Cells.{result_of, off_of, node_place, node_at}
 use Rattle.tables.specs.declared.reading.Node.{Node}
@@ -15,11 +15,11 @@ module _ (t : List ℕ) where
   pub off_none : (k g : ℕ) → g ≡ no_number → 0 < k → off_of t k g ≡ no_number
   unfolding off_of
   off_none zero g e h = absurd (omega arith)
-  off_none (suc k) g e h = ap (λ b. if b then no_number else off_of t k (result_of t g)) (eq-eqb g no_number e)
+  off_none (suc k) g e h = ap (λ b. choose b then no_number else off_of t k (result_of t g)) (eq-eqb g no_number e)
 
   pub off_next : (k g : ℕ) → (g ≡ no_number → ⊥) → off_of t (suc k) g ≡ off_of t k (result_of t g)
   unfolding off_of
-  off_next k g ne = ap (λ b. if b then no_number else off_of t k (result_of t g)) (ne_eqb g no_number ne)
+  off_next k g ne = ap (λ b. choose b then no_number else off_of t k (result_of t g)) (ne_eqb g no_number ne)
 
   -- while arrows are taken off: what is left of those that are asked for is taken off what is left
   pub record Left (goal k g i : ℕ) : Type 0 where

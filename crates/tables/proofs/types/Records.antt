@@ -8,7 +8,7 @@ use mathlib.Core.List.{List, [], ◌∷◌}
 use borrow.Author.Tests.{eqb-true, eq-eqb, leb-true, leb-false, not-false}
 use lib.Dec.{eqb, leb}
 use lib.ListN.{length, get_or, drop}
-use Rattle.scheme.specs.Lists.{if◌then◌else◌, any}
+use Rattle.scheme.specs.Lists.{choose◌then◌else◌, any}
 use Rattle.scheme.specs.Types.{Ty, state, arrow, Tys, members}
 use Rattle.casefile.specs.Fields.{field, byte, word}
 use Rattle.casefile.specs.Records.{Record}
@@ -101,8 +101,8 @@ module _ {file index : List ℕ} {n : ℕ} {rs : List Record} (w : Listed file i
       let p = e.payload in
       let is : p ≡ q ∷ [] = sym e.here ∙ x in
       let one = eq-eqb (length p) 1 (ap length is) in
-      let test : (if true then leb (state_count_spec e.earlier) (byte p 0) else any (λ (t : ℕ). leb (count Kind.type e.earlier) t) (words p)) ≡ false
-      = subst (λ b. (if b then leb (state_count_spec e.earlier) (byte p 0) else any (λ (t : ℕ). leb (count Kind.type e.earlier) t) (words p)) ≡ false) one e.passed_tests.ranges in
+      let test : (choose true then leb (state_count_spec e.earlier) (byte p 0) else any (λ (t : ℕ). leb (count Kind.type e.earlier) t) (words p)) ≡ false
+      = subst (λ b. (choose b then leb (state_count_spec e.earlier) (byte p 0) else any (λ (t : ℕ). leb (count Kind.type e.earlier) t) (words p)) ≡ false) one e.passed_tests.ranges in
       let l = leb-false (state_count_spec e.earlier) (byte p 0) test in
       let b : byte p 0 ≡ q = ap (λ z. byte z 0) is ∙ omega arith in
       let f = states_few e.passed in

@@ -1,7 +1,7 @@
 -- What our own crates promise each other; nothing here has to be believed.
 -- The flat table of a check, cell by cell. A row is asked for by a number modulo a limit that none reaches.
 use Rattle.std.specs.Prelude.{ℕ, zero, suc, ◌+◌, ◌*◌, ◌/◌, ◌%◌, List, eqb, get_or}
-use Rattle.scheme.specs.Lists.{if◌then◌else◌}
+use Rattle.scheme.specs.Lists.{choose◌then◌else◌}
 use Rattle.index.specs.layout.Layout.{max_states, max_nodes, max_members, max_constructors, groups_at, rows_at, row_limit, row_cells, result_cell, end_cell, states_cell, arrows_cell, many_cell, symbol_cell, own_cell, near_cell, low_cell, high_cell, members_cell, present_at, arities_at, targets_base, place_limit, node_cells, number_cell, next_cell, no_number, max_bindings, pairs_at, pair_cells}
 use Rattle.tables.specs.declared.reading.Node.{Node}
 
@@ -55,7 +55,7 @@ group_of t f = get_or t (groups_at + f % row_limit) 0
 -- a goal with k arrows off
 unfoldable pub off_of : List ℕ → ℕ → ℕ → ℕ
 off_of t zero g = g
-off_of t (suc k) g = let rest = off_of t k (result_of t g) in if eqb g no_number then no_number else rest
+off_of t (suc k) g = let rest = off_of t k (result_of t g) in choose eqb g no_number then no_number else rest
 
 -- of a constructor: the states that have a transition, how many arguments it has; of a state besides: the targets
 abbrev pub present_of_spec : List ℕ → ℕ → ℕ

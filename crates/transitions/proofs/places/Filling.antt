@@ -10,7 +10,7 @@ use mathlib.Core.Option.{Option, none, some}
 use borrow.Author.Tests.{eq-eqb, ne_eqb, eqb-false}
 use lib.Dec.{eqb}
 use lib.ListN.{length, get_or, take, drop}
-use Rattle.scheme.specs.Lists.{if◌then◌else◌}
+use Rattle.scheme.specs.Lists.{choose◌then◌else◌}
 use Rattle.scheme.proofs.Lists.{and_no}
 use Rattle.casefile.specs.Fields.{byte}
 use Rattle.casefile.specs.Records.{Record}
@@ -32,13 +32,13 @@ use Rattle.transitions.proofs.places.Rows.{row_from, row_in, row_none, row_some}
 
 -- The row of each state and constructor after a place was stored for one of them.
 module _ (file index : List ℕ) (q c at : ℕ) (lq : q < max_states) (lc : c < max_constructors) (long : index_size ≤ length index) (small : at < 65536) (some_place : 4 ≤ at) where
-  put_row : (x y : ℕ) → y < max_constructors → row_in file (stored index (row_base + (q * max_constructors + c)) at) x y ≡ (if eqb q x && eqb c y then four_at file at else row_in file index x y)
+  put_row : (x y : ℕ) → y < max_constructors → row_in file (stored index (row_base + (q * max_constructors + c)) at) x y ≡ (choose eqb q x && eqb c y then four_at file at else row_in file index x y)
   put_row x y ly = go (ℕ_discrete q x) (ℕ_discrete c y)
     where
       other : (row_base + (x * max_constructors + y) ≡ row_base + (q * max_constructors + c) → ⊥) → row_in file (stored index (row_base + (q * max_constructors + c)) at) x y ≡ row_in file index x y
       other ne = ap (row_from file) (stored_other index (row_base + (q * max_constructors + c)) at (row_base + (x * max_constructors + y)) ne)
 
-      go : Dec (q ≡ x) → Dec (c ≡ y) → row_in file (stored index (row_base + (q * max_constructors + c)) at) x y ≡ (if eqb q x && eqb c y then four_at file at else row_in file index x y)
+      go : Dec (q ≡ x) → Dec (c ≡ y) → row_in file (stored index (row_base + (q * max_constructors + c)) at) x y ≡ (choose eqb q x && eqb c y then four_at file at else row_in file index x y)
       go (yes e) (yes f) = rw (eq-eqb q x e, eq-eqb c y f, ← e, ← f) (ap (row_from file) (stored_here index (row_base + (q * max_constructors + c)) at small (omega arith)) ∙ sym (row_some file at (λ z. omega arith)))
       go (yes e) (no nf) = rw (ne_eqb c y nf, and_no (eqb q x)) (other (λ z. nf (omega arith)))
       go (no ne) d = rw (ne_eqb q x ne) (other (λ z. ne (omega arith)))
@@ -62,7 +62,7 @@ listed arities (p ∷ ps) zero h e =
 listed arities (p ∷ ps) (suc i) h e = go (eqb (byte p 0) (byte (get_or ps i []) 0) && eqb (byte p 1) (byte (get_or ps i []) 1)) (listed arities ps i (omega arith)) e
   where
     go : (b : Bool) → (targets_at (map (transition_of arities) ps) (byte (get_or ps i []) 0) (byte (get_or ps i []) 1) ≡ none → ⊥)
-        → (if b then some (take (get_or arities (byte p 1) 0) (drop 2 p)) else targets_at (map (transition_of arities) ps) (byte (get_or ps i []) 0) (byte (get_or ps i []) 1)) ≡ none → ⊥
+        → (choose b then some (take (get_or arities (byte p 1) 0) (drop 2 p)) else targets_at (map (transition_of arities) ps) (byte (get_or ps i []) 0) (byte (get_or ps i []) 1)) ≡ none → ⊥
     go true others e = let z : ◌≡◌ {A = ℕ} 0 1 = cc in absurd (omega arith)
     go false others e = others e
 
@@ -81,11 +81,11 @@ targets_row : (file : List ℕ) (arity place : ℕ) (o : Option (List ℕ)) → 
 unfolding targets_in row_from targets_from
 targets_row file arity place o e there = go (eqb place 0) refl e
   where
-    taken : (b : Bool) → (place ≡ 0 → ⊥) → (if b then none else some (take arity (four_at file place))) ≡ o → some (take arity (four_at file place)) ≡ o
+    taken : (b : Bool) → (place ≡ 0 → ⊥) → (choose b then none else some (take arity (four_at file place))) ≡ o → some (take arity (four_at file place)) ≡ o
     taken true ne e = absurd (there ne (sym e))
     taken false ne e = e
 
-    go : (b : Bool) → eqb place 0 ≡ b → targets_in arity (if b then no_row else four_at file place) ≡ o → (if b then none else some (take arity (four_at file place))) ≡ o
+    go : (b : Bool) → eqb place 0 ≡ b → targets_in arity (choose b then no_row else four_at file place) ≡ o → (choose b then none else some (take arity (four_at file place))) ≡ o
     go true f e = e
     go false f e = taken (eqb (byte file (place + 2)) 255) (eqb-false place 0 f) e
 
@@ -117,7 +117,7 @@ module _ {file before : List ℕ} {n : ℕ} where
     place : at ≡ get_or before (transitions_at + (k - 1)) 0
     place = is.value ∙ so.stays (transitions_at + (k - 1)) (omega (arith, so.count, so.few))
 
-    here : {rs : List Record} → Passed rs → Indexed file before Kind.transition n rs → index_size ≤ length before → (x y : ℕ) → x < max_states → y < max_constructors → row_for (drop (k - 1) (payloads Kind.transition rs)) x y ≡ (if eqb q x && eqb c y then four_at file at else row_in file index x y)
+    here : {rs : List Record} → Passed rs → Indexed file before Kind.transition n rs → index_size ≤ length before → (x y : ℕ) → x < max_states → y < max_constructors → row_for (drop (k - 1) (payloads Kind.transition rs)) x y ≡ (choose eqb q x && eqb c y then four_at file at else row_in file index x y)
     here {rs} ok ix l x y hx hy = row_back file before n ok ix k h so.count at place q c hq hc x y (row_in file index x y) (so.rows rs ok ix l x y hx hy)
 
     pub sofar_put : q < max_states → c < max_constructors → {after : List ℕ} → after ≡ stored index (row_base + (q * max_constructors + c)) at → Sofar file before n (k - 1) after

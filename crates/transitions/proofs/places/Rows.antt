@@ -4,14 +4,14 @@ use mathlib.Core.Path.{◌≡◌}
 use mathlib.Core.List.{List}
 use borrow.Author.Tests.{eq-eqb, ne_eqb}
 use lib.Dec.{eqb}
-use Rattle.scheme.specs.Lists.{if◌then◌else◌}
+use Rattle.scheme.specs.Lists.{choose◌then◌else◌}
 use Rattle.transitions.specs.table.Moves.{four_at}
 use Rattle.transitions.proofs.table.Filling.{no_row}
 use Rattle.transitions.specs.places.RowPlaces.{place_in}
 
 -- the four targets of a transition whose payload lies at a place; 255 where there is none
 unfoldable pub row_from : List ℕ → ℕ → List ℕ
-row_from file place = if eqb place 0 then no_row else four_at file place
+row_from file place = choose eqb place 0 then no_row else four_at file place
 
 -- the row of a state and a constructor
 abbrev pub row_in : List ℕ → List ℕ → ℕ → ℕ → List ℕ

@@ -10,7 +10,7 @@ use borrow.Author.Tests.{eq-eqb, ne_eqb, eqb-true, not-false}
 use lib.Dec.{eqb}
 use lib.ListN.{length, get_or, set, drop, replicate, length-set, get_or-replicate}
 use lib.Seq.{get_or-set_same, get_or-set_other, drop-cons, drop-length}
-use Rattle.scheme.specs.Lists.{if◌then◌else◌}
+use Rattle.scheme.specs.Lists.{choose◌then◌else◌}
 use Rattle.scheme.proofs.Lists.{and_no}
 use Rattle.casefile.specs.Fields.{byte}
 use Rattle.casefile.specs.Records.{Record}
@@ -44,10 +44,10 @@ module _ (t : List (List (List ℕ))) (w : Shaped t) (a b : ℕ) (r : List ℕ) 
       go q h (yes e) = rw (e, get_or-set_same t a (set (get_or t a []) b r) [] (omega (arith, w.states))) (length-set (get_or t a []) b r ∙ w.constructors a ha)
       go q h (no ne) = rw (get_or-set_other t a q (set (get_or t a []) b r) [] ne) (w.constructors q h)
 
-  put_row : (q c : ℕ) → row_at (set t a (set (get_or t a []) b r)) q c ≡ (if eqb a q && eqb b c then r else row_at t q c)
+  put_row : (q c : ℕ) → row_at (set t a (set (get_or t a []) b r)) q c ≡ (choose eqb a q && eqb b c then r else row_at t q c)
   put_row q c = go (ℕ_discrete q a) (ℕ_discrete c b)
     where
-      go : Dec (q ≡ a) → Dec (c ≡ b) → row_at (set t a (set (get_or t a []) b r)) q c ≡ (if eqb a q && eqb b c then r else row_at t q c)
+      go : Dec (q ≡ a) → Dec (c ≡ b) → row_at (set t a (set (get_or t a []) b r)) q c ≡ (choose eqb a q && eqb b c then r else row_at t q c)
       go (yes e) (yes f) = rw (eq-eqb a q (sym e), eq-eqb b c (sym f), e, f, get_or-set_same t a (set (get_or t a []) b r) [] (omega (arith, w.states))) (get_or-set_same (get_or t a []) b r [] (omega (arith, w.constructors a ha)))
       go (yes e) (no nf) = rw (eq-eqb a q (sym e), ne_eqb b c (λ z. nf (sym z)), e, get_or-set_same t a (set (get_or t a []) b r) [] (omega (arith, w.states))) (get_or-set_other (get_or t a []) b c r [] nf)
       go (no ne) d = rw (ne_eqb a q (λ z. ne (sym z))) (ap (λ (l : List (List ℕ)). get_or l c []) (get_or-set_other t a q (set (get_or t a []) b r) [] ne))
@@ -60,10 +60,10 @@ six {rs} ok i h =
     ap length e.here ∙ eqb-true (length e.payload) 6 (not-false (eqb (length e.payload) 6) e.passed_tests.fits)
 
 -- a transition of another state, or of another constructor
-pub other_state : (q c x y : ℕ) (four others : List ℕ) → max_states ≤ q → x < max_states → others ≡ (if eqb q x && eqb c y then four else others)
+pub other_state : (q c x y : ℕ) (four others : List ℕ) → max_states ≤ q → x < max_states → others ≡ (choose eqb q x && eqb c y then four else others)
 other_state q c x y four others l h = rw (ne_eqb q x (λ z. omega arith))
 
-pub other_constructor : (q c x y : ℕ) (four others : List ℕ) → max_constructors ≤ c → y < max_constructors → others ≡ (if eqb q x && eqb c y then four else others)
+pub other_constructor : (q c x y : ℕ) (four others : List ℕ) → max_constructors ≤ c → y < max_constructors → others ≡ (choose eqb q x && eqb c y then four else others)
 other_constructor q c x y four others l h = rw (ne_eqb c y (λ z. omega arith), and_no (eqb q x))
 
 module _ (file index : List ℕ) (n : ℕ) where
@@ -75,7 +75,7 @@ module _ (file index : List ℕ) (n : ℕ) where
     there : (j : ℕ) → j < 6 → byte file (at + j) ≡ byte (get_or (payloads Kind.transition rs) i []) j
     there j l = let s = six ok i (omega (arith, many)) in ap (λ z. byte file (z + j)) e ∙ ix.field_there i h 1 j (omega arith)
 
-    row_here : (q c : ℕ) → row_for (drop i (payloads Kind.transition rs)) q c ≡ (if eqb (byte file at) q && eqb (byte file (at + 1)) c then four_at file at else row_for (drop (suc i) (payloads Kind.transition rs)) q c)
+    row_here : (q c : ℕ) → row_for (drop i (payloads Kind.transition rs)) q c ≡ (choose eqb (byte file at) q && eqb (byte file (at + 1)) c then four_at file at else row_for (drop (suc i) (payloads Kind.transition rs)) q c)
     unfolding row_for
     row_here q c =
         let first : byte file at ≡ byte (get_or (payloads Kind.transition rs) i []) 0 = ap (byte file) (sym (add-zero at)) ∙ there 0 (omega arith) in
@@ -88,17 +88,17 @@ module _ (file index : List ℕ) (n : ℕ) where
 
   -- the rows from a transition on, by those behind it
   pub row_back : {rs : List Record} → Passed rs → Indexed file index Kind.transition n rs → (k : ℕ) → 0 < k → k ≤ n → (at : ℕ) → at ≡ get_or index (transitions_at + (k - 1)) 0 → (q c : ℕ) → q ≡ byte file at → c ≡ byte file (at + 1)
-      → (x y : ℕ) (others : List ℕ) → others ≡ row_for (drop k (payloads Kind.transition rs)) x y → row_for (drop (k - 1) (payloads Kind.transition rs)) x y ≡ (if eqb q x && eqb c y then four_at file at else others)
+      → (x y : ℕ) (others : List ℕ) → others ≡ row_for (drop k (payloads Kind.transition rs)) x y → row_for (drop (k - 1) (payloads Kind.transition rs)) x y ≡ (choose eqb q x && eqb c y then four_at file at else others)
   row_back {rs} ok ix k h few at e q c hq hc x y others same =
       let back : suc (k - 1) ≡ k = omega arith in
       rw (hq, hc) (row_here ok ix (k - 1) (omega arith) at e x y
-      ∙ ap (λ l. if eqb (byte file at) x && eqb (byte file (at + 1)) y then four_at file at else l) (ap (λ m. row_for (drop m (payloads Kind.transition rs)) x y) back ∙ sym same))
+      ∙ ap (λ l. choose eqb (byte file at) x && eqb (byte file (at + 1)) y then four_at file at else l) (ap (λ m. row_for (drop m (payloads Kind.transition rs)) x y) back ∙ sym same))
 
   pub sofar_none : n ≤ max_transitions → Sofar file index n blank n
   sofar_none h = record { count = omega arith; few = h; shaped = blank_shaped; rows = λ rs ok ix q c hq hc. blank_row q c hq hc ∙ sym (none_behind ix q c) }
 
   module _ (t : List (List (List ℕ))) (k : ℕ) (so : Sofar file index n t k) (h : 0 < k) (at : ℕ) (e : at ≡ get_or index (transitions_at + (k - 1)) 0) (q c : ℕ) (hq : q ≡ byte file at) (hc : c ≡ byte file (at + 1)) where
-    here : {rs : List Record} → Passed rs → Indexed file index Kind.transition n rs → (x y : ℕ) → x < max_states → y < max_constructors → row_for (drop (k - 1) (payloads Kind.transition rs)) x y ≡ (if eqb q x && eqb c y then four_at file at else row_at t x y)
+    here : {rs : List Record} → Passed rs → Indexed file index Kind.transition n rs → (x y : ℕ) → x < max_states → y < max_constructors → row_for (drop (k - 1) (payloads Kind.transition rs)) x y ≡ (choose eqb q x && eqb c y then four_at file at else row_at t x y)
     here {rs} ok ix x y hx hy = row_back ok ix k h so.count at e q c hq hc x y (row_at t x y) (so.rows rs ok ix x y hx hy)
 
     pub sofar_put : q < max_states → c < max_constructors → (a b d f : ℕ) → a ≡ byte file (at + 2) → b ≡ byte file (at + 3) → d ≡ byte file (at + 4) → f ≡ byte file (at + 5)
@@ -110,7 +110,7 @@ module _ (file index : List ℕ) (n : ℕ) where
           count = omega (arith, so.count);
           few = so.few;
           shaped = put_shaped t so.shaped q c r lq lc;
-          rows = λ rs ok ix x y hx hy. put_row t so.shaped q c r lq lc x y ∙ ap (λ l. if eqb q x && eqb c y then l else row_at t x y) same ∙ sym (here ok ix x y hx hy);
+          rows = λ rs ok ix x y hx hy. put_row t so.shaped q c r lq lc x y ∙ ap (λ l. choose eqb q x && eqb c y then l else row_at t x y) same ∙ sym (here ok ix x y hx hy);
         }
 
     pub sofar_state : max_states ≤ q → Sofar file index n t (k - 1)

@@ -9,7 +9,7 @@ use mathlib.Core.Option.{none, some}
 use borrow.Author.Tests.{eqb-true, ne_eqb, leb-false, ltb-false}
 use lib.Dec.{eqb, leb, ltb}
 use lib.ListN.{length, get_or, take, drop, length-map, length-append}
-use Rattle.scheme.specs.Lists.{if◌then◌else◌, any, select, last_or}
+use Rattle.scheme.specs.Lists.{choose◌then◌else◌, any, select, last_or}
 use Rattle.scheme.proofs.Lists.{or_false, select_append, last_more}
 use Rattle.casefile.specs.Fields.{field, byte}
 use Rattle.casefile.specs.Records.{Record}
@@ -77,7 +77,7 @@ module _ (arities : List ℕ) (q c : ℕ) where
   row_targets [] h = refl
   row_targets (p ∷ ps) h = go (eqb (byte p 0) q) (eqb (byte p 1) c) refl (row_targets ps (λ i l. h (suc i) (omega arith)))
     where
-      go : (a b : Bool) → eqb (byte p 1) c ≡ b → targets_in (get_or arities c 0) (row_for ps q c) ≡ targets_at (map (transition_of arities) ps) q c → targets_in (get_or arities c 0) (if a && b then four_at p 0 else row_for ps q c) ≡ (if a && b then some (take (get_or arities (byte p 1) 0) (drop 2 p)) else targets_at (map (transition_of arities) ps) q c)
+      go : (a b : Bool) → eqb (byte p 1) c ≡ b → targets_in (get_or arities c 0) (row_for ps q c) ≡ targets_at (map (transition_of arities) ps) q c → targets_in (get_or arities c 0) (choose a && b then four_at p 0 else row_for ps q c) ≡ (choose a && b then some (take (get_or arities (byte p 1) 0) (drop 2 p)) else targets_at (map (transition_of arities) ps) q c)
       go true true e others =
           let (long, small) = h 0 (omega arith) in
           rw (ne_eqb (byte p 2) 255 (λ z. omega arith)) (ap₂ (λ n l. some (take n l)) (ap (λ m. get_or arities m 0) (sym (eqb-true (byte p 1) c e))) (sym (six_four p long)))
@@ -95,7 +95,7 @@ unfolding row_for
 row_four [] q c = refl
 row_four (p ∷ ps) q c = go (eqb (byte p 0) q && eqb (byte p 1) c) (row_four ps q c)
   where
-    go : (b : Bool) → length (row_for ps q c) ≡ 4 → length (if b then four_at p 0 else row_for ps q c) ≡ 4
+    go : (b : Bool) → length (row_for ps q c) ≡ 4 → length (choose b then four_at p 0 else row_for ps q c) ≡ 4
     go true others = refl
     go false others = others
 
@@ -142,7 +142,7 @@ unfolding targets_at transition_of
 unnamed arities [] q c h = refl
 unnamed arities (p ∷ ps) q c h = go (eqb (byte p 0) q) (eqb (byte p 1) c) refl refl (unnamed arities ps q c (λ i l. h (suc i) (omega arith)))
   where
-    go : (a b : Bool) → eqb (byte p 0) q ≡ a → eqb (byte p 1) c ≡ b → targets_at (map (transition_of arities) ps) q c ≡ none → (if a && b then some (take (get_or arities (byte p 1) 0) (drop 2 p)) else targets_at (map (transition_of arities) ps) q c) ≡ none
+    go : (a b : Bool) → eqb (byte p 0) q ≡ a → eqb (byte p 1) c ≡ b → targets_at (map (transition_of arities) ps) q c ≡ none → (choose a && b then some (take (get_or arities (byte p 1) 0) (drop 2 p)) else targets_at (map (transition_of arities) ps) q c) ≡ none
     go true true e f others = absurd (h 0 (omega arith) (eqb-true (byte p 0) q e, eqb-true (byte p 1) c f))
     go true false e f others = others
     go false b e f others = others

@@ -12,7 +12,7 @@ use borrow.Author.Tests.{eqb-true, leb-false, ltb-false}
 use lib.Dec.{eqb, leb, ltb}
 use lib.ListN.{length, get_or, take, drop, length-append, length-take, length-drop, get_or-eq_default}
 use lib.Seq.{length-take-le, get_or-take, get_or-drop}
-use Rattle.scheme.specs.Lists.{if◌then◌else◌, any, last_or}
+use Rattle.scheme.specs.Lists.{choose◌then◌else◌, any, last_or}
 use Rattle.scheme.proofs.Lists.{or_false, any_at}
 use Rattle.casefile.specs.Fields.{byte}
 use Rattle.casefile.specs.Records.{Record}
@@ -75,7 +75,7 @@ of arities (p ∷ ps) q c qs e = go (eqb (byte p 0) q) (eqb (byte p 1) c) refl r
     later o = record { number = suc o.number; inside = omega (arith, o.inside); from = o.from; over = o.over; are = o.are }
 
     go : (a b : Bool) → eqb (byte p 0) q ≡ a → eqb (byte p 1) c ≡ b → (targets_at (map (transition_of arities) ps) q c ≡ some qs → Of arities ps q c qs)
-        → (if a && b then some (take (get_or arities (byte p 1) 0) (drop 2 p)) else targets_at (map (transition_of arities) ps) q c) ≡ some qs → Of arities (p ∷ ps) q c qs
+        → (choose a && b then some (take (get_or arities (byte p 1) 0) (drop 2 p)) else targets_at (map (transition_of arities) ps) q c) ≡ some qs → Of arities (p ∷ ps) q c qs
     go true true f g others e =
         let over = eqb-true (byte p 1) c g in
         let here : qs ≡ take (get_or arities (byte p 1) 0) (drop 2 p) = cc in

@@ -2,7 +2,7 @@
 -- The transitions of a file by state and constructor: where the payload of each lies in the file, 0 where there is none.
 use Rattle.std.specs.Prelude.{ℕ, ◌+◌, ◌*◌, ◌<◌, ◌≤◌, ◌≡◌, List, eqb, length, get_or, take}
 use Rattle.std.proofs.Math.Option.{Option, none, some}
-use Rattle.scheme.specs.Lists.{if◌then◌else◌}
+use Rattle.scheme.specs.Lists.{choose◌then◌else◌}
 use Rattle.casefile.specs.Records.{Record}
 use Rattle.casefile.specs.Kinds.{Kind}
 use Rattle.casefile.specs.Tables.{arities_of, transitions_of, targets_at}
@@ -21,7 +21,7 @@ place_in index q c = get_or index (row_base + (q * max_constructors + c)) 0
 
 -- the targets of a transition of a given number of arguments whose payload lies at a place; none at place 0
 unfoldable pub targets_from : List ℕ → ℕ → ℕ → Option (List ℕ)
-targets_from file arity place = if eqb place 0 then none else some (take arity (four_at file place))
+targets_from file arity place = choose eqb place 0 then none else some (take arity (four_at file place))
 
 -- the index has the targets of the definitions
 pub record RowsFor (file index : List ℕ) (rs : List Record) : Type 0 where

@@ -2,7 +2,7 @@
 -- The transition table: state by constructor, four targets each; 255 where there is no transition.
 use Rattle.std.specs.Prelude.{ℕ, ◌+◌, ◌<◌, ◌≤◌, ◌≡◌, ◌&&◌, List, [], ◌∷◌, eqb, length, get_or, take, drop}
 use Rattle.std.proofs.Math.Option.{Option, none, some}
-use Rattle.scheme.specs.Lists.{if◌then◌else◌}
+use Rattle.scheme.specs.Lists.{choose◌then◌else◌}
 use Rattle.casefile.specs.Fields.{byte}
 use Rattle.casefile.specs.Records.{Record}
 use Rattle.casefile.specs.Kinds.{Kind, payloads}
@@ -22,11 +22,11 @@ four_at s at = byte s (at + 2) ∷ byte s (at + 3) ∷ byte s (at + 4) ∷ byte 
 -- the row of the first transition for a state and a constructor
 unfoldable pub row_for : List (List ℕ) → ℕ → ℕ → List ℕ
 row_for [] q c = 255 ∷ 255 ∷ 255 ∷ 255 ∷ []
-row_for (p ∷ ps) q c = let others = row_for ps q c in if eqb (byte p 0) q && eqb (byte p 1) c then four_at p 0 else others
+row_for (p ∷ ps) q c = let others = row_for ps q c in choose eqb (byte p 0) q && eqb (byte p 1) c then four_at p 0 else others
 
 -- a row as the targets of a constructor of a given number of arguments
 unfoldable pub targets_in : ℕ → List ℕ → Option (List ℕ)
-targets_in arity row = if eqb (get_or row 0 0) 255 then none else some (take arity row)
+targets_in arity row = choose eqb (get_or row 0 0) 255 then none else some (take arity row)
 
 -- a table holds the targets of the definitions
 pub record TableFor (rs : List Record) (t : List (List (List ℕ))) : Type 0 where

@@ -7,7 +7,7 @@ use mathlib.Core.List.{List, [], ◌∷◌, ◌++◌}
 use lib.Dec.{eqb}
 use lib.ListN.{length, get_or, set, length-set, get_or-append}
 use lib.Seq.{get_or_at, get_or-set_same, get_or-set_other}
-use Rattle.scheme.specs.Lists.{if◌then◌else◌}
+use Rattle.scheme.specs.Lists.{choose◌then◌else◌}
 use Rattle.index.specs.layout.Layout.{max_types, hashes, hashes_at, links_at, places_at}
 use Rattle.index.specs.entries.Chains.{hash_of_spec, latest, Chained}
 use Rattle.index.proofs.chains.Hashing.{hash_few}
@@ -30,7 +30,7 @@ latest_more : (ps : List (List ℕ)) (p : List ℕ) (h n : ℕ) → n ≤ length
 unfolding latest
 latest_more ps p h zero l = refl
 latest_more ps p h (suc n) l =
-    ap₂ (λ (x : List ℕ) (y : ℕ). if eqb (hash_of_spec x) h then suc n else y) (get_or-append ps (p ∷ []) [] n l) (latest_more ps p h n (omega arith))
+    ap₂ (λ (x : List ℕ) (y : ℕ). choose eqb (hash_of_spec x) h then suc n else y) (get_or-append ps (p ∷ []) [] n l) (latest_more ps p h n (omega arith))
 
 -- a type more: its link is the head of its hash, and it becomes that head
 module _ (index : List ℕ) (ps : List (List ℕ)) (n : ℕ) (p : List ℕ) (long : places_at ≤ length index) (so_many : length ps ≡ n) (few : n < max_types) (c : Chained index ps n) where

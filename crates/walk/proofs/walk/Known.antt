@@ -11,7 +11,7 @@ use borrow.Author.Tests.{eq-eqb, ne_eqb, le-ltb, lt-ltb}
 use lib.Dec.{eqb, ltb}
 use lib.ListN.{length, get_or, set, length-set, length-map, length-append, get_or-append}
 use lib.Seq.{get_or_at, get_or-set_same, get_or-set_other, get_or-append_seam}
-use Rattle.scheme.specs.Lists.{if◌then◌else◌, keep_if, select}
+use Rattle.scheme.specs.Lists.{choose◌then◌else◌, keep_if, select}
 use Rattle.scheme.proofs.Lists.{select_append}
 use Rattle.scheme.specs.Sorts.{Sort, o, arguments}
 use Rattle.casefile.specs.Fields.{field, word}
@@ -35,7 +35,7 @@ use Rattle.walk.proofs.walk.Chains.{chained_below, chained_more}
 
 -- the number of the kind whose block holds a place of the index
 block_of : ℕ → ℕ
-block_of n = if ltb n constructors_at then 1 else (if ltb n nonterminals_at then 2 else (if ltb n rules_at then 3 else (if ltb n transitions_at then 4 else (if ltb n types_at then 6 else (if ltb n bindings_at then 7 else (if ltb n states_at then 8 else (if ltb n path_at then 5 else 9)))))))
+block_of n = choose ltb n constructors_at then 1 else (choose ltb n nonterminals_at then 2 else (choose ltb n rules_at then 3 else (choose ltb n transitions_at then 4 else (choose ltb n types_at then 6 else (choose ltb n bindings_at then 7 else (choose ltb n states_at then 8 else (choose ltb n path_at then 5 else 9)))))))
 
 block : (k : Kind) (i : ℕ) → i < room k → block_of (base k + i) ≡ number k
 unfolding block_of number

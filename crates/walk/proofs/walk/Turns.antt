@@ -11,7 +11,7 @@ use borrow.Author.Tests.{lt-ltb, le-ltb, leb-false, ltb-false, eq-eqb}
 use lib.Dec.{ltb, leb, eqb}
 use lib.ListN.{length, get_or, set, length-set}
 use lib.Seq.{get_or-set_same}
-use Rattle.scheme.specs.Lists.{if◌then◌else◌, last_or, select}
+use Rattle.scheme.specs.Lists.{choose◌then◌else◌, last_or, select}
 use Rattle.scheme.specs.Sorts.{o, arguments}
 use Rattle.casefile.specs.Fields.{word}
 use Rattle.casefile.specs.Records.{Record, record_at, end, next, records_of, listed}
@@ -100,8 +100,8 @@ code_none : (rs : List Record) (r : Record) (k : Kind) → 0 ≡ code_for rs r.p
 unfolding code_for refuse_as first
 code_none rs r k e = by (wrong_length k (length r.payload)) (too_many k (count k rs) || too_large rs r.payload k) (out_of_range rs r.payload k) (misplaced rs r.payload k) e
   where
-    by : (a b c d : Bool) → ◌≡◌ {A = ℕ} 0 (if a then 4 else (if b then 5 else (if c then 6 else (if d then 7 else 0))))
-        → ◌≡◌ {A = Option Refusal} (if a then some (record { number = 4; place = r.place }) else (if b then some (record { number = 5; place = r.place }) else (if c then some (record { number = 6; place = r.place }) else (if d then some (record { number = 7; place = r.place }) else none)))) none
+    by : (a b c d : Bool) → ◌≡◌ {A = ℕ} 0 (choose a then 4 else (choose b then 5 else (choose c then 6 else (choose d then 7 else 0))))
+        → ◌≡◌ {A = Option Refusal} (choose a then some (record { number = 4; place = r.place }) else (choose b then some (record { number = 5; place = r.place }) else (choose c then some (record { number = 6; place = r.place }) else (choose d then some (record { number = 7; place = r.place }) else none)))) none
     by true b c d e = absurd (omega arith)
     by false true c d e = absurd (omega arith)
     by false false true d e = absurd (omega arith)
@@ -115,8 +115,8 @@ code_some rs r k n e ne = by (wrong_length k (length r.payload)) (too_many k (co
     as_number : (m : ℕ) → n ≡ m → ◌≡◌ {A = Option Refusal} (some (record { number = m; place = r.place })) (some (record { number = n; place = r.place }))
     as_number m f = ap (λ z. some (record { number = z; place = r.place })) (sym f)
 
-    by : (a b c d : Bool) → n ≡ (if a then 4 else (if b then 5 else (if c then 6 else (if d then 7 else 0))))
-        → ◌≡◌ {A = Option Refusal} (if a then some (record { number = 4; place = r.place }) else (if b then some (record { number = 5; place = r.place }) else (if c then some (record { number = 6; place = r.place }) else (if d then some (record { number = 7; place = r.place }) else none)))) (some (record { number = n; place = r.place }))
+    by : (a b c d : Bool) → n ≡ (choose a then 4 else (choose b then 5 else (choose c then 6 else (choose d then 7 else 0))))
+        → ◌≡◌ {A = Option Refusal} (choose a then some (record { number = 4; place = r.place }) else (choose b then some (record { number = 5; place = r.place }) else (choose c then some (record { number = 6; place = r.place }) else (choose d then some (record { number = 7; place = r.place }) else none)))) (some (record { number = n; place = r.place }))
     by true b c d e = as_number 4 e
     by false true c d e = as_number 5 e
     by false false true d e = as_number 6 e

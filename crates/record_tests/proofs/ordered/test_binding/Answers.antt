@@ -7,7 +7,7 @@ use mathlib.Core.List.{List}
 use mathlib.Core.Logic.{⊎_elim}
 use native.Mathlib.Omega.{arith}
 use borrow.Author.Tests.{le-leb, lt-leb, eq-eqb, ne_eqb}
-use Rattle.scheme.specs.Lists.{if◌then◌else◌}
+use Rattle.scheme.specs.Lists.{choose◌then◌else◌}
 use Rattle.casefile.specs.Records.{Record}
 use Rattle.casefile.specs.Kinds.{nonterminal, type, binding, count}
 use Rattle.casefile.specs.Refusals.{wrong_length, too_many, too_large, out_of_range, misplaced}
@@ -18,7 +18,7 @@ use Rattle.record_tests.proofs.ordered.test_binding.Goals as goal
 
 -- where 4 to 6 are not met, 7 decides
 decided : (rs : List Record) (p : List ℕ) {n f t fs ts : ℕ} → length p ≡ 4 → n < max_bindings → f ≡ word p 0 → t ≡ word p 2 → f < fs → t < ts
-    → count binding rs ≡ n → count nonterminal rs ≡ fs → count type rs ≡ ts → (if misplaced rs p binding then 7 else 0) ≡ code_for rs p binding
+    → count binding rs ≡ n → count nonterminal rs ≡ fs → count type rs ≡ ts → (choose misplaced rs p binding then 7 else 0) ≡ code_for rs p binding
 unfolding code_for wrong_length too_many too_large out_of_range
 decided rs p {n} {f} {t} {fs} {ts} l few ef et lf lt n' fs' ts' =
     simp (eq-eqb (length p) 4 l, n', lt-leb max_bindings n few, fs', ts', ← ef, ← et, lt-leb fs f lf, lt-leb ts t lt)

@@ -8,7 +8,7 @@ use mathlib.Core.List.{List}
 use mathlib.Core.Logic.{⊎_elim}
 use native.Mathlib.Omega.{arith}
 use borrow.Author.Tests.{le-leb, lt-leb, eq-eqb, ne_eqb}
-use Rattle.scheme.specs.Lists.{if◌then◌else◌}
+use Rattle.scheme.specs.Lists.{choose◌then◌else◌}
 use Rattle.casefile.specs.Records.{Record}
 use Rattle.casefile.specs.Kinds.{constructor, transition, count}
 use Rattle.casefile.specs.Tables.{state_count_spec}
@@ -32,7 +32,7 @@ ranges {file} {index} {states} {constructors} rs p {q} {a} {place} {arity} {r} e
 
 -- where 4 to 6 are not met, 7 decides
 decided : (rs : List Record) (p : List ℕ) {n : ℕ} → length p ≡ 6 → n < max_transitions → count transition rs ≡ n → out_of_range rs p transition ≡ false
-    → (if misplaced rs p transition then 7 else 0) ≡ code_for rs p transition
+    → (choose misplaced rs p transition then 7 else 0) ≡ code_for rs p transition
 unfolding code_for wrong_length too_many too_large
 decided rs p {n} l few n' r = simp (eq-eqb (length p) 6 l, n', lt-leb max_transitions n few, r)
 

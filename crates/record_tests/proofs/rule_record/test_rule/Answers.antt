@@ -1,7 +1,7 @@
 use mathlib.Core.Path.{sym, ap, ◌∙◌}
 use native.Mathlib.Omega.{arith}
 use Rattle.record_tests.proofs.rule_record.Codes.{rule_short, rule_odd, rule_large, rule_none, rule_rest}
-use Rattle.scheme.specs.Lists.{if◌then◌else◌}
+use Rattle.scheme.specs.Lists.{choose◌then◌else◌}
 use Rattle.record_tests.proofs.rule_record.test_rule.Goals as goal
 
 pub returns-then-p-lt-NODE : goal.returns-then-p-lt-NODE
@@ -20,7 +20,7 @@ pub returns-then-n-ge-MAX_NONTERMINALS : goal.returns-then-n-ge-MAX_NONTERMINALS
 returns-then-n-ge-MAX_NONTERMINALS c = λ sorts rs co sl cn ix ft fw li. absurd (omega arith)
 
 pub returns-then-wrong_cells : goal.returns-then-wrong_cells
-returns-then-wrong_cells c = λ sorts rs co sl cn ix ft fw li. sym (rule_rest c.args.file.now c.args.index.now c.args.lens.now c.args.n sorts c.args.constructors c.args.nonterminals c.args.p.now rs co sl cn ix ft fw li (omega arith) c.if-p-ne0.false (omega arith) _ _ _ c.place_at.ensures.value c.word_at-s.ensures.value c.place_at-parameters.ensures.value (omega arith) _ c.wrong_cells.ensures ∙ ap (λ v. if v then 6 else 0) c.if-wrong_cells.true)
+returns-then-wrong_cells c = λ sorts rs co sl cn ix ft fw li. sym (rule_rest c.args.file.now c.args.index.now c.args.lens.now c.args.n sorts c.args.constructors c.args.nonterminals c.args.p.now rs co sl cn ix ft fw li (omega arith) c.if-p-ne0.false (omega arith) _ _ _ c.place_at.ensures.value c.word_at-s.ensures.value c.place_at-parameters.ensures.value (omega arith) _ c.wrong_cells.ensures ∙ ap (λ v. choose v then 6 else 0) c.if-wrong_cells.true)
 
 pub returns : goal.returns
-returns c = λ sorts rs co sl cn ix ft fw li. sym (rule_rest c.args.file.now c.args.index.now c.args.lens.now c.args.n sorts c.args.constructors c.args.nonterminals c.args.p.now rs co sl cn ix ft fw li (omega arith) c.if-p-ne0.false (omega arith) _ _ _ c.place_at.ensures.value c.word_at-s.ensures.value c.place_at-parameters.ensures.value (omega arith) _ c.wrong_cells.ensures ∙ ap (λ v. if v then 6 else 0) c.if-wrong_cells.false)
+returns c = λ sorts rs co sl cn ix ft fw li. sym (rule_rest c.args.file.now c.args.index.now c.args.lens.now c.args.n sorts c.args.constructors c.args.nonterminals c.args.p.now rs co sl cn ix ft fw li (omega arith) c.if-p-ne0.false (omega arith) _ _ _ c.place_at.ensures.value c.word_at-s.ensures.value c.place_at-parameters.ensures.value (omega arith) _ c.wrong_cells.ensures ∙ ap (λ v. choose v then 6 else 0) c.if-wrong_cells.false)

@@ -1,4 +1,4 @@
-use Rattle.scheme.specs.Lists.{if◌then◌else◌}
+use Rattle.scheme.specs.Lists.{choose◌then◌else◌}
 use mathlib.Core.Path.{sym, ap, ◌∙◌}
 use native.Mathlib.Omega.{arith}
 use Rattle.record_tests.proofs.sort_record.Codes.{sort_4, sort_many, sort_large, sort_from_law, sort_to, sort_rest}
@@ -20,7 +20,7 @@ pub returns-then-n-to : goal.returns-then-n-to
 returns-then-n-to c = λ rs ix sl. sort_to c.args.file.now c.args.index.now c.args.lens.now c.args.n c.args.p.now rs ix sl c.if-p-ne4.false (omega arith) _ _ _ c.word_at-from.ensures.value c.word_at-to.ensures.value c.arguments_of.ensures (omega arith) (omega arith) c.if-n-to.true
 
 pub returns-then-repeats : goal.returns-then-repeats
-returns-then-repeats c = λ rs ix sl. sym (sort_rest c.args.file.now c.args.index.now c.args.lens.now c.args.n c.args.p.now rs ix sl c.if-p-ne4.false (omega arith) _ _ _ c.word_at-from.ensures.value c.word_at-to.ensures.value c.arguments_of.ensures (omega arith) (omega arith) (omega arith) _ c.repeats.ensures ∙ ap (λ v. if v then 7 else 0) c.if-repeats.true)
+returns-then-repeats c = λ rs ix sl. sym (sort_rest c.args.file.now c.args.index.now c.args.lens.now c.args.n c.args.p.now rs ix sl c.if-p-ne4.false (omega arith) _ _ _ c.word_at-from.ensures.value c.word_at-to.ensures.value c.arguments_of.ensures (omega arith) (omega arith) (omega arith) _ c.repeats.ensures ∙ ap (λ v. choose v then 7 else 0) c.if-repeats.true)
 
 pub returns : goal.returns
-returns c = λ rs ix sl. sym (sort_rest c.args.file.now c.args.index.now c.args.lens.now c.args.n c.args.p.now rs ix sl c.if-p-ne4.false (omega arith) _ _ _ c.word_at-from.ensures.value c.word_at-to.ensures.value c.arguments_of.ensures (omega arith) (omega arith) (omega arith) _ c.repeats.ensures ∙ ap (λ v. if v then 7 else 0) c.if-repeats.false)
+returns c = λ rs ix sl. sym (sort_rest c.args.file.now c.args.index.now c.args.lens.now c.args.n c.args.p.now rs ix sl c.if-p-ne4.false (omega arith) _ _ _ c.word_at-from.ensures.value c.word_at-to.ensures.value c.arguments_of.ensures (omega arith) (omega arith) (omega arith) _ c.repeats.ensures ∙ ap (λ v. choose v then 7 else 0) c.if-repeats.false)
