@@ -189,7 +189,9 @@ def main(argv):
             return changes.get(token, token)
 
         if code == "rt":
-            text = text.replace("if◌then◌else◌", "choose◌then◌else◌")
+            if "if◌then◌else◌" in text:
+                text = text.replace("if◌then◌else◌", "choose◌then◌else◌")
+                text = re.sub(r"(?m)^( *(?:ensures|requires) .*?)\bif\b", r"\1choose", text)
             return re.sub(r"[A-Za-z_][A-Za-z0-9_']*(?:-[a-z][A-Za-z0-9_']*)*", one, text)
         return TOKEN.sub(one, text)
 

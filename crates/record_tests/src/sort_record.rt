@@ -10,7 +10,7 @@ use records::fields::word_at;
 
 // How many arguments sort s has, where it is sort 0 or one of n listed ones, else 0.
 fn arguments_of(lens: &[u16], n: usize, s: usize) -> usize
-    ensures { result ≡ (if leb s n then get_or lens.now s 0 else 0) }
+    ensures { result ≡ (choose leb s n then get_or lens.now s 0 else 0) }
 {
     if n < s {
         return 0;
