@@ -31,8 +31,7 @@ fn words_of(verdict: Verdict) -> [u64; 4]
 
 // Judges the bytes of a file with the flags that are lent. The number of the verdict is returned, and stands in `out`
 // before its three values.
-#[unsafe(no_mangle)]
-pub extern "C" fn plan_judge(file: &[u8], flags: &mut [u8], out: &mut [u64; 4]) -> u64
+pub fn plan_judge(file: &[u8], flags: &mut [u8], out: &mut [u64; 4]) -> u64
     ensures { Judges file.now flags.old flags.new out.new result }
 {
     let words = words_of(judge(file, flags));
