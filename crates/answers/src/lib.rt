@@ -1,3 +1,5 @@
+#![tactic(auto)]
+
 // What a test remembers of a node. Goals stand by 32 in cells of three words: the number of the test, the goals that are known, and
 // the known ones that the node has.
 ghost use Rattle.answers.specs.Answers.{IsCell, Stamped, Looks, Learns};

@@ -1,3 +1,5 @@
+#![tactic(auto)]
+
 // Binding cases: which of the bindings offered are kept, in how many rounds, and whether the start binding is one of them.
 ghost use Rattle.std.specs.Prelude.{◌<◌};
 ghost use Rattle.binding_cases.specs.Judging.{StartsAt, FindsStart, Places, Fills, JudgesBindings};

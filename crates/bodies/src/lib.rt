@@ -1,3 +1,5 @@
+#![tactic(auto)]
+
 // The bodies of rules: whether one is a single term of sort o within 64 levels, and where each of its subterms ends.
 ghost use Rattle.std.specs.Prelude.{◌≡◌, ◌&&◌, true, false, ◌+◌, ◌<◌, ◌/◌, eqb, length, get_or};
 ghost use Rattle.casefile.specs.Fields.{IsField};

@@ -1,3 +1,5 @@
+#![tactic(auto)]
+
 // The judge for programs in other languages.
 ghost use Rattle.std.specs.Prelude.{◌≡◌};
 ghost use Rattle.capi.specs.Exports.{words_of, Judges};

@@ -1,3 +1,5 @@
+#![tactic(auto)]
+
 pub mod fits;
 pub mod masks;
 pub mod misfits;

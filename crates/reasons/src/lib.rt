@@ -1,3 +1,5 @@
+#![tactic(auto)]
+
 // Why a body lacks a state: the search for the node that is the reason.
 mod leading;
 mod missing;

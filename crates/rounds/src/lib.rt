@@ -1,3 +1,5 @@
+#![tactic(auto)]
+
 pub mod dropping;
 pub mod shrinking;
 pub mod tested;

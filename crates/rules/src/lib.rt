@@ -1,3 +1,5 @@
+#![tactic(auto)]
+
 pub mod first_nodes;
 pub mod reading;
 pub mod rules;

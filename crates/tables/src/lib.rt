@@ -1,3 +1,5 @@
+#![tactic(auto)]
+
 pub mod automaton;
 pub mod bits;
 pub mod candidates;

@@ -1,3 +1,5 @@
+#![tactic(auto)]
+
 pub mod check;
 pub mod heads;
 pub mod hints;

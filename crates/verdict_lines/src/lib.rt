@@ -1,3 +1,5 @@
+#![tactic(auto)]
+
 // The line of a verdict, as the programs print it: `proved 2 of 2 rounds 0`, `unproved 0 of 2 rounds 2`,
 // `refuted letters 5 state 1 constructor 0` or `refused 13 at 0`; and that of a dropped binding,
 // `binding 0 round 2 node 0 goal state 0`.

@@ -63,8 +63,7 @@ loop-t-smaller c = omega arith
 
 pub loop-t-preserved : goal.loop-t-preserved
 loop-t-preserved c =
-    let l = c.loop-t in
-    (
+    let l = c.loop-t in (
       omega arith,
       stored_long l.fit l.t _ _ _ ∙ l.invariant.1,
       λ rs li. fitted_more l.fit l.t _ _ _ (omega arith) _ rs (l.invariant.2 rs li)

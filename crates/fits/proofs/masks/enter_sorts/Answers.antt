@@ -40,7 +40,7 @@ loop-i-preserved c =
     let l = c.loop-i in (
       omega arith,
       λ e. elim c.if-number-le-MAX_SORTS.branch [
-        then-number-le-MAX_SORTS w ↦ marked_more _ _ _ l.masks l.i _ _ (l.invariant.1 e) c.place_at.ensures.value c.word_at-number.ensures.value _ w.masks-is (omega arith) w.if-number-le-MAX_SORTS.true
+        | then-number-le-MAX_SORTS w ↦ marked_more _ _ _ l.masks l.i _ _ (l.invariant.1 e) c.place_at.ensures.value c.word_at-number.ensures.value _ w.masks-is (omega arith) w.if-number-le-MAX_SORTS.true
         | else-number-le-MAX_SORTS w ↦ marked_past _ _ _ l.masks l.i _ _ (l.invariant.1 e) c.place_at.ensures.value c.word_at-number.ensures.value _ w.masks-is w.if-number-le-MAX_SORTS.false
       ],
     )

@@ -32,11 +32,10 @@ pub loop-i-smaller : goal.loop-i-smaller
 loop-i-smaller c = omega arith
 
 pub loop-i-preserved : goal.loop-i-preserved
-loop-i-preserved c =
-    (
-      omega arith,
-      fit_more _ _ _ _ _ _ _ _ _ _ _ c.loop-i.invariant.1 c.loop-i-test.true c.place_at-place.ensures.value c.word_at-f.ensures.value c.word_at-t.ensures.value c.place_at.ensures.value c.word_at-s.ensures.value c.fits_sort.ensures c.if-not-fits_sort.false,
-    )
+loop-i-preserved c = (
+  omega arith,
+  fit_more _ _ _ _ _ _ _ _ _ _ _ c.loop-i.invariant.1 c.loop-i-test.true c.place_at-place.ensures.value c.word_at-f.ensures.value c.word_at-t.ensures.value c.place_at.ensures.value c.word_at-s.ensures.value c.fits_sort.ensures c.if-not-fits_sort.false,
+)
 
 pub returns : goal.returns
 returns c = let l = c.loop-i in fit_all _ _ _ _ l.i l.invariant.1 (omega arith)

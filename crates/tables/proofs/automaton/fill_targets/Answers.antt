@@ -28,7 +28,7 @@ overflow_add-c-then-place-ne0 c = omega (arith, c.requires, c.loop-q-test.true)
 pub loop-q-preserved : goal.loop-q-preserved
 loop-q-preserved c =
     elim c.if-place-ne0.branch [
-      then-place-ne0 w ↦ subst (TargetsTo _ _ _ _ _) (sym w.t-is) (targets_more c.loop-q.invariant c.requires c.loop-q-test.true _ c.place_in-place.ensures _ w.packed-targets.ensures.0 w.packed-targets.ensures.1 _ w.store.ensures)
+      | then-place-ne0 w ↦ subst (TargetsTo _ _ _ _ _) (sym w.t-is) (targets_more c.loop-q.invariant c.requires c.loop-q-test.true _ c.place_in-place.ensures _ w.packed-targets.ensures.0 w.packed-targets.ensures.1 _ w.store.ensures)
       | else-place-ne0 w ↦ subst (TargetsTo _ _ _ _ _) (sym w.t-is) (targets_pass c.loop-q.invariant c.requires c.loop-q-test.true _ c.place_in-place.ensures w.if-place-ne0.false)
     ]
 

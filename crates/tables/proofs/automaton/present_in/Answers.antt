@@ -16,7 +16,7 @@ loop-q-init c = presents_none
 pub loop-q-preserved : goal.loop-q-preserved
 loop-q-preserved c =
     elim c.if-place_in-ne0.branch [
-      then-place_in-ne0 w ↦ subst (PresentsTo _ _ _) (sym w.states-is) (presents_put c.loop-q.invariant c.loop-q-test.true c.requires _ c.place_in.ensures w.if-place_in-ne0.true _ w.with_bit-states.ensures)
+      | then-place_in-ne0 w ↦ subst (PresentsTo _ _ _) (sym w.states-is) (presents_put c.loop-q.invariant c.loop-q-test.true c.requires _ c.place_in.ensures w.if-place_in-ne0.true _ w.with_bit-states.ensures)
       | else-place_in-ne0 w ↦ subst (PresentsTo _ _ _) (sym w.states-is) (presents_pass c.loop-q.invariant c.loop-q-test.true c.requires _ c.place_in.ensures w.if-place_in-ne0.false)
     ]
 
