@@ -5,14 +5,10 @@
 //! keeps its tables from call to call. Both run in one thread, by turns; each figure is a median of processor time. Before
 //! that, the fast implementation is compared with the reference of the differential tests.
 //!
-//! Then the library explains the files of all classes: how many times the time of judging that takes, and that of the fast
-//! implementation.
-//!
-//! `bench` measures all classes but `hostile`, growth, and explaining; `bench CLASS..` the classes named, `growth` and `explain`
-//! among them. Of a hostile file one call of each is measured, in seconds.
+//! `bench` measures all classes but `hostile`, and growth; `bench CLASS..` the classes named, `growth` among them. Of a hostile
+//! file one call of each is measured, in seconds.
 
 use differential::classes::{self, Class, Subject};
-use differential::explanation::{self, LENT};
 use differential::fast::Judge;
 use differential::hostile::{self, Hostile};
 use differential::random::Random;
@@ -31,8 +27,6 @@ const TURN: Duration = Duration::from_micros(500);
 const LONGEST: Duration = Duration::from_secs(4);
 /// The ratio that no class is to pass.
 const GOAL: f64 = 1.5;
-/// The time of explaining a file is to be no more than so many times that of judging it.
-const EXPLAINED: f64 = 2.0;
 
 fn main() -> ExitCode {
     match run() {
@@ -45,13 +39,11 @@ fn main() -> ExitCode {
 }
 
 const GROWTH: &str = "growth";
-const EXPLAIN: &str = "explain";
 const HOSTILE: &str = "hostile";
 
 fn run() -> Result<(), String> {
     let named: Vec<String> = std::env::args().skip(1).collect();
     let mut judge = Judge::new();
-    let all = classes::classes()?;
     let mut classes = classes::classes()?;
     let mut series = classes::series();
     test_names(&named, &classes)?;
@@ -60,7 +52,7 @@ fn run() -> Result<(), String> {
         classes.retain(|class| is_named(class.name));
         series.retain(|_| is_named(GROWTH));
     }
-    check(&mut judge, all.iter().chain(&series))?;
+    check(&mut judge, classes.iter().chain(&series))?;
     if !library::LINKED {
         println!("the library is not linked: its column is that of the reference");
     }
@@ -70,9 +62,6 @@ fn run() -> Result<(), String> {
     if !series.is_empty() {
         print_series(&mut judge, &series);
     }
-    if named.is_empty() || is_named(EXPLAIN) {
-        print_explained(&mut judge, &all);
-    }
     if is_named(HOSTILE) {
         print_hostile(&mut judge)?;
     }
@@ -80,7 +69,7 @@ fn run() -> Result<(), String> {
 }
 
 fn test_names(named: &[String], classes: &[Class]) -> Result<(), String> {
-    let known: Vec<&str> = classes.iter().map(|class| class.name).chain([GROWTH, EXPLAIN, HOSTILE]).collect();
+    let known: Vec<&str> = classes.iter().map(|class| class.name).chain([GROWTH, HOSTILE]).collect();
     match named.iter().find(|name| !known.contains(&name.as_str())) {
         None => Ok(()),
         Some(name) => Err(format!("no class {name}; there are: {}", known.join(", "))),
@@ -119,22 +108,16 @@ fn agree(judge: &mut Judge, name: &str, file: &[u8], lent: usize) -> Result<(), 
     if said != expected || ours != theirs {
         return Err(format!("{name}: {expected} expected, the fast implementation says: {said}"));
     }
-    let (mut ours, mut theirs) = ([9; LENT], [9; LENT]);
-    let (expected, explained) = reference::explain(file);
-    explanation::write(&explained, &mut theirs);
-    if judge.explain(file, &mut ours) != expected || ours != theirs {
-        return Err(format!("{name}: the fast implementation explains it otherwise than the reference"));
-    }
     Ok(())
 }
 
 // Measuring
 
-/// Nanoseconds for a call of one thing and of another, and how many times the second the first is. The ratio is that of turns
-/// which follow each other, so that it varies less than the times do.
+/// Nanoseconds for a call of the library and of the fast implementation, and how many times the second the first is. The ratio
+/// is that of turns which follow each other, so that it varies less than the times do.
 struct Times {
-    one: f64,
-    other: f64,
+    library: f64,
+    fast: f64,
     ratio: f64,
 }
 
@@ -178,55 +161,26 @@ fn median(mut values: Vec<f64>) -> f64 {
     values[values.len() / 2]
 }
 
-fn measure(mut one: impl FnMut(), mut other: impl FnMut()) -> Times {
-    let (one_calls, other_calls) = (calls_in_turn(&mut one), calls_in_turn(&mut other));
-    let (mut ones, mut others) = (Vec::new(), Vec::new());
+fn measure(judge: &mut Judge, subject: &Subject) -> Times {
+    let mut flags = [0u8; 1_024];
+    let mut more_flags = [0u8; 1_024];
+    let mut out = [0u64; 4];
+    let mut call_library = || {
+        black_box(library::plan_judge(black_box(&subject.bytes), &mut flags, &mut out));
+    };
+    let mut call_fast = || {
+        black_box(judge.judge(black_box(&subject.bytes), &mut more_flags));
+    };
+    let library_calls = calls_in_turn(&mut call_library);
+    let fast_calls = calls_in_turn(&mut call_fast);
+    let (mut library, mut fast) = (Vec::new(), Vec::new());
     let start = processor_time();
-    while ones.len() < TURNS && (ones.len() < 5 || processor_time() - start < LONGEST) {
-        ones.push(time(one_calls, &mut one).as_nanos() as f64 / f64::from(one_calls));
-        others.push(time(other_calls, &mut other).as_nanos() as f64 / f64::from(other_calls));
+    while library.len() < TURNS && (library.len() < 5 || processor_time() - start < LONGEST) {
+        library.push(time(library_calls, &mut call_library).as_nanos() as f64 / f64::from(library_calls));
+        fast.push(time(fast_calls, &mut call_fast).as_nanos() as f64 / f64::from(fast_calls));
     }
-    let ratios = ones.iter().zip(&others).map(|(one, other)| one / other).collect();
-    Times { ratio: median(ratios), one: median(ones), other: median(others) }
-}
-
-/// The library and the fast implementation judge a file.
-fn measure_judging(judge: &mut Judge, Subject { bytes, .. }: &Subject) -> Times {
-    let (mut flags, mut more_flags, mut out) = ([0; 1_024], [0; 1_024], [0; 4]);
-    measure(
-        || {
-            black_box(library::plan_judge(black_box(bytes), &mut flags, &mut out));
-        },
-        || {
-            black_box(judge.judge(black_box(bytes), &mut more_flags));
-        },
-    )
-}
-
-/// The library explains a file and judges it.
-fn measure_explaining(Subject { bytes, .. }: &Subject) -> Times {
-    let (mut reasons, mut flags, mut out, mut more_out) = ([0; LENT], [0; 1_024], [0; 4], [0; 4]);
-    measure(
-        || {
-            black_box(library::plan_explain(black_box(bytes), &mut reasons, &mut out));
-        },
-        || {
-            black_box(library::plan_judge(black_box(bytes), &mut flags, &mut more_out));
-        },
-    )
-}
-
-/// The library and the fast implementation explain a file.
-fn measure_both_explaining(judge: &mut Judge, Subject { bytes, .. }: &Subject) -> Times {
-    let (mut reasons, mut more_reasons, mut out) = ([0; LENT], [0; LENT], [0; 4]);
-    measure(
-        || {
-            black_box(library::plan_explain(black_box(bytes), &mut reasons, &mut out));
-        },
-        || {
-            black_box(judge.explain(black_box(bytes), &mut more_reasons));
-        },
-    )
+    let ratios = library.iter().zip(&fast).map(|(library, fast)| library / fast).collect();
+    Times { ratio: median(ratios), library: median(library), fast: median(fast) }
 }
 
 fn verdict(subject: &Subject) -> Verdict {
@@ -246,16 +200,16 @@ fn print_classes(judge: &mut Judge, classes: &[Class]) {
     for class in classes {
         let (mut library, mut fast) = (0.0, 0.0);
         for subject in &class.subjects {
-            let times = measure_judging(judge, subject);
-            library += times.one;
-            fast += times.other;
+            let times = measure(judge, subject);
+            library += times.library;
+            fast += times.fast;
             println!(
                 "{:11} {:36} {:6} {:11.0} {:11.0} {:6.2}  {}",
                 class.name,
                 subject.name,
                 subject.bytes.len(),
-                times.one,
-                times.other,
+                times.library,
+                times.fast,
                 times.ratio,
                 verdict(subject)
             );
@@ -286,7 +240,7 @@ fn print_series(judge: &mut Judge, series: &[Class]) {
     for class in series {
         let mut before: Option<Times> = None;
         for subject in &class.subjects {
-            let times = measure_judging(judge, subject);
+            let times = measure(judge, subject);
             let growth = |now: f64, then: fn(&Times) -> f64| {
                 before.as_ref().map_or(String::new(), |before| format!("x{:.2}", now / then(before)))
             };
@@ -294,38 +248,14 @@ fn print_series(judge: &mut Judge, series: &[Class]) {
                 "{:26} {:>6} {:11.0} {:>7} {:11.0} {:>7}",
                 class.name,
                 subject.name,
-                times.one,
-                growth(times.one, |times| times.one),
-                times.other,
-                growth(times.other, |times| times.other)
+                times.library,
+                growth(times.library, |times| times.library),
+                times.fast,
+                growth(times.fast, |times| times.fast)
             );
             before = Some(times);
         }
     }
-}
-
-/// Explaining beside judging, and beside the fast implementation.
-fn print_explained(judge: &mut Judge, classes: &[Class]) {
-    println!();
-    println!("library: plan_explain and plan_judge; fast: the fast implementation explains");
-    println!(
-        "{:11} {:36} {:>11} {:>11} {:>6} {:>11} {:>6}",
-        "class", "file", "explain ns", "judge ns", "ratio", "fast ns", "ratio"
-    );
-    let mut slow = Vec::new();
-    for (class, subject) in classes.iter().flat_map(|class| class.subjects.iter().map(move |subject| (class, subject)))
-    {
-        let (alone, both) = (measure_explaining(subject), measure_both_explaining(judge, subject));
-        println!(
-            "{:11} {:36} {:11.0} {:11.0} {:6.2} {:11.0} {:6.2}",
-            class.name, subject.name, alone.one, alone.other, alone.ratio, both.other, both.ratio
-        );
-        if alone.ratio > EXPLAINED {
-            slow.push(subject.name.as_str());
-        }
-    }
-    let met = if slow.is_empty() { "none".to_string() } else { slow.join("; ") };
-    println!("files explained in more than {EXPLAINED} times the time of judging: {met}");
 }
 
 /// The hostile files at the limits, one call each. The verdicts and the flags must agree. Without the library the fast

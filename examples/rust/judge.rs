@@ -1,7 +1,7 @@
 //! Judges the case file that is its argument and prints the verdict.
 //!
-//!     (cd crates/capi && rt lib) && mkdir -p target
-//!     rustc -O examples/rust/judge.rs -L crates/capi/out -l static=capi -o target/judge_rust
+//!     bin/staticlib
+//!     rustc -O examples/rust/judge.rs -L target/staticlib -l static=capi -o target/judge_rust
 //!     target/judge_rust examples/e.case
 
 use std::process::ExitCode;

@@ -1,11 +1,11 @@
-//! Links the archive that `rt lib` makes in crates/capi. Where there is none, or where WITHOUT_LIBRARY is set, the reference
+//! Links the archive that `bin/staticlib` makes. Where there is none, or where WITHOUT_LIBRARY is set, the reference
 //! stands in the library's place.
 
 use std::env;
 use std::path::PathBuf;
 
 fn main() {
-    let folder = PathBuf::from(env::var("CARGO_MANIFEST_DIR").unwrap_or_default()).join("../../crates/capi/out");
+    let folder = PathBuf::from(env::var("CARGO_MANIFEST_DIR").unwrap_or_default()).join("../../target/staticlib");
     let archive = folder.join("libcapi.a");
     println!("cargo:rustc-check-cfg=cfg(without_library)");
     println!("cargo:rerun-if-env-changed=WITHOUT_LIBRARY");

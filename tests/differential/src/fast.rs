@@ -6,11 +6,9 @@
 //! again that rested on a dropped one, and what served last is tried first. A replay shares the parts of its terms.
 
 mod check;
-mod reasons;
 mod replay;
 mod sets;
 
-use crate::explanation::NUMBERS;
 use crate::verdict::Verdict;
 use check::{Found, Hint, FEW, HINTS, OWN_HINTS};
 use replay::{Cell, CELLS};
@@ -185,9 +183,6 @@ pub struct Judge {
     hints: [Hint; HINTS],
     own_hints: [Hint; OWN_HINTS],
     call: u64,
-    /// Whether reasons are asked for, and the numbers of each binding.
-    explaining: bool,
-    explained: [[u16; NUMBERS]; MOST_BINDINGS],
     // replay
     cells: [[Cell; CELLS]; 2],
 }
@@ -256,8 +251,6 @@ impl Judge {
             hints: [Hint { call: 0, place: 0 }; HINTS],
             own_hints: [Hint { call: 0, place: 0 }; OWN_HINTS],
             call: 0,
-            explaining: false,
-            explained: [[0; NUMBERS]; MOST_BINDINGS],
             cells: [[cell; CELLS]; 2],
         });
         for arity in 1..=4 {

@@ -45,7 +45,7 @@ fn draw_case(random: &mut Random) -> CaseFile {
     if random.percent(60) {
         let mut file = plan.case_file();
         evidence::draw_evidence(random, &plan, &mut file);
-        if random.percent(if size.is_large() { 40 } else { 1 }) {
+        if random.percent(if size.nodes == Size::LARGE.nodes { 40 } else { 1 }) {
             fill_with_types(random, &mut file);
         }
         return file;

@@ -1,11 +1,9 @@
 //! The lines of the scope that say what a file is answered: the ground case E and its variants, and the small inputs of the
 //! table of refusals; and lines of the change requests.
 
-use crate::case_file::{
-    bytes_of, CaseFile, Node, Record, TypeRecord, CONSTRUCTOR, FIRST_REMARK, NONTERMINAL, PARAMETER,
-};
+use crate::case_file::{bytes_of, CaseFile, Node, Record, TypeRecord, CONSTRUCTOR, FIRST_REMARK, NONTERMINAL, PARAMETER};
 
-/// A file, the flags lent for it, the line that it is answered with, the flags that it leaves, and the lines that explain it.
+/// A file, the flags lent for it, the line that it is answered with, and the flags that it leaves.
 #[derive(Clone)]
 pub struct Line {
     pub name: String,
@@ -13,7 +11,6 @@ pub struct Line {
     pub lent: usize,
     pub answer: &'static str,
     pub flags: &'static [u8],
-    pub explained: &'static [&'static str],
 }
 
 /// E as the scope prints it.
@@ -124,12 +121,7 @@ pub fn lines() -> Vec<Line> {
 }
 
 fn line(name: &str, file: Vec<u8>, answer: &'static str, flags: &'static [u8]) -> Line {
-    Line { name: name.to_string(), file, lent: 16, answer, flags, explained: &[] }
-}
-
-/// Request 2: why each dropped binding was dropped.
-fn explained(line: Line, explained: &'static [&'static str]) -> Line {
-    Line { explained, ..line }
+    Line { name: name.to_string(), file, lent: 16, answer, flags }
 }
 
 fn bindings() -> Vec<Line> {
@@ -138,21 +130,12 @@ fn bindings() -> Vec<Line> {
     vec![
         line("E", E.to_vec(), "proved 2 of 2 rounds 0", &[1, 1]),
         line("E by its entries", e().bytes(), "proved 2 of 2 rounds 0", &[1, 1]),
-        explained(
-            line("E with T2 and (F, T2) added", added.bytes(), "proved 2 of 3 rounds 1", &[1, 1, 0]),
-            &["binding 2 round 1 node 1 goal state 0"],
-        ),
-        explained(
-            line("E with T2, (S, T0) and (F, T2) only", only.bytes(), "unproved 0 of 2 rounds 2", &[0, 0]),
-            &["binding 0 round 2 node 0 goal state 0", "binding 1 round 1 node 1 goal state 0"],
-        ),
+        line("E with T2 and (F, T2) added", added.bytes(), "proved 2 of 3 rounds 1", &[1, 1, 0]),
+        line("E with T2, (S, T0) and (F, T2) only", only.bytes(), "unproved 0 of 2 rounds 2", &[0, 0]),
         line("E without bindings", e_with_bindings(&[]).bytes(), "unproved 0 of 0 rounds 0", &[]),
         line("E with (F, T1) only", e_with_bindings(&[(F, 1)]).bytes(), "unproved 1 of 1 rounds 0", &[1]),
         line("S is S", s_is_s().bytes(), "proved 1 of 1 rounds 0", &[1]),
-        explained(
-            line("B with E's bindings", b().bytes(), "unproved 0 of 2 rounds 2", &[0, 0]),
-            &["binding 0 round 2 node 0 goal state 0", "binding 1 round 1 node 3 goal state 1"],
-        ),
+        line("B with E's bindings", b().bytes(), "unproved 0 of 2 rounds 2", &[0, 0]),
     ]
 }
 
@@ -229,8 +212,12 @@ fn remarks() -> Vec<Line> {
     let loop_and = |more: &[u8]| [&s_is_s().bytes(), more].concat();
     let refusal = |name, file, answer| line(name, file, answer, &[]);
     let (empty, longest) = (record(FIRST_REMARK, 0), 60_000 - E.len() - 4);
-    let mut lines =
-        [e_with_remarks(FIRST_REMARK, 0), e_with_remarks(0x8001, 1), e_with_remarks(0xFFFF, longest)].concat();
+    let mut lines = [
+        e_with_remarks(FIRST_REMARK, 0),
+        e_with_remarks(0x8001, 1),
+        e_with_remarks(0xFFFF, longest),
+    ]
+    .concat();
     lines.extend([
         line("500 remarks, then E", [empty.repeat(500), E.to_vec()].concat(), "proved 2 of 2 rounds 0", &[1, 1]),
         line("S is S and 59,846 bytes", loop_and(&record(0xFFFF, 59_846)), "proved 1 of 1 rounds 0", &[1]),

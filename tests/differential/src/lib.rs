@@ -2,7 +2,6 @@
 
 pub mod case_file;
 pub mod classes;
-pub mod explanation;
 pub mod fast;
 pub mod generate;
 pub mod ground;

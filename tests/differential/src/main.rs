@@ -1,14 +1,12 @@
 //! Compares the library with an independent implementation of the scope, on the lines that the scope gives and on files
-//! drawn by a seed: the answer, and every byte of the flags with some bytes past their end; then the same for the explanation of
-//! dropped bindings, its answer and every lent number. Before the drawn files it judges and explains the files of the benchmarks
-//! and the hostile files at the limits with 1 MB of stack: that a call needs less is measured so, not proved.
+//! drawn by a seed: the answer, and every byte of the flags with some bytes past their end. Before the drawn files it judges the
+//! files of the benchmarks and the hostile files at the limits with 1 MB of stack: that a call needs less is measured so, not
+//! proved.
 //!
 //! `differential [COUNT [SEED [THREADS]]]` draws COUNT files; `differential --file FILE [FLAGS]` compares one file;
-//! `differential --limits [NAME..]` judges and explains hostile files at the limits alone, and `differential --write FOLDER` writes
-//! them.
+//! `differential --limits [NAME..]` judges hostile files at the limits alone, and `differential --write FOLDER` writes them.
 
 use differential::case_file::has_remark;
-use differential::explanation::{self, Explanation, Goal, Reasons, LENT, NUMBERS};
 use differential::random::Random;
 use differential::verdict::Verdict;
 use differential::{generate, ground, hostile, library, reference, stack};
@@ -20,10 +18,8 @@ const FILES: u64 = 1_000_000;
 const REFUSALS: usize = 15;
 /// How often each refusal is to occur among a million files.
 const LEAST_OF_A_MILLION: u64 = 1_000;
-/// Bytes past the lent flags, and numbers past those of the bindings, which no judge may touch.
+/// Bytes past the lent flags, which no judge may touch.
 const CANARY: usize = 24;
-/// What a lent number holds before a call.
-const BEFORE: u16 = 0xABCD;
 const SHOWN: u64 = 10;
 /// The reference nests deeply, in terms that lie on the heap.
 const STACK: usize = 64 << 20;
@@ -62,11 +58,10 @@ fn numbers_of(arguments: &[String]) -> Result<Vec<u64>, String> {
 
 // One comparison
 
-/// What both said and left in the flags, and what they said of each binding.
+/// What both said and left in the flags.
 struct Compared {
     reference: Verdict,
     flags: Vec<u8>,
-    explained: Vec<Option<Explanation>>,
     /// What is different, if anything is.
     mismatch: Option<String>,
 }
@@ -90,32 +85,7 @@ fn compare(file: &[u8], lent: usize, random: &mut Random) -> Compared {
         None
     };
     ours.truncate(lent);
-    let (explained, unexplained) = compare_explained(file);
-    Compared { reference, flags: ours, explained, mismatch: mismatch.or(unexplained) }
-}
-
-/// Lets both explain a file. Gives what the reference says of each binding, and what is different.
-fn compare_explained(file: &[u8]) -> (Vec<Option<Explanation>>, Option<String>) {
-    let (reference, explained) = reference::explain(file);
-    let mut ours = vec![BEFORE; LENT + CANARY];
-    let mut theirs = ours.clone();
-    explanation::write(&explained, &mut ours);
-    let lent_file = file.to_vec();
-    let lent: Result<&mut Reasons, _> = (&mut theirs[..LENT]).try_into();
-    let library = lent.map_err(|error| error.to_string()).and_then(|lent| library::explain(&lent_file, lent));
-    let mismatch = if library != Ok(reference) {
-        let said = library.map_or_else(|message| message, |verdict| verdict.to_string());
-        Some(format!("explained, reference: {reference}; library: {said}"))
-    } else if let Some(place) = (0..ours.len()).find(|&place| ours[place] != theirs[place]) {
-        let (binding, which) = (place / NUMBERS, place % NUMBERS);
-        let (our, their) = (ours[place], theirs[place]);
-        Some(format!("{reference}; number {which} of binding {binding}, reference: {our}, library: {their}"))
-    } else if lent_file != file {
-        Some(format!("{reference}; the library changed the file that it explained"))
-    } else {
-        None
-    };
-    (explained, mismatch)
+    Compared { reference, flags: ours, mismatch }
 }
 
 fn compare_one(path: &str, flags: &str) -> Result<bool, String> {
@@ -127,7 +97,6 @@ fn compare_one(path: &str, flags: &str) -> Result<bool, String> {
         let flags: String = compared.flags.iter().take(total as usize).map(u8::to_string).collect();
         println!("flags {flags}");
     }
-    explanation::lines(&compared.explained).iter().for_each(|line| println!("{line}"));
     if let Some(mismatch) = &compared.mismatch {
         println!("mismatch: {mismatch}");
     }
@@ -175,38 +144,6 @@ struct Tally {
     bindings: u64,
     kept: u64,
     most_rounds: u64,
-    explained: Explained,
-}
-
-/// What was said of dropped bindings.
-#[derive(Default)]
-struct Explained {
-    compared: u64,
-    /// At another node than the first of the body.
-    below: u64,
-    deepest: usize,
-    /// With a goal that is no state.
-    types: u64,
-    /// In another round than the first.
-    later: u64,
-}
-
-impl Explained {
-    fn count(&mut self, Explanation { round, node, goal }: Explanation) {
-        self.compared += 1;
-        self.below += u64::from(node > 0);
-        self.deepest = self.deepest.max(node);
-        self.types += u64::from(matches!(goal, Goal::Type(_)));
-        self.later += u64::from(round > 1);
-    }
-
-    fn add(&mut self, other: &Explained) {
-        self.compared += other.compared;
-        self.below += other.below;
-        self.deepest = self.deepest.max(other.deepest);
-        self.types += other.types;
-        self.later += other.later;
-    }
 }
 
 impl Tally {
@@ -225,7 +162,6 @@ impl Tally {
                 self.most_rounds = self.most_rounds.max(rounds);
             }
         }
-        compared.explained.iter().flatten().for_each(|&said| self.explained.count(said));
         match compared.mismatch {
             None => self.passed += 1,
             Some(_) => self.failed += 1,
@@ -241,7 +177,6 @@ impl Tally {
         self.kept += other.kept;
         self.longest_accepted = self.longest_accepted.max(other.longest_accepted);
         self.most_rounds = self.most_rounds.max(other.most_rounds);
-        self.explained.add(&other.explained);
         self.verdicts.iter_mut().zip(other.verdicts).for_each(|(count, more)| *count += more);
         self.refusals.iter_mut().zip(other.refusals).for_each(|(count, more)| *count += more);
     }
@@ -255,10 +190,6 @@ impl Tally {
             println!("refused {number:2}: {count}");
         }
         println!("kept {} of {} bindings; at most {} rounds", self.kept, self.bindings, self.most_rounds);
-        let Explained { compared, below, deepest, types, later } = self.explained;
-        println!(
-            "explanations: {compared}, of which {below} at a node beyond 0, the last at {deepest}; {types} with a goal that is a type; {later} in a later round"
-        );
         println!("longest file that is not refused: {} bytes", self.longest_accepted);
         println!("not refused and with remarks: {}", self.with_remarks);
     }
@@ -294,13 +225,11 @@ fn compare_lines() -> (u64, u64) {
     for line in ground::lines() {
         let compared = compare(&line.file, line.lent, &mut Random::new(1));
         let answered = compared.reference.to_string() == line.answer && compared.flags.starts_with(line.flags);
-        let explained = explanation::lines(&compared.explained);
-        if answered && explained == line.explained && compared.mismatch.is_none() {
+        if answered && compared.mismatch.is_none() {
             counts.0 += 1;
         } else {
             counts.1 += 1;
             println!("{}: {} expected, reference: {}", line.name, line.answer, compared.reference);
-            println!("{}: {:?} expected, reference: {explained:?}", line.name, line.explained);
             compared.mismatch.iter().for_each(|mismatch| println!("{}: {mismatch}", line.name));
         }
     }

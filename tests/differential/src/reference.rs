@@ -4,7 +4,6 @@
 //! Terms are trees on the heap. Sorts and types are shapes, and equal shapes are one. What a check finds is kept in a
 //! hash map. Nothing here is made to be fast.
 
-use crate::explanation::{Explanation, Goal};
 use crate::verdict::Verdict;
 use std::collections::{BTreeMap, BTreeSet, HashMap, HashSet};
 use std::hash::Hash;
@@ -30,24 +29,7 @@ pub fn judge(file: &[u8], flags: &mut [u8]) -> Verdict {
     match examine(file, flags.len()) {
         Err(refusal) => refusal.verdict(),
         Ok(Case::Path(plan, letters)) => replay(&plan, &letters),
-        Ok(Case::Bindings(plan, evidence)) => {
-            let (verdict, sets) = shrink(&plan, &evidence);
-            let kept = sets.last().into_iter().flatten();
-            flags.iter_mut().zip(kept).for_each(|(flag, &kept)| *flag = u8::from(kept));
-            verdict
-        }
-    }
-}
-
-/// The verdict on a file with flags enough, and for each binding of a binding case why it was dropped, if it was.
-pub fn explain(file: &[u8]) -> (Verdict, Vec<Option<Explanation>>) {
-    match examine(file, MOST_BINDINGS) {
-        Err(refusal) => (refusal.verdict(), Vec::new()),
-        Ok(Case::Path(plan, letters)) => (replay(&plan, &letters), Vec::new()),
-        Ok(Case::Bindings(plan, evidence)) => {
-            let (verdict, sets) = shrink(&plan, &evidence);
-            (verdict, reasons(&plan, &evidence, &sets))
-        }
+        Ok(Case::Bindings(plan, evidence)) => shrink(&plan, &evidence, flags),
     }
 }
 
@@ -76,10 +58,9 @@ pub struct Plan {
     transitions: BTreeMap<(usize, usize), Vec<usize>>,
 }
 
-/// Kinds 7 and 8: the bindings, with the shapes of their types, and the numbers of these in the file.
+/// Kinds 7 and 8: the bindings, with the shapes of their types.
 pub struct Evidence {
     types: Shapes<TypeShape>,
-    numbers: HashMap<Type, usize>,
     bindings: Vec<(usize, Type)>,
 }
 
@@ -522,8 +503,7 @@ impl Entries {
         }
         let bindings =
             self.bindings.iter().map(|&(nonterminal, number, _)| (nonterminal, self.types[number])).collect();
-        let numbers = self.types.iter().enumerate().map(|(number, &ty)| (ty, number)).collect();
-        Case::Bindings(plan, Evidence { types: self.type_shapes, numbers, bindings })
+        Case::Bindings(plan, Evidence { types: self.type_shapes, bindings })
     }
 }
 
@@ -601,111 +581,46 @@ fn replay(plan: &Plan, letters: &[u8]) -> Verdict {
 
 // Types and shrinking
 
-/// The types that each head has apart from a binding's parameters, under a set of bindings.
-struct Typing<'a> {
-    plan: &'a Plan,
-    evidence: &'a Evidence,
-    types: Shapes<TypeShape>,
-    constructors: Vec<Vec<Type>>,
-    nonterminals: Vec<Vec<Type>>,
-}
-
-impl<'a> Typing<'a> {
-    fn new(plan: &'a Plan, evidence: &'a Evidence) -> Typing<'a> {
-        let mut types = Shapes { shapes: evidence.types.shapes.clone(), numbers: evidence.types.numbers.clone() };
-        let constructors = constructor_types(plan, &mut types);
-        Typing { plan, evidence, types, constructors, nonterminals: Vec::new() }
-    }
-
-    /// Takes a set of bindings in the place of the one before.
-    fn take(&mut self, set: &[bool]) {
-        self.nonterminals = vec![Vec::new(); self.plan.bodies.len()];
-        for (&(nonterminal, ty), _) in self.evidence.bindings.iter().zip(set).filter(|(_, kept)| **kept) {
-            self.nonterminals[nonterminal].push(ty);
-        }
-    }
-
-    /// The check of a binding's body, and the final state that it is to have.
-    fn check(&self, binding: usize) -> (Check<'_>, &'a Rc<Term>, Type) {
-        let (nonterminal, ty) = self.evidence.bindings[binding];
-        let (parameters, state) = taken_apart(&self.types, ty);
-        (Check { typing: self, parameters, found: HashMap::new() }, &self.plan.bodies[nonterminal], state)
-    }
-
-    fn holds(&self, binding: usize) -> bool {
-        let (mut check, body, state) = self.check(binding);
-        check.has(body, state)
-    }
-
-    /// Where a type stands among those that the file lists; one that it does not list comes last.
-    fn rank(&self, ty: Type) -> usize {
-        self.evidence.numbers.get(&ty).copied().unwrap_or(MOST_TYPES)
-    }
-}
-
-/// The members that a parameter has while a binding is tested, and what the check found so far.
+/// The types of each head while a binding is tested, and what the check found so far.
 struct Check<'a> {
-    typing: &'a Typing<'a>,
-    parameters: Vec<Vec<Type>>,
+    types: &'a Shapes<TypeShape>,
+    constructors: &'a [Vec<Type>],
+    nonterminals: &'a [Vec<Type>],
+    parameters: &'a [Vec<Type>],
     found: HashMap<(*const Term, Type), bool>,
 }
 
-/// Whether a term has a type, and why not.
-impl<'a> Check<'a> {
+impl Check<'_> {
+    /// Whether a term has a type.
     fn has(&mut self, term: &Rc<Term>, goal: Type) -> bool {
         let asked = (Rc::as_ptr(term), goal);
         if let Some(&has) = self.found.get(&asked) {
             return has;
         }
-        let has = self.types_of(term.head).into_iter().any(|ty| {
-            self.leads(ty, term.arguments.len(), goal).is_some_and(|wanted| {
-                term.arguments.iter().zip(wanted).all(|(argument, set)| set.iter().all(|&m| self.has(argument, m)))
-            })
-        });
+        let types = match term.head {
+            Head::Constructor(number) => &self.constructors[number],
+            Head::Nonterminal(number) => &self.nonterminals[number],
+            Head::Parameter(number) => &self.parameters[number],
+        };
+        let has = types.iter().any(|&ty| self.leads(ty, &term.arguments, goal));
         self.found.insert(asked, has);
         has
     }
 
-    fn types_of(&self, head: Head) -> Vec<Type> {
-        match head {
-            Head::Constructor(number) => self.typing.constructors[number].clone(),
-            Head::Nonterminal(number) => self.typing.nonterminals[number].clone(),
-            Head::Parameter(number) => self.parameters[number].clone(),
-        }
-    }
-
-    /// Whether a type leads to the goal, one arrow off for each argument; if so, the members that each has to have.
-    fn leads(&self, ty: Type, arguments: usize, goal: Type) -> Option<Vec<&'a BTreeSet<Type>>> {
+    /// Whether a type leads to the goal, one arrow off for each argument, and each argument has every member.
+    fn leads(&mut self, ty: Type, arguments: &[Rc<Term>], goal: Type) -> bool {
+        let types = self.types;
         let mut rest = ty;
         let mut wanted = Vec::new();
-        for _ in 0..arguments {
-            let TypeShape::Arrow(members, result) = self.typing.types.shape(rest) else {
-                return None;
+        for _ in arguments {
+            let TypeShape::Arrow(members, result) = types.shape(rest) else {
+                return false;
             };
             wanted.push(members);
             rest = *result;
         }
-        (rest == goal).then_some(wanted)
-    }
-
-    /// The search for the reason why a term lacks a goal: the node where it ends, in prefix order with `node` for the term
-    /// itself, and the goal there.
-    fn reason(&mut self, term: &Rc<Term>, goal: Type, node: usize) -> (usize, Type) {
-        let mut types = self.types_of(term.head);
-        types.sort_by_key(|&ty| self.typing.rank(ty));
-        let Some(wanted) = types.into_iter().find_map(|ty| self.leads(ty, term.arguments.len(), goal)) else {
-            return (node, goal);
-        };
-        let mut next = node + 1;
-        for (argument, set) in term.arguments.iter().zip(wanted) {
-            let mut members: Vec<Type> = set.iter().copied().collect();
-            members.sort_by_key(|&member| self.typing.rank(member));
-            if let Some(missing) = members.into_iter().find(|&member| !self.has(argument, member)) {
-                return self.reason(argument, missing, next);
-            }
-            next += argument.nodes;
-        }
-        panic!("a reason was asked for a goal that the term has")
+        rest == goal
+            && arguments.iter().zip(wanted).all(|(argument, members)| members.iter().all(|&m| self.has(argument, m)))
     }
 }
 
@@ -734,49 +649,47 @@ fn constructor_types(plan: &Plan, types: &mut Shapes<TypeShape>) -> Vec<Vec<Type
     all
 }
 
-/// The verdict on a binding case, and the sets of kept bindings: as the first round began, after it, and so on to the last that
-/// dropped something.
-fn shrink(plan: &Plan, evidence: &Evidence) -> (Verdict, Vec<Vec<bool>>) {
-    let mut typing = Typing::new(plan, evidence);
+fn shrink(plan: &Plan, evidence: &Evidence, flags: &mut [u8]) -> Verdict {
+    let mut types = Shapes { shapes: evidence.types.shapes.clone(), numbers: evidence.types.numbers.clone() };
+    let constructors = constructor_types(plan, &mut types);
+    let start_type = types.number(TypeShape::State(0));
     let bindings = &evidence.bindings;
-    let mut sets = Vec::new();
+    let apart: Vec<_> = bindings.iter().map(|&(_, ty)| taken_apart(&types, ty)).collect();
+
     let mut kept = vec![true; bindings.len()];
+    let mut rounds = 0;
     loop {
-        typing.take(&kept);
-        let left: Vec<bool> = (0..bindings.len()).map(|binding| kept[binding] && typing.holds(binding)).collect();
-        let ended = left == kept;
-        sets.push(kept);
-        if ended {
+        let mut nonterminals = vec![Vec::new(); plan.bodies.len()];
+        for (&(nonterminal, ty), _) in bindings.iter().zip(&kept).filter(|(_, kept)| **kept) {
+            nonterminals[nonterminal].push(ty);
+        }
+        let holds = |binding: usize| {
+            let (parameters, state) = &apart[binding];
+            let mut check = Check {
+                types: &types,
+                constructors: &constructors,
+                nonterminals: &nonterminals,
+                parameters,
+                found: HashMap::new(),
+            };
+            check.has(&plan.bodies[bindings[binding].0], *state)
+        };
+        let left: Vec<bool> = (0..bindings.len()).map(|binding| kept[binding] && holds(binding)).collect();
+        if left == kept {
             break;
         }
         kept = left;
+        rounds += 1;
     }
 
-    let kept = &sets[sets.len() - 1];
-    let start = typing.types.number(TypeShape::State(0));
-    let accepted = bindings.iter().zip(kept).any(|(&binding, &kept)| kept && binding == (0, start));
+    for (flag, &kept) in flags.iter_mut().zip(&kept) {
+        *flag = u8::from(kept);
+    }
+    let accepted = bindings.iter().zip(&kept).any(|(&binding, &kept)| kept && binding == (0, start_type));
     let (kept, total) = (kept.iter().filter(|&&kept| kept).count() as u64, bindings.len() as u64);
-    let rounds = sets.len() as u64 - 1;
-    let verdict =
-        if accepted { Verdict::Proved { kept, total, rounds } } else { Verdict::Unproved { kept, total, rounds } };
-    (verdict, sets)
-}
-
-/// Why each binding was dropped, under the set as its round began.
-fn reasons(plan: &Plan, evidence: &Evidence, sets: &[Vec<bool>]) -> Vec<Option<Explanation>> {
-    let mut typing = Typing::new(plan, evidence);
-    let mut explained = vec![None; evidence.bindings.len()];
-    for (round, pair) in sets.windows(2).enumerate() {
-        typing.take(&pair[0]);
-        for binding in (0..explained.len()).filter(|&binding| pair[0][binding] && !pair[1][binding]) {
-            let (mut check, body, state) = typing.check(binding);
-            let (node, goal) = check.reason(body, state, 0);
-            let goal = match typing.types.shape(goal) {
-                TypeShape::State(state) => Goal::State(*state),
-                TypeShape::Arrow(..) => Goal::Type(typing.rank(goal)),
-            };
-            explained[binding] = Some(Explanation { round: round + 1, node, goal });
-        }
+    if accepted {
+        Verdict::Proved { kept, total, rounds }
+    } else {
+        Verdict::Unproved { kept, total, rounds }
     }
-    explained
 }

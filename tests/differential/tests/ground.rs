@@ -1,6 +1,5 @@
-//! The lines that the scope gives, for the reference and, where `rt lib` in crates/capi has made the archive, for the library.
+//! The lines that the scope gives, for the reference and, where `bin/staticlib` has made the archive, for the library.
 
-use differential::explanation::{self, LENT};
 use differential::verdict::Verdict;
 use differential::{ground, library, reference, stack};
 
@@ -31,32 +30,13 @@ fn reference_answers_the_lines_of_the_scope() {
 }
 
 #[test]
-#[cfg_attr(without_library, ignore = "`rt lib` in crates/capi makes the library")]
+#[cfg_attr(without_library, ignore = "`bin/staticlib` makes the library")]
 fn library_answers_the_lines_of_the_scope() {
     try_lines(|file, flags| library::judge(file, flags).expect("a verdict"));
 }
 
 #[test]
-fn reference_explains_the_lines_of_the_scope() {
-    for line in ground::lines() {
-        assert_eq!(explanation::lines(&reference::explain(&line.file).1), line.explained, "{}", line.name);
-    }
-}
-
-#[test]
-#[cfg_attr(without_library, ignore = "`rt lib` in crates/capi makes the library")]
-fn library_explains_them_as_the_reference_does() {
-    for line in ground::lines() {
-        let (mut ours, mut theirs) = ([9; LENT], [9; LENT]);
-        let (verdict, explained) = reference::explain(&line.file);
-        explanation::write(&explained, &mut ours);
-        assert_eq!(library::explain(&line.file, &mut theirs), Ok(verdict), "{}", line.name);
-        assert!(ours == theirs, "{}: reasons", line.name);
-    }
-}
-
-#[test]
-#[cfg_attr(without_library, ignore = "`rt lib` in crates/capi makes the library")]
+#[cfg_attr(without_library, ignore = "`bin/staticlib` makes the library")]
 fn library_needs_less_than_1_mb_of_stack() {
     let (right, wrong) = stack::try_files().expect("threads");
     assert!(right > 0 && wrong == 0, "{wrong} wrong answers");

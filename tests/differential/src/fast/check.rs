@@ -3,7 +3,6 @@
 
 use super::sets::{bits_in, Set, Span, WORDS};
 use super::{Judge, Node, CONSTRUCTOR, NONE, NONTERMINAL};
-use crate::explanation::NUMBERS;
 use crate::verdict::Verdict;
 
 /// The binding that served last for a node and a goal, in the call whose number has these low bits: a hint of another call
@@ -36,9 +35,6 @@ impl Judge {
         self.place_bindings();
         self.begin_rounds();
         flags[..total].fill(1);
-        if self.explaining {
-            self.explained[..total].fill([0; NUMBERS]);
-        }
         let mut count = self.first_round();
         let mut kept = total;
         let mut rounds = 0;
@@ -107,7 +103,7 @@ impl Judge {
         let mut count = 0;
         for place in 0..self.now.bindings {
             if !self.holds(place) {
-                self.fail(count, place, 1);
+                self.failed[count] = place as u16;
                 count += 1;
             }
         }
@@ -137,20 +133,12 @@ impl Judge {
             for bit in bits_in(touched.words[word] & self.kept[word]) {
                 let place = word * 64 + bit;
                 if self.rows[place].meets(&lost) && !self.holds(place) {
-                    self.fail(count, place, rounds + 1);
+                    self.failed[count] = place as u16;
                     count += 1;
                 }
             }
         }
         count
-    }
-
-    /// Lists a binding that has just failed, behind `count` others of its round.
-    fn fail(&mut self, count: usize, place: usize, round: u64) {
-        self.failed[count] = place as u16;
-        if self.explaining {
-            self.enter_reason(place, round);
-        }
     }
 
     /// Drops a binding from all that is gone through; a final state that no kept binding has goes too.
@@ -232,7 +220,7 @@ impl Judge {
     // The check of states
 
     /// Whether the term at a node of the body has all of some states.
-    pub(super) fn has_states(&mut self, node: usize, states: u16) -> bool {
+    fn has_states(&mut self, node: usize, states: u16) -> bool {
         let Node { tag, count, number, .. } = self.nodes[self.first + node];
         let number = usize::from(number);
         if count == 0 {
@@ -445,7 +433,7 @@ impl Judge {
     // The check of arrows
 
     /// A type with arrows off.
-    pub(super) fn without(&self, ty: u16, arrows: u8) -> u16 {
+    fn without(&self, ty: u16, arrows: u8) -> u16 {
         (0..arrows).fold(ty, |rest, _| self.results[usize::from(rest)])
     }
 
@@ -467,7 +455,7 @@ impl Judge {
         }
     }
 
-    pub(super) fn constructor_leads(&mut self, node: usize, goal: u16) -> bool {
+    fn constructor_leads(&mut self, node: usize, goal: u16) -> bool {
         let Node { number, count, .. } = self.nodes[self.first + node];
         let Some(targets) = self.row_of(usize::from(number), usize::from(count), goal) else {
             return false;
@@ -476,7 +464,7 @@ impl Judge {
     }
 
     /// The targets of a constructor, if its type with some arrows off is the goal.
-    pub(super) fn row_of(&self, constructor: usize, given: usize, goal: u16) -> Option<[u8; 4]> {
+    fn row_of(&self, constructor: usize, given: usize, goal: u16) -> Option<[u8; 4]> {
         let state = usize::from(self.ends[usize::from(goal)]);
         if self.present[constructor] >> state & 1 == 0 {
             return None;
@@ -514,7 +502,7 @@ impl Judge {
     }
 
     /// The place of a nonterminal's kept binding to a type.
-    pub(super) fn bound_place(&self, nonterminal: usize, ty: u16) -> Option<usize> {
+    fn bound_place(&self, nonterminal: usize, ty: u16) -> Option<usize> {
         let state = usize::from(self.ends[usize::from(ty)]);
         if self.bound[nonterminal] >> state & 1 == 0 {
             return None;
@@ -527,7 +515,11 @@ impl Judge {
 
     /// Whether a head with arguments has all members of a type. What a node has is kept for the test.
     fn head_leads(&mut self, node: usize, of: u16) -> bool {
-        self.begin_arrows(node);
+        if self.arrow_stamps[node] != self.stamp {
+            self.arrow_stamps[node] = self.stamp;
+            self.arrows_known[node].clear();
+            self.arrows_had[node].clear();
+        }
         let of = usize::from(of);
         self.fill_member_set(of);
         let (known, had) = (&self.arrows_known[node], &self.arrows_had[node]);
@@ -547,29 +539,6 @@ impl Judge {
             }
         }
         true
-    }
-
-    /// The same for one type.
-    pub(super) fn head_leads_to(&mut self, node: usize, goal: usize) -> bool {
-        self.begin_arrows(node);
-        let (word, bit) = (goal / 64, goal % 64);
-        if self.arrows_known[node].word(word) >> bit & 1 == 0 {
-            let leads = self.leads(node, goal);
-            self.arrows_known[node].put(goal);
-            if leads {
-                self.arrows_had[node].put(goal);
-            }
-        }
-        self.arrows_had[node].word(word) >> bit & 1 == 1
-    }
-
-    /// Forgets what a node had in another test.
-    fn begin_arrows(&mut self, node: usize) {
-        if self.arrow_stamps[node] != self.stamp {
-            self.arrow_stamps[node] = self.stamp;
-            self.arrows_known[node].clear();
-            self.arrows_had[node].clear();
-        }
     }
 
     /// The members of a type as a set, made when it is first asked for.
@@ -651,7 +620,7 @@ impl Judge {
         self.serving = true;
     }
 
-    pub(super) fn members_of(&self, arrow: u16) -> (usize, usize) {
+    fn members_of(&self, arrow: u16) -> (usize, usize) {
         let arrow = usize::from(arrow);
         (usize::from(self.first_members[arrow]), usize::from(self.first_members[arrow + 1]))
     }

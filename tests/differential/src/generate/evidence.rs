@@ -284,22 +284,6 @@ impl<'a> Search<'a> {
         }
     }
 
-    /// Adds types like those that some nonterminals have, so that several lead to a goal, and takes some of the old ones away.
-    fn crowd(&mut self, bindings: &mut Vec<(usize, usize)>) {
-        for _ in 0..self.random.between(1, 12) {
-            let at = self.random.below(bindings.len());
-            let Some(&(nonterminal, ty)) = bindings.get(at) else {
-                return;
-            };
-            if self.random.percent(30) {
-                bindings.swap_remove(at);
-            }
-            for _ in 0..self.random.between(1, 3) {
-                bindings.push((nonterminal, self.bent(ty, self.plan.nonterminals[nonterminal])));
-            }
-        }
-    }
-
     /// The bindings of all wishes.
     fn found(&mut self) -> Vec<(usize, usize)> {
         let mut bindings = Vec::new();
@@ -317,23 +301,6 @@ impl<'a> Search<'a> {
             (nonterminal, search.draw_type(search.plan.nonterminals[nonterminal]))
         };
         (0..count).map(|_| draw(self)).collect()
-    }
-
-    /// Bindings of every nonterminal to most states, by member sets from which the search guesses: mostly a head has types that lead
-    /// to a goal, and what is missing is missing at an argument.
-    fn guessed(&mut self) -> Vec<(usize, usize)> {
-        let mut bindings = Vec::new();
-        for nonterminal in 0..self.plan.nonterminals.len() {
-            for state in 0..self.plan.states {
-                let count = if self.random.percent(85) { self.random.between(1, 3) } else { 0 };
-                for _ in 0..count {
-                    let sets: Vec<_> = self.plan.parameters(nonterminal).iter().map(|&sort| self.guess(sort)).collect();
-                    let state = self.types.state(state);
-                    bindings.push((nonterminal, self.types.arrows(&sets, state)));
-                }
-            }
-        }
-        bindings
     }
 
     /// A type with one member set larger or smaller.
@@ -373,12 +340,6 @@ pub fn draw_evidence(random: &mut Random, plan: &Plan, file: &mut CaseFile) {
         let all = plan.nonterminals.len();
         let count = search.random.between(0, if all > 40 { 1_200 } else { 2 + 2 * all });
         bindings.extend(search.drawn(count));
-    }
-    if search.random.percent(20) {
-        bindings.extend(search.guessed());
-    }
-    if search.random.percent(40) {
-        search.crowd(&mut bindings);
     }
     search.spoil(&mut bindings);
     let unbound = if search.random.percent(15) { search.random.between(1, 3) } else { 0 };

@@ -3,7 +3,7 @@
 use crate::case_file::{CaseFile, Node, CONSTRUCTOR, NONTERMINAL, PARAMETER};
 use crate::random::Random;
 
-/// How large a plan is to be: each is the most that may be drawn. Of a hundred bodies `whole` are to have all their nodes.
+/// How large a plan is to be: each is the most that may be drawn.
 #[derive(Clone, Copy)]
 pub struct Size {
     pub sorts: usize,
@@ -12,31 +12,20 @@ pub struct Size {
     pub nodes: usize,
     pub all_nodes: usize,
     pub states: usize,
-    pub whole: usize,
 }
 
 impl Size {
-    const TINY: Size =
-        Size { sorts: 3, constructors: 4, nonterminals: 3, nodes: 8, all_nodes: 100, states: 2, whole: 3 };
-    const SMALL: Size =
-        Size { sorts: 8, constructors: 6, nonterminals: 6, nodes: 16, all_nodes: 100, states: 4, whole: 3 };
-    /// Few rules with long bodies.
-    const LONG: Size =
-        Size { sorts: 6, constructors: 6, nonterminals: 4, nodes: 256, all_nodes: 800, states: 4, whole: 70 };
-    const MEDIUM: Size =
-        Size { sorts: 24, constructors: 16, nonterminals: 30, nodes: 60, all_nodes: 600, states: 16, whole: 3 };
-    const LARGE: Size =
-        Size { sorts: 64, constructors: 32, nonterminals: 256, nodes: 256, all_nodes: 10_000, states: 16, whole: 3 };
-
-    pub fn is_large(self) -> bool {
-        self.nonterminals == Size::LARGE.nonterminals
-    }
+    pub const TINY: Size = Size { sorts: 3, constructors: 4, nonterminals: 3, nodes: 8, all_nodes: 100, states: 2 };
+    pub const SMALL: Size = Size { sorts: 8, constructors: 6, nonterminals: 6, nodes: 16, all_nodes: 100, states: 4 };
+    pub const MEDIUM: Size =
+        Size { sorts: 24, constructors: 16, nonterminals: 30, nodes: 60, all_nodes: 600, states: 16 };
+    pub const LARGE: Size =
+        Size { sorts: 64, constructors: 32, nonterminals: 256, nodes: 256, all_nodes: 10_000, states: 16 };
 
     pub fn draw(random: &mut Random) -> Size {
         match random.below(1_000) {
-            0..=429 => Size::TINY,
-            430..=879 => Size::SMALL,
-            880..=929 => Size::LONG,
+            0..=449 => Size::TINY,
+            450..=929 => Size::SMALL,
             930..=994 => Size::MEDIUM,
             _ => Size::LARGE,
         }
@@ -181,7 +170,7 @@ impl Plan {
         let closed = Heads::of_plan(self);
         let closed_costs = least_costs(&[&closed], vec![NO_TERM; self.sorts.count()]);
         for nonterminal in 0..self.nonterminals.len() {
-            let budget = if random.percent(size.whole) { size.nodes } else { random.between(1, size.nodes.min(40)) };
+            let budget = if random.percent(3) { size.nodes } else { random.between(1, size.nodes.min(40)) };
             let parameters = Heads::of_rule(self, nonterminal);
             let heads = [&closed, &parameters];
             let costs = least_costs(&heads, closed_costs.clone());
