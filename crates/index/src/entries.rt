@@ -1,6 +1,9 @@
 // An entry of a table of two-byte numbers, as the index of a file is, and the place of its record.
 ghost use Rattle.index.specs.entries.Tests.{IsPlace};
 ghost use Rattle.std.specs.Prelude.{◌≡◌, ◌+◌, ◌≤◌, ◌<◌, max, get_or};
+ghost use Rattle.records.specs.kind.Kinds.{kind_number};
+
+use records::kind::Kind;
 
 // Entry i of a table, as of the index, where it is a file offset; 0 past the end.
 pub fn place_at(index: &[u16], i: usize) -> usize
@@ -11,6 +14,13 @@ pub fn place_at(index: &[u16], i: usize) -> usize
     } else {
         0
     }
+}
+
+// How many records of a kind a file has, by the counts of its kinds.
+pub fn count_of(counts: &[u16], kind: Kind) -> usize
+    ensures { IsPlace counts.now (kind_number kind) result }
+{
+    place_at(counts, usize::from(kind))
 }
 
 // The place of the record whose payload's offset is entry i of the index.
