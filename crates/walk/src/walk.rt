@@ -37,7 +37,7 @@ fn pass(file: &[u8], index: &mut [u16], lens: &mut [u16], counts: &mut [u16]) ->
     ensures { PassesTo file.now index.old lens.old counts.old index.new lens.new counts.new result }
 {
     let mut reader = Reader::start(file);
-    let mut last: usize = 0;
+    let mut last = 0;
     while let Some(record) = reader.next()? {
         turn(reader.file, record, last, index, lens, counts)?;
         reader = reader.moved(record.next.at);
