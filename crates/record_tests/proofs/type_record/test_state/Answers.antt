@@ -1,6 +1,6 @@
 use native.Mathlib.Omega.{arith}
 use Rattle.record_tests.proofs.type_record.Codes.{state_many, state_range, state_alone}
-use Rattle.record_tests.proofs.type_record.state_code.Goals as goal
+use Rattle.record_tests.proofs.type_record.test_state.Goals as goal
 
 pub returns-then-n-ge-MAX_TYPES : goal.returns-then-n-ge-MAX_TYPES
 returns-then-n-ge-MAX_TYPES c = λ h. state_many _ _ _ h c.if-n-ge-MAX_TYPES.true
