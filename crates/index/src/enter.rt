@@ -23,16 +23,8 @@ pub fn store(a: &mut [u16], i: usize, v: usize)
 pub fn clear(a: &mut [u16], from: usize, n: usize)
     ensures { Clears a.old from n a.new }
 {
-    if a.len() < from {
-        return;
-    }
-    if a.len() - from < n {
-        return;
-    }
-    let mut i: usize = 0;
-    while i < n {
-        a[from + i] = 0;
-        i = i + 1;
+    if from <= a.len() && n <= a.len() - from {
+        a[from..from + n].fill(0);
     }
 }
 
