@@ -5,7 +5,7 @@ use native.Mathlib.Nat.{add-zero}
 use mathlib.Core.Path.{◌≡◌, sym, ap, subst, ◌∙◌}
 use mathlib.Core.Bool.{Bool, false, not}
 use mathlib.Core.List.{List, [], map}
-use borrow.Author.Tests.{lt-ltb, le-ltb, le-leb, lt-leb, eq-eqb, ne_eqb, eqb-true, not-false}
+use borrow.Author.Tests.{lt-ltb, le-ltb, le-leb, lt-leb, eq-eqb, eqb-true, not-false}
 use lib.Dec.{eqb}
 use lib.ListN.{length, get_or, length-map}
 use Rattle.scheme.specs.Lists.{choose◌then◌else◌, any}
@@ -31,14 +31,6 @@ module _ (file index lens : List ℕ) (n sorts constructors nonterminals : ℕ) 
     (counted : count rule rs ≡ n) (sl : SortLens lens sorts rs) (cons : count constructor rs ≡ constructors)
     (ix : Indexed file index nonterminal nonterminals rs) (fit : Fitting nonterminal nonterminals rs) (few : nonterminals ≤ max_nonterminals)
     (listed : (i : ℕ) → i < nonterminals → word (get_or (payloads nonterminal rs) i []) 0 < suc sorts) where
-  pub rule_short : length p < 4 → 4 ≡ code_for rs p rule
-  unfolding code_for wrong_length
-  rule_short h = simp (lt-ltb (length p) 4 h)
-
-  pub rule_odd : 4 ≤ length p → (length p % 4 ≡ 0 → ⊥) → 4 ≡ code_for rs p rule
-  unfolding code_for wrong_length
-  rule_odd h e = simp (le-ltb (length p) 4 h, ne_eqb (length p % 4) 0 e)
-
   module _ (h : 4 ≤ length p) (e : length p % 4 ≡ 0) where
     pub rule_large : max_body < length p → 5 ≡ code_for rs p rule
     unfolding code_for wrong_length too_many too_large
