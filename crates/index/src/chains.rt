@@ -9,6 +9,7 @@ use crate::lookup::entry;
 use records::fields::{byte_at, word_at};
 
 // The hash of a payload, below 256.
+#[tactic(auto, using(crate::proofs::chains::Hashing::mix_start, crate::proofs::chains::Hashing::mix_step, crate::proofs::chains::Hashing::mix_done))]
 pub fn hash_of(p: &[u8]) -> usize
     ensures { result ≡ hash_of_spec p.now }
 {
