@@ -5,27 +5,18 @@ ghost use Rattle.index.specs.chains.Listing.{Listed};
 
 use crate::entries::place_at;
 use crate::layout::{HASHES_AT, LAST_HASH, LINKS_AT, TYPES_AT};
-use crate::repeats::same_payload;
+use crate::lookup::entry;
 use records::fields::{byte_at, word_at};
 
-// The hash of a payload, below 256; most types have no more than one member, and need no turn of the loop.
+// The hash of a payload, below 256.
+#[tactic(auto, using(crate::proofs::chains::Hashing::mix_start, crate::proofs::chains::Hashing::mix_step, crate::proofs::chains::Hashing::mix_done))]
 pub fn hash_of(p: &[u8]) -> usize
     ensures { result ≡ hash_of_spec p.now }
 {
-    let start = byte_at(p, 0) * 256;
-    if p.len() < 2 {
-        return start / 256 % 256;
-    }
-    let one = (start + word_at(p, 0)) * 40503 % 65536;
-    if p.len() < 4 {
-        return one / 256 % 256;
-    }
-    let mut h = (one + word_at(p, 2)) * 40503 % 65536;
-    let mut i: usize = 4;
-    while 2 <= p.len() - i {
-        let w = word_at(p, i);
+    let mut h = byte_at(p, 0) * 256;
+    for i in 0..p.len() / 2 {
+        let w = word_at(p, 2 * i);
         h = (h + w) * 40503 % 65536;
-        i = i + 2;
     }
     h / 256 % 256
 }
@@ -39,10 +30,10 @@ pub fn listed(file: &[u8], index: &[u16], h: usize, p: &[u8]) -> bool
         return false;
     }
     let mut last = place_at(index, HASHES_AT + h);
+    // Not a `for`: each step goes where the link of the one before leads.
     while 0 < last {
         let i = last - 1;
-        let at = place_at(index, TYPES_AT + i);
-        if same_payload(file, at, p) {
+        if p == entry(file, index, TYPES_AT + i) {
             return true;
         }
         let before = place_at(index, LINKS_AT + i);

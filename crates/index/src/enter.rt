@@ -8,6 +8,7 @@ use crate::layout::{HASHES_AT, LAST_HASH, LINKS_AT};
 use records::fields::word_at;
 
 // Stores v at i of a table; a number of over two bytes, or a place past the end, changes nothing.
+#[tactic(auto, unfolding(crate::specs::enter::Entering::stored))]
 pub fn store(a: &mut [u16], i: usize, v: usize)
     ensures { a.new ≡ stored a.old i v }
 {
@@ -23,20 +24,13 @@ pub fn store(a: &mut [u16], i: usize, v: usize)
 pub fn clear(a: &mut [u16], from: usize, n: usize)
     ensures { Clears a.old from n a.new }
 {
-    if a.len() < from {
-        return;
-    }
-    if a.len() - from < n {
-        return;
-    }
-    let mut i: usize = 0;
-    while i < n {
-        a[from + i] = 0;
-        i = i + 1;
+    if from <= a.len() && n <= a.len() - from {
+        a[from..from + n].fill(0);
     }
 }
 
 // Enters the argument count of a sort with the payload p, after n others.
+#[tactic(auto, unfolding(crate::specs::enter::Entering::lens_after))]
 pub fn enter_sort(lens: &mut [u16], n: usize, p: &[u8])
     ensures { n < 65536 → lens.new ≡ lens_after lens.old 1 n p.now }
 {
@@ -49,6 +43,7 @@ pub fn enter_sort(lens: &mut [u16], n: usize, p: &[u8])
 }
 
 // Chains a type after n others by the hash h of its payload.
+#[tactic(auto, using(crate::proofs::chains::Hashing::hash_few), unfolding(crate::specs::enter::Entering::chains_after))]
 pub fn enter_type(index: &mut [u16], n: usize, h: usize)
     ensures { n < 65536 → (p : List ℕ) → h ≡ hash_of_spec p → index.new ≡ chains_after index.old 7 n p }
 {

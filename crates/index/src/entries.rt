@@ -3,6 +3,7 @@ ghost use Rattle.index.specs.entries.Tests.{IsPlace};
 ghost use Rattle.std.specs.Prelude.{◌≡◌, ◌+◌, ◌≤◌, ◌<◌, max, get_or};
 ghost use Rattle.records.specs.kind.Kinds.{kind_number};
 
+use records::fields::HEADER;
 use records::kind::Kind;
 
 // Entry i of a table, as of the index, where it is a file offset; 0 past the end.
@@ -27,11 +28,7 @@ pub fn count_of(counts: &[u16], kind: Kind) -> usize
 pub fn place_of(index: &[u16], i: usize) -> usize
     ensures { 4 ≤ get_or index.now i 0 → result + 4 ≡ get_or index.now i 0 }
 {
-    let start = place_at(index, i);
-    if start < 4 {
-        return 0;
-    }
-    start - 4
+    place_at(index, i).saturating_sub(HEADER)
 }
 
 // A number as an entry of a table; 0 where it does not fit one.

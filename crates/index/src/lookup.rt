@@ -7,6 +7,7 @@ use records::cursor::payload;
 use records::fields::length_at;
 
 // The payload of entry i of the index, as a part of the file; empty where the index has no such entry.
+#[tactic(auto, using(crate::proofs::lookup::Found::entry_is))]
 pub fn entry<'a>(file: &'a [u8], index: &[u16], i: usize) -> &'a [u8]
     ensures { result.now ≡ entry_of file.now index.now i }
 {

@@ -12,36 +12,43 @@ use index::layout::{MAX_ARGUMENTS, MAX_BODY, MAX_NONTERMINALS, NODE, NONTERMINAL
 use records::fields::{byte_at, word_at};
 use records::refusal::Fault;
 
-// How many entries a tag's numbers have: 0 constructors, 1 nonterminals, else parameters.
-fn entries_for(tag: usize, constructors: usize, nonterminals: usize, parameters: usize) -> usize
-    ensures { result ≡ get_or (constructors ∷ nonterminals ∷ []) tag parameters }
-{
-    match tag {
-        0 => constructors,
-        1 => nonterminals,
-        _ => parameters,
-    }
+// How many entries the numbers of a body's nodes may name.
+#[derive(Clone, Copy)]
+struct Entries {
+    constructors: usize,
+    nonterminals: usize,
+    parameters: usize,
 }
 
-// Whether a node is out of range: its tag, its number, or its argument count.
-fn wrong_cell(node: &[u8], constructors: usize, nonterminals: usize, parameters: usize) -> bool
-    ensures { result ≡ wrong_cell_spec constructors nonterminals parameters (cell_from node.now 0) }
-{
-    let tag = byte_at(node, 0);
-    let number = word_at(node, 1);
-    let count = byte_at(node, 3);
-    if 2 < tag {
-        return true;
+impl Entries {
+    // How many a tag's numbers have: 0 constructors, 1 nonterminals, else parameters.
+    fn of_tag(self, tag: usize) -> usize
+        ensures { result ≡ get_or (self.constructors ∷ self.nonterminals ∷ []) tag self.parameters }
+    {
+        match tag {
+            0 => self.constructors,
+            1 => self.nonterminals,
+            _ => self.parameters,
+        }
     }
-    let entries = entries_for(tag, constructors, nonterminals, parameters);
-    entries <= number || MAX_ARGUMENTS < count
-}
 
-// Whether a node of a body is out of range.
-fn wrong_cells(p: &[u8], constructors: usize, nonterminals: usize, parameters: usize) -> bool
-    ensures { result ≡ any (wrong_cell_spec constructors nonterminals parameters) (cells_of p.now) }
-{
-    p.chunks_exact(NODE).any(|node| wrong_cell(node, constructors, nonterminals, parameters))
+    // Whether a node is out of range: its tag, its number, or its argument count.
+    #[tactic(auto, unfolding(casefile::specs::Refusals::wrong_cell_spec))]
+    fn exclude(self, node: &[u8]) -> bool
+        ensures { result ≡ wrong_cell_spec self.constructors self.nonterminals self.parameters (cell_from node.now 0) }
+    {
+        let tag = byte_at(node, 0);
+        let number = word_at(node, 1);
+        let count = byte_at(node, 3);
+        2 < tag || self.of_tag(tag) <= number || MAX_ARGUMENTS < count
+    }
+
+    // Whether a node of a body is out of range.
+    fn exclude_any(self, body: &[u8]) -> bool
+        ensures { result ≡ any (wrong_cell_spec self.constructors self.nonterminals self.parameters) (cells_of body.now) }
+    {
+        body.chunks_exact(NODE).any(|node| self.exclude(node))
+    }
 }
 
 // Tests the payload p of a rule after n rules, with a given number of sorts, constructors and nonterminals.
@@ -72,8 +79,12 @@ pub fn test_rule(
         return Err(Fault::OutOfRange);
     }
     let s = word_at(file, place_at(index, NONTERMINALS_AT + n));
-    let parameters = place_at(lens, s);
-    if wrong_cells(p, constructors, nonterminals, parameters) {
+    let entries = Entries {
+        constructors,
+        nonterminals,
+        parameters: place_at(lens, s),
+    };
+    if entries.exclude_any(p) {
         return Err(Fault::OutOfRange);
     }
     Ok(())

@@ -2,7 +2,7 @@
 use Prim.Native.Nat.{ℕ, zero, suc, ◌+◌, ◌-◌, ◌<◌, ◌≤◌}
 use native.Mathlib.Omega.{arith}
 use native.Mathlib.Decide.{ℕ_discrete}
-use mathlib.Core.Path.{◌≡◌, refl, sym, ap, ap₂, subst, ◌∙◌}
+use mathlib.Core.Path.{◌≡◌, refl, sym, ap, ap₂, ◌∙◌}
 use mathlib.Core.Bool.{Bool, true, false, ◌||◌}
 use mathlib.Core.List.{List, [], ◌∷◌, ◌++◌}
 use borrow.Author.Tests.{eq-eqb, ne_eqb, eqb-true}
@@ -18,8 +18,7 @@ use Rattle.casefile.proofs.TypeTable.{count_payloads}
 use Rattle.index.specs.layout.Layout.{max_types, types_at, hashes_at, links_at}
 use Rattle.index.specs.entries.Index.{Indexed}
 use Rattle.index.specs.entries.Chains.{hash_of_spec, latest, Chained}
-use Rattle.index.specs.repeats.Matching.{same_payload_spec}
-use Rattle.index.proofs.repeats.Seeking.{entry_same}
+use Rattle.index.proofs.repeats.Seeking.{Same, entry_same}
 use Rattle.index.specs.chains.Listing.{Listed}
 use Rattle.index.proofs.chains.Hashing.{hash_few}
 
@@ -116,11 +115,7 @@ module _ (file index p : List ℕ) where
       (e ∙ ap (λ z. get_or index (hashes_at + z) 0) eh ∙ ch.heads (hash_of_spec p) (hash_few p))
       (ap (any (same_bytes_spec p)) (sym (take-length (payloads type rs)) ∙ ap (λ k. take k (payloads type rs)) (so_many ix)))
 
-  -- what is asked of the test of one type
-  abbrev Says : ℕ → Bool → Type 0
-  Says at v = 4 ≤ at → at < 65536 → length p ≤ 64 → v ≡ same_payload_spec p file at
-
-  module _ (last i at : ℕ) (v : Bool) (is : i ≡ last - 1) (some : 0 < last) (e : at ≡ get_or index (types_at + i) 0) (small : at < 65536) (says : Says at v) (s : Sought last) where
+  module _ (last i : ℕ) (v : Bool) (is : i ≡ last - 1) (some : 0 < last) (says : v ≡ Same file index p (types_at + i)) (s : Sought last) where
     module _ {n : ℕ} {rs : List Record} (ix : Indexed file index type n rs) (ch : Chained index (payloads type rs) n) (few : n ≤ max_types) (l : length p ≤ 64) where
       old : Left n last (payloads type rs)
       old = s n rs ix ch few l
@@ -129,7 +124,7 @@ module _ (file index p : List ℕ) where
       within = let a = old.inside in omega arith
 
       told : same_bytes_spec p (get_or (payloads type rs) i []) ≡ v
-      told = sym (says (subst (λ z. 4 ≤ z) (sym e) (ix.behind_header i within)) small l ∙ entry_same file index types_at n p refl ix i at within e)
+      told = sym (says ∙ entry_same file index p ix i within)
 
       -- with the type at hand apart
       apart : any (same_bytes_spec p) (payloads type rs) ≡ (v || any (same_bytes_spec p) (take i (payloads type rs)))

@@ -18,13 +18,15 @@ module _ (p : List ℕ) where
   pub mix_start : (b : ℕ) → b ≡ byte p 0 → Mixes (b * 256) 0
   mix_start b e = ap (λ z. mixed (z * 256) (words p)) (sym e)
 
-  pub mix_step : (h i w : ℕ) → i + 2 ≤ length p → w ≡ word p i → Mixes h i → Mixes ((h + w) * 40503 % 65536) (i + 2)
+  pub mix_step : (h k w : ℕ) → 2 * k + 2 ≤ length p → w ≡ word p (2 * k) → Mixes h (2 * k) → Mixes ((h + w) * 40503 % 65536) (2 * (k + 1))
   unfolding mixed
-  mix_step h i w l e m = m ∙ ap (mixed h) (words_step p i l ∙ ap (λ k. k ∷ words (drop (i + 2) p)) (sym e))
+  mix_step h k w l e m =
+      let next : 2 * k + 2 ≡ 2 * (k + 1) = omega arith in
+      m ∙ ap (mixed h) (words_step p (2 * k) l ∙ ap (λ n. n ∷ words (drop (2 * k + 2) p)) (sym e)) ∙ ap (λ n. mixed ((h + w) * 40503 % 65536) (words (drop n p))) next
 
-  pub mix_done : (h i : ℕ) → length p < i + 2 → Mixes h i → h / 256 % 256 ≡ hash_of_spec p
+  pub mix_done : (h k : ℕ) → length p < 2 * k + 2 → Mixes h (2 * k) → h / 256 % 256 ≡ hash_of_spec p
   unfolding mixed hash_of_spec
-  mix_done h i l m = ap (λ z. z / 256 % 256) (sym (m ∙ ap (mixed h) (words_done p i l)))
+  mix_done h k l m = ap (λ z. z / 256 % 256) (sym (m ∙ ap (mixed h) (words_done p (2 * k) l)))
 
 pub hash_few : (p : List ℕ) → hash_of_spec p < hashes
 unfolding hash_of_spec

@@ -1,13 +1,12 @@
 -- Tables after a store, and the entries of kinds by their numbers.
-use Prim.Native.Nat.{ℕ, ◌+◌, ◌<◌, ◌≤◌}
-use native.Mathlib.Omega.{arith}
+use Prim.Native.Nat.{ℕ, ◌+◌, ◌<◌}
 use mathlib.Core.Path.{◌≡◌, refl, sym, ap, ◌∙◌}
 use mathlib.Core.Bool.{Bool, true, false}
 use mathlib.Core.List.{List}
-use borrow.Author.Tests.{lt-ltb, le-ltb, eq-eqb, ne_eqb}
+use borrow.Author.Tests.{lt-ltb, eq-eqb, ne_eqb}
 use lib.Dec.{ltb, eqb}
 use lib.ListN.{length, get_or, set, length-set}
-use lib.Seq.{set_out, get_or-set_same, get_or-set_other}
+use lib.Seq.{get_or-set_same, get_or-set_other}
 use Rattle.scheme.specs.Lists.{choose◌then◌else◌}
 use Rattle.casefile.specs.Fields.{word}
 use Rattle.casefile.specs.Kinds.{Kind, number, kind_of}
@@ -26,13 +25,6 @@ number_inj k k' e = some_inj (sym (kind_of_number k) ∙ ap kind_of e ∙ kind_o
 pub stored_set : (a : List ℕ) (i v : ℕ) → v < 65536 → stored a i v ≡ set a i v
 unfolding stored
 stored_set a i v h = simp (lt-ltb v 65536 h)
-
-pub stored_large : (a : List ℕ) (i v : ℕ) → 65535 < v → a ≡ stored a i v
-unfolding stored
-stored_large a i v h = simp (le-ltb v 65536 h)
-
-pub stored_past : (a : List ℕ) (i v : ℕ) → v ≤ 65535 → length a ≤ i → a ≡ stored a i v
-stored_past a i v h l = sym (stored_set a i v (omega arith) ∙ set_out a i v l)
 
 pub stored_length : (a : List ℕ) (i v : ℕ) → length (stored a i v) ≡ length a
 unfolding stored
@@ -54,11 +46,7 @@ stored_other a i v j ne = by (ltb v 65536)
     by true = get_or-set_other a i j v 0 ne
     by false = refl
 
--- the argument counts after a sort, and after another record
-pub lens_sort : (lens : List ℕ) (kind n : ℕ) (p : List ℕ) (to x : ℕ) (after : List ℕ) → kind ≡ 1 → to ≡ word p 2 → x ≡ get_or lens to 0 → after ≡ stored lens (n + 1) (x + 1) → after ≡ lens_after lens kind n p
-unfolding lens_after
-lens_sort lens kind n p to x after k et ex e = simp (eq-eqb kind 1 k) (e ∙ ap (λ z. stored lens (n + 1) (z + 1)) (ex ∙ ap (λ z. get_or lens z 0) et))
-
+-- the argument counts after a record that is no sort
 pub lens_other : (lens : List ℕ) (kind n : ℕ) (p : List ℕ) → (kind ≡ 1 → ⊥) → lens ≡ lens_after lens kind n p
 unfolding lens_after
 lens_other lens kind n p k = simp (ne_eqb kind 1 k)
@@ -71,13 +59,7 @@ lens_length lens kind n p = by (eqb kind 1)
     by true = stored_length lens (n + 1) (get_or lens (word p 2) 0 + 1)
     by false = refl
 
--- the chains after a type, and after another record
-pub chains_type : (index : List ℕ) (kind n : ℕ) (p : List ℕ) (h last : ℕ) (between after : List ℕ) → kind ≡ 7 → h ≡ hash_of_spec p → last ≡ get_or index (hashes_at + h) 0
-    → between ≡ stored index (links_at + n) last → after ≡ stored between (hashes_at + h) (n + 1) → after ≡ chains_after index kind n p
-unfolding chains_after
-chains_type index kind n p h last between after k eh el eb e =
-    simp (eq-eqb kind 7 k) (e ∙ ap (λ z. stored z (hashes_at + h) (n + 1)) (eb ∙ ap (stored index (links_at + n)) el) ∙ ap (λ z. stored (stored index (links_at + n) (get_or index (hashes_at + z) 0)) (hashes_at + z) (n + 1)) eh)
-
+-- the chains after a record that is no type, and after a type
 pub chains_other : (index : List ℕ) (kind n : ℕ) (p : List ℕ) → (kind ≡ 7 → ⊥) → index ≡ chains_after index kind n p
 unfolding chains_after
 chains_other index kind n p k = simp (ne_eqb kind 7 k)

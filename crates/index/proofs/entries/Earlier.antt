@@ -23,7 +23,7 @@ unfolding payloads count
 payloads_length k rs = length-map (of_kind k rs) (λ (r : Record). r.payload)
 
 -- a length that is not wrong
-equal : (n m : ℕ) → not (eqb n m) ≡ false → n ≡ m
+pub equal : (n m : ℕ) → not (eqb n m) ≡ false → n ≡ m
 equal n m e = eqb-true n m (not-false (eqb n m) e)
 
 -- the last payload of a list is its entry with the highest number

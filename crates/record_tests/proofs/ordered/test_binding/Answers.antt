@@ -4,9 +4,8 @@ use mathlib.Core.Path.{◌≡◌, ◌∙◌}
 use lib.ListN.{length}
 use Rattle.casefile.specs.Fields.{word}
 use mathlib.Core.List.{List}
-use mathlib.Core.Logic.{⊎_elim}
 use native.Mathlib.Omega.{arith}
-use borrow.Author.Tests.{le-leb, lt-leb, eq-eqb, ne_eqb}
+use borrow.Author.Tests.{lt-leb, eq-eqb}
 use Rattle.scheme.specs.Lists.{choose◌then◌else◌}
 use Rattle.casefile.specs.Records.{Record}
 use Rattle.casefile.specs.Kinds.{nonterminal, type, binding, count}
@@ -23,24 +22,6 @@ decided : (rs : List Record) (p : List ℕ) {n f t fs ts : ℕ} → length p ≡
 unfolding code_for wrong_length too_many too_large out_of_range
 decided rs p {n} {f} {t} {fs} {ts} l few ef et lf lt n' fs' ts' =
     simp (eq-eqb (length p) 4 l, n', lt-leb max_bindings n few, fs', ts', ← ef, ← et, lt-leb fs f lf, lt-leb ts t lt)
-
-pub returns-then-p-ne4 : goal.returns-then-p-ne4
-unfolding code_for wrong_length
-returns-then-p-ne4 c rs ix fit e t = simp (ne_eqb _ 4 c.if-p-ne4.true)
-
-pub returns-then-n-ge-MAX_BINDINGS : goal.returns-then-n-ge-MAX_BINDINGS
-unfolding code_for wrong_length too_many
-returns-then-n-ge-MAX_BINDINGS c rs ix fit e t = simp (eq-eqb _ 4 c.if-p-ne4.false, ix.counted, le-leb max_bindings _ c.if-n-ge-MAX_BINDINGS.true)
-
-pub returns-then-nonterminals-f : goal.returns-then-nonterminals-f
-unfolding code_for wrong_length too_many too_large out_of_range
-returns-then-nonterminals-f c rs ix fit e t =
-    let f = c.word_at-f.ensures.value in
-    let u = c.word_at-t.ensures.value in
-    ⊎_elim
-    (λ w. simp (eq-eqb _ 4 c.if-p-ne4.false, ix.counted, lt-leb max_bindings _ c.if-n-ge-MAX_BINDINGS.false, e, t, ← f, ← u, le-leb c.args.nonterminals c.word_at-f.result w))
-    (λ w. simp (eq-eqb _ 4 c.if-p-ne4.false, ix.counted, lt-leb max_bindings _ c.if-n-ge-MAX_BINDINGS.false, e, t, ← f, ← u, lt-leb c.args.nonterminals c.word_at-f.result w.0, le-leb c.args.types c.word_at-t.result w.1))
-    c.then-nonterminals-f.either
 
 pub returns-then-n-eq0 : goal.returns-then-n-eq0
 returns-then-n-eq0 c rs ix fit e t =

@@ -7,7 +7,7 @@ use Rattle.casefile.specs.Fields.{byte}
 use mathlib.Core.List.{List}
 use mathlib.Core.Logic.{⊎_elim}
 use native.Mathlib.Omega.{arith}
-use borrow.Author.Tests.{le-leb, lt-leb, eq-eqb, ne_eqb}
+use borrow.Author.Tests.{le-leb, lt-leb, eq-eqb}
 use Rattle.scheme.specs.Lists.{choose◌then◌else◌}
 use Rattle.casefile.specs.Records.{Record}
 use Rattle.casefile.specs.Kinds.{constructor, transition, count}
@@ -37,14 +37,6 @@ decided : (rs : List Record) (p : List ℕ) {n : ℕ} → length p ≡ 6 → n <
     → (choose misplaced rs p transition then 7 else 0) ≡ code_for rs p transition
 unfolding code_for wrong_length too_many too_large
 decided rs p {n} l few n' r = simp (eq-eqb (length p) 6 l, n', lt-leb max_transitions n few, r)
-
-pub returns-then-p-ne6 : goal.returns-then-p-ne6
-unfolding code_for wrong_length
-returns-then-p-ne6 c rs ix fit e is fits = simp (ne_eqb _ 6 c.if-p-ne6.true)
-
-pub returns-then-n-ge-MAX_TRANSITIONS : goal.returns-then-n-ge-MAX_TRANSITIONS
-unfolding code_for wrong_length too_many
-returns-then-n-ge-MAX_TRANSITIONS c rs ix fit e is fits = simp (eq-eqb _ 6 c.if-p-ne6.false, ix.counted, le-leb max_transitions _ c.if-n-ge-MAX_TRANSITIONS.true)
 
 pub returns-then-states-q : goal.returns-then-states-q
 unfolding code_for wrong_length too_many too_large out_of_range

@@ -3,9 +3,6 @@ use mathlib.Core.Path.{sym, ◌∙◌}
 use Rattle.record_tests.proofs.type_record.Codes.{arrow_short, arrow_long, arrow_odd, arrow_many, arrow_later, arrow_down, arrow_alone}
 use Rattle.record_tests.proofs.type_record.test_alone.Goals as goal
 
-pub returns-then-p-eq1 : goal.returns-then-p-eq1
-returns-then-p-eq1 c = c.test_state.ensures c.if-p-eq1.true
-
 pub returns-then-p-lt2 : goal.returns-then-p-lt2
 returns-then-p-lt2 c = arrow_short _ _ _ c.if-p-eq1.false c.if-p-lt2.true
 

@@ -7,10 +7,10 @@ use Rattle.casefile.specs.Refusals.{wrong_cell_spec}
 use Rattle.record_tests.specs.rule_record.Cells.{cell_from}
 use Rattle.record_tests.proofs.Parts.{any_is, parts_yielded}
 use Rattle.record_tests.proofs.rule_record.Cells.{short_cells, cells_more}
-use Rattle.record_tests.proofs.rule_record.wrong_cells.Goals as goal
+use Rattle.record_tests.proofs.rule_record.Entries.exclude_any.Goals as goal
 
 pub returns : goal.returns
 returns c =
-    let wrong = wrong_cell_spec c.args.constructors c.args.nonterminals c.args.parameters in
-    let y = parts_yielded 4 (λ p. cell_from p 0) cells_of short_cells cells_more c.args.p.now c.chunks_exact.ensures.rest c.chunks_exact.ensures.size in
-    any_from_yields_List wrong _ _ _ c.any.ensures.ran y (λ x b q k. search (rules, tests)) ∙ any_is wrong (cells_of c.args.p.now)
+    let wrong = wrong_cell_spec c.args.self.constructors c.args.self.nonterminals c.args.self.parameters in
+    let y = parts_yielded 4 (λ p. cell_from p 0) cells_of short_cells cells_more c.args.body.now c.chunks_exact.ensures.rest c.chunks_exact.ensures.size in
+    any_from_yields_List wrong _ _ _ c.any.ensures.ran y (λ x b q k. search (rules, tests)) ∙ any_is wrong (cells_of c.args.body.now)
