@@ -1,6 +1,6 @@
 -- The sorts of the heads of a body's nodes.
 use Prim.Native.Nat.{ℕ, ◌+◌, ◌*◌, ◌/◌, ◌<◌, ◌≤◌}
-use mathlib.Core.Path.{◌≡◌, refl, sym, subst, ◌∙◌}
+use mathlib.Core.Path.{◌≡◌, refl, sym, ap, subst, ◌∙◌}
 use mathlib.Core.Bool.{false}
 use mathlib.Core.List.{List, [], ◌∷◌}
 use native.Mathlib.Omega.{arith}
@@ -8,7 +8,7 @@ use lib.ListN.{length, get_or}
 use Rattle.scheme.specs.Sorts.{Sort, o, arguments}
 use Rattle.scheme.specs.Sorting.{head_sort}
 use Rattle.scheme.proofs.Lists.{any_at, get_d_map_in, get_d_prefix}
-use Rattle.casefile.specs.Fields.{field}
+use Rattle.casefile.specs.Fields.{field, IsField}
 use Rattle.casefile.specs.Tables.{cells_of, head_of}
 use Rattle.casefile.specs.Refusals.{wrong_cell_spec}
 use Rattle.sorts.specs.codes.Sorted.{Code, listed, ParameterSort}
@@ -16,13 +16,10 @@ use Rattle.casefile.proofs.Cells.{cells_length, cells_at, cell_range}
 use Rattle.casefile.specs.Promises.{cell_at}
 use Rattle.bodies.specs.Bodies.{heads_by, BodyTables}
 
--- a sort's number fits two bytes
-pub narrowed : {froms tos : List ℕ} {own j v r : ℕ} → ParameterSort froms tos own j v → (v < 65536 → r ≡ v) → ParameterSort froms tos own j r
-narrowed f e sorts t h k =
-    let g = f sorts t h k in
-    let few = t.few in
-    let same = e (omega arith) in
-    rw same g
+-- two bytes side by side are a field of two
+pub field_two : (s : List ℕ) (i j r : ℕ) → j ≡ i + 1 → get_or s i 0 < 256 → get_or s j 0 < 256 → r ≡ get_or s i 0 + get_or s j 0 * 256 → IsField 2 s i r
+unfolding field
+field_two s i j r e low high er = let same = ap (λ k. get_or s k 0) e in record { value = omega arith; bound = omega arith }
 
 tag_two : (k : ℕ) → k ≤ 2 → (k ≡ 0 → ⊥) → (k ≡ 1 → ⊥) → k ≡ 2
 tag_two k h a b = omega arith

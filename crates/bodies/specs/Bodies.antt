@@ -1,6 +1,6 @@
 -- What our own crates promise each other; nothing here has to be believed.
 -- The body of a rule read by node number: where each subterm ends, its sort and its depth.
-use Rattle.std.specs.Prelude.{ℕ, suc, ◌+◌, ◌*◌, ◌/◌, ◌<◌, ◌≤◌, ◌≡◌, Bool, true, false, not, List, map, T, length, get_or, take, drop}
+use Rattle.std.specs.Prelude.{ℕ, suc, ◌+◌, ◌*◌, ◌/◌, ◌<◌, ◌≤◌, ◌≡◌, Bool, true, false, not, Option, Some, None, is_some, List, map, T, length, get_or, take, drop}
 use Rattle.std.proofs.Math.Option.{some}
 use Rattle.scheme.specs.Lists.{any}
 use Rattle.scheme.specs.Sorts.{Sort, o, arguments}
@@ -12,7 +12,7 @@ use Rattle.casefile.specs.Tables.{cells_of, head_of, nodes_of, first_term}
 use Rattle.casefile.specs.Refusals.{wrong_cell_spec, wrong_body}
 use Rattle.casefile.specs.Promises.{cell_at}
 use Rattle.sorts.specs.codes.Sorted.{Code, Coded}
-use Rattle.bodies.specs.declared.Arguments.{Arguments}
+use Rattle.bodies.specs.declared.Subterm.{Subterm}
 use Rattle.index.specs.layout.Layout.{max_nodes, max_depth, rows_size}
 
 -- the tables hold terms one after another from node `at` up to node n: where each ends, the code of its sort, its depth
@@ -23,7 +23,7 @@ Held hs sorts ends codes depths n (t ∷ᵗ ts) at =
     × (get_or depths at 0 ≡ depth t) × (depth t ≤ max_depth) × Held hs sorts ends codes depths n ts (at + nodes t)
 
 -- the result of k arguments from node `at` on, of a head of sort s
-pub record Fits (hs : Head → Sort) (sorts : List Sort) (ts : Terms) (s : Sort) (at k : ℕ) (r : Arguments) : Type 0 where
+pub record Fits (hs : Head → Sort) (sorts : List Sort) (ts : Terms) (s : Sort) (at k : ℕ) (r : Subterm) : Type 0 where
   pub enough : k ≤ countᵗ ts
   pub end_is : r.end ≡ at + nodes_all (takeᵗ k ts)
   pub rest : Sort
@@ -31,20 +31,22 @@ pub record Fits (hs : Head → Sort) (sorts : List Sort) (ts : Terms) (s : Sort)
   pub code : Code sorts r.sort rest
   pub deep_is : r.deep ≡ deepest (takeᵗ k ts)
 
--- r says whether k arguments from node `at` on fit a head's sort, and what their result is; its end and its sort fit two bytes
-pub record ArgumentsFit (froms tos trees ends codes depths : List ℕ) (n at k head : ℕ) (r : Arguments) : Type 0 where
+-- r is the result of k arguments from node `at` on, or none where they do not fit a head's sort; its end and its sort fit two bytes
+pub record ArgumentsFit (froms tos trees ends codes depths : List ℕ) (n at k head : ℕ) (r : Option Subterm) : Type 0 where
   pub fits : (hs : Head → Sort) (sorts : List Sort) (ts : Terms) (s : Sort) → Coded sorts froms tos trees → Held hs sorts ends codes depths n ts at
-      → Code sorts head s → r.fit ≡ true → Fits hs sorts ts s at k r
+      → Code sorts head s → (a : Subterm) → r ≡ Some a → Fits hs sorts ts s at k a
   pub misfit : (hs : Head → Sort) (sorts : List Sort) (ts : Terms) (s : Sort) → Coded sorts froms tos trees → Held hs sorts ends codes depths n ts at
-      → Code sorts head s → r.fit ≡ false → k ≤ countᵗ ts → (x : Sort) → sort_after hs (takeᵗ k ts) s ≡ some x → ⊥
-  pub end_small : r.fit ≡ true → r.end < 65536
-  pub sort_small : r.fit ≡ true → r.sort < 65536
+      → Code sorts head s → r ≡ None → k ≤ countᵗ ts → (x : Sort) → sort_after hs (takeᵗ k ts) s ≡ some x → ⊥
+  pub end_small : (a : Subterm) → r ≡ Some a → a.end < 65536
+  pub sort_small : (a : Subterm) → r ≡ Some a → a.sort < 65536
 
--- r is what the tables of n nodes hold of a node
-pub record HeldAs (ends codes depths : List ℕ) (n at : ℕ) (r : Arguments) : Type 0 where
-  pub end_is : at < n → r.end ≡ get_or ends at 0
-  pub sort_is : at < n → r.sort ≡ get_or codes at 0
-  pub deep_is : at < n → r.deep ≡ get_or depths at 0
+-- r is what the tables of n nodes hold of a node; none behind the last
+pub record HeldAs (ends codes depths : List ℕ) (n at : ℕ) (r : Option Subterm) : Type 0 where
+  pub behind : r ≡ None → n ≤ at
+  pub inside : (a : Subterm) → r ≡ Some a → at < n
+  pub end_is : (a : Subterm) → r ≡ Some a → a.end ≡ get_or ends at 0
+  pub sort_is : (a : Subterm) → r ≡ Some a → a.sort ≡ get_or codes at 0
+  pub deep_is : (a : Subterm) → r ≡ Some a → a.deep ≡ get_or depths at 0
 
 -- the sorts of heads: constructors by their argument counts, nonterminals by the numbers of their sorts, parameters by the number of their nonterminal's sort
 abbrev pub heads_by : List Sort → List ℕ → List ℕ → ℕ → Head → Sort
@@ -103,18 +105,20 @@ pub record Room (p ends codes depths : List ℕ) : Type 0 where
   pub depths_long : length depths ≡ rows_size
 
 -- node i was read, and where it fits, r is what the tables hold of it
-pub record NodeTaken (p froms tos trees arities signatures : List ℕ) (own i : ℕ) (ends codes depths ends' codes' depths' : List ℕ) (r : Arguments) : Type 0 where
-  pub read : NodeRead p froms tos trees arities signatures own i ends codes depths ends' codes' depths' r.fit
-  pub held_as : r.fit ≡ true → HeldAs ends' codes' depths' (length p / 4) i r
+pub record NodeTaken (p froms tos trees arities signatures : List ℕ) (own i : ℕ) (ends codes depths ends' codes' depths' : List ℕ) (r : Option Subterm) : Type 0 where
+  pub read : NodeRead p froms tos trees arities signatures own i ends codes depths ends' codes' depths' (is_some r)
+  pub held_as : (a : Subterm) → r ≡ Some a → HeldAs ends' codes' depths' (length p / 4) i r
 
--- r says whether the nodes of a body are complete, and sorted terms of 64 levels at most; then the tables hold them
-pub record Scanned (p froms tos trees arities signatures : List ℕ) (own : ℕ) (before ends codes depths : List ℕ) (r : Bool) : Type 0 where
+-- r says whether the nodes of a body are complete, and sorted terms of 64 levels at most; then the tables hold them, and r is what they
+-- hold of the first
+pub record Scanned (p froms tos trees arities signatures : List ℕ) (own : ℕ) (before ends codes depths : List ℕ) (r : Option Subterm) : Type 0 where
   pub long : length ends ≡ length before
   pub rest : drop (length p / 4) ends ≡ drop (length p / 4) before
   pub holds : (sorts : List Sort) (counts numbers : List ℕ) → BodyTables sorts counts numbers p froms tos trees arities signatures own → length p / 4 ≤ length before
-      → r ≡ true → HeldFrom (heads_by sorts counts numbers own) sorts (nodes_of p) ends codes depths 0
+      → (a : Subterm) → r ≡ Some a → HeldFrom (heads_by sorts counts numbers own) sorts (nodes_of p) ends codes depths 0
+  pub held_as : (a : Subterm) → r ≡ Some a → HeldAs ends codes depths (length p / 4) 0 r
   pub fails : (sorts : List Sort) (counts numbers : List ℕ) → BodyTables sorts counts numbers p froms tos trees arities signatures own → length p / 4 ≤ length before
-      → r ≡ false → T (complete (nodes_of p)) → Goods (heads_by sorts counts numbers own) (terms (nodes_of p)) → ⊥
+      → r ≡ None → 0 < length p / 4 → T (complete (nodes_of p)) → Goods (heads_by sorts counts numbers own) (terms (nodes_of p)) → ⊥
 
 -- r says whether the body p is accepted, and where it is, each subterm ends at the node that `ends` says; entries behind the nodes are as before
 pub record BodyDecided (p froms tos trees arities signatures : List ℕ) (own : ℕ) (before ends : List ℕ) (r : Bool) : Type 0 where

@@ -26,13 +26,11 @@ fn arrow_sorts(file: &[u8], place: usize, len: usize, fit: &[u64]) -> u64
     ensures { FitsArrow file.now place len fit.now result }
 {
     let mut sorts = mask_at(fit, word_at(file, place), FIT_RESULTS);
-    let mut i: usize = 2;
-    while i + 2 <= len {
+    for k in 1..len / 2 {
         if sorts == 0 {
             return 0;
         }
-        sorts = sorts & mask_at(fit, word_at(file, place + i), FIT_ARGUMENTS);
-        i = i + 2;
+        sorts &= mask_at(fit, word_at(file, place + 2 * k), FIT_ARGUMENTS);
     }
     sorts
 }
@@ -84,13 +82,11 @@ pub fn fill_fits(file: &[u8], index: &[u16], types: usize, sorts: usize, fit: &m
     enter_sorts(file, index, sorts, 0, &mut froms);
     let mut tos = [0u64; ALL_SORTS];
     enter_sorts(file, index, sorts, 2, &mut tos);
-    let mut t: usize = 0;
-    while t < types {
+    for t in 0..types {
         let row = row_of(file, index, &froms, &tos, t, fit);
         let at = t * FIT_MASKS;
         fit[at + FIT_SORTS] = row.sorts;
         fit[at + FIT_RESULTS] = row.results;
         fit[at + FIT_ARGUMENTS] = row.arguments;
-        t = t + 1;
     }
 }

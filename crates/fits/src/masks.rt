@@ -27,13 +27,11 @@ pub(crate) fn enter_sorts(
     requires { (sorts ≤ max_sorts) × (at ≤ 2) }
     ensures { Empty masks.old → SortsWith file.now index.now sorts at masks.new }
 {
-    let mut i: usize = 0;
-    while i < sorts {
+    for i in 0..sorts {
         let number = word_at(file, place_at(index, i) + at);
         if number <= MAX_SORTS {
-            masks[number] = masks[number] | 1u64 << (i as u64);
+            masks[number] |= 1u64 << (i as u64);
         }
-        i = i + 1;
     }
 }
 
@@ -53,9 +51,9 @@ pub(crate) fn unions_of(tos: &SortMasks, froms: &SortMasks, word: u64) -> Unions
     let mut left = word;
     while left != 0 {
         let i = u64::trailing_zeros(left) as usize;
-        results = results | tos[i + 1];
-        arguments = arguments | froms[i + 1];
-        left = left & (left - 1);
+        results |= tos[i + 1];
+        arguments |= froms[i + 1];
+        left &= left - 1;
     }
     Unions { results, arguments }
 }

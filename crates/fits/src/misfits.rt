@@ -1,5 +1,5 @@
 // The first binding whose type does not fit its nonterminal's sort, 11.
-ghost use Rattle.std.specs.Prelude.{◌<◌};
+ghost use Rattle.std.specs.Prelude.{◌<◌, ◌≤◌, IfSome};
 ghost use Rattle.fits.specs.misfits.Misfits.{TestsFit, FindsMisfit};
 
 use crate::masks::mask_at;
@@ -22,23 +22,22 @@ fn fits_sort(file: &[u8], index: &[u16], fit: &[u64], t: usize, s: usize) -> boo
     (sorts >> ((s - 1) as u64)) % 2 == 1
 }
 
-// The number of the first binding whose type does not fit its nonterminal's sort, or the number of bindings where all fit.
-pub fn first_misfit(file: &[u8], index: &[u16], fit: &[u64], bindings: usize) -> usize
-    ensures { FindsMisfit file.now index.now fit.now bindings result }
+// The number of the first binding whose type does not fit its nonterminal's sort; none where all fit.
+pub fn first_misfit(file: &[u8], index: &[u16], fit: &[u64], bindings: usize) -> Option<usize>
+    ensures first { FindsMisfit file.now index.now fit.now bindings result }
+    ensures within { IfSome result (λ i. i ≤ bindings) }
 {
     if MAX_BINDINGS < bindings {
-        return 0;
+        return Some(0);
     }
-    let mut i: usize = 0;
-    while i < bindings {
+    for i in 0..bindings {
         let place = place_at(index, BINDINGS_AT + i);
         let f = word_at(file, place);
         let t = word_at(file, place + 2);
         let s = word_at(file, place_at(index, NONTERMINALS_AT + f));
         if !fits_sort(file, index, fit, t, s) {
-            return i;
+            return Some(i);
         }
-        i = i + 1;
     }
-    bindings
+    None
 }

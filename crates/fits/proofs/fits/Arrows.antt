@@ -28,16 +28,16 @@ module _ (file : List ℕ) (place len : ℕ) (fit : List ℕ) where
   met_none r n en er = record { decides = λ p there i. ap (λ x. has x i && rest_has p 2 i) (er ∙ ap (λ k. mask_of fit k fit_results) en) }
 
   module _ (r at : ℕ) (met : MetTo r at) where
-    pub met_more : (x n : ℕ) → at + 2 ≤ len → n ≡ word file (place + at) → x ≡ mask_of fit n fit_arguments → MetTo (bit_and r x) (at + 2)
+    pub met_more : (x n next : ℕ) → next ≡ at + 2 → at + 2 ≤ len → n ≡ word file (place + at) → x ≡ mask_of fit n fit_arguments → MetTo (bit_and r x) next
     unfolding all
-    met_more x n h en ex = record {
+    met_more x n next enext h en ex = rw enext (record {
       decides = λ p there i.
           ap (λ b. b && rest_has p (at + 2) i) (has_and i r x) ∙ and_assoc (has r i) (has x i) (rest_has p (at + 2) i)
           ∙ ap (λ b. has r i && b)
           (ap (λ y. has y i && rest_has p (at + 2) i) (ex ∙ ap (λ k. mask_of fit k fit_arguments) (en ∙ sym (there.word_there at h)))
           ∙ sym (ap (all (λ m. has (mask_of fit m fit_arguments) i)) (words_step p at (omega (arith, there.long)))))
           ∙ met.decides p there i;
-    }
+    })
 
     -- no sort is left
     pub met_empty : r ≡ 0 → FitsArrow file place len fit 0

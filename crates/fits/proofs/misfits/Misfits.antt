@@ -3,12 +3,13 @@ use Prim.Native.Nat.{ℕ, zero, suc, ◌+◌, ◌-◌, ◌/◌, ◌%◌, ◌^◌
 use native.Mathlib.Decide.{ℕ_discrete}
 use native.Mathlib.Omega.{arith}
 use native.Mathlib.Nat.{add-zero, le_of_suc-le-suc}
-use mathlib.Core.Path.{◌≡◌, refl, sym, ap, ap₂, ◌∙◌}
+use mathlib.Core.Path.{◌≡◌, refl, sym, ap, ap₂, subst, ◌∙◌}
 use mathlib.Core.Bool.{Bool, true, false, not}
 use mathlib.Core.List.{List, [], ◌∷◌, map}
 use mathlib.Core.Option.{none, some}
 use borrow.Author.Tests.{eqb-true, not-false, eq-eqb, ne_eqb}
 use borrow.Author.Count.{below_more}
+use Rattle.std.specs.Prelude.{Option, Some, None}
 use lib.Dec.{eqb}
 use lib.ListN.{length, get_or}
 use Rattle.scheme.specs.Sorts.{Sort, o}
@@ -86,13 +87,25 @@ module _ (file index fit : List ℕ) (bindings : ℕ) where
   pub fit_none : FitTo 0
   fit_none ns ts ss rs of k h = absurd (omega arith)
 
-  pub fit_all : (i : ℕ) → FitTo i → bindings ≤ i → FindsMisfit file index fit bindings bindings
-  fit_all i sofar h ns ts ss rs of = record { within = omega arith; fit_before = λ k l. sofar ns ts ss rs of k (omega arith); misfit_there = λ l. absurd (omega arith) }
+  pub fit_all : (i : ℕ) → FitTo i → bindings ≤ i → FindsMisfit file index fit bindings None
+  fit_all i sofar h ns ts ss rs of = record {
+    within = λ j e. absurd (cc);
+    fit_before = λ j e. absurd (cc);
+    misfit_there = λ j e. absurd (cc);
+    all_fit = λ e k l. sofar ns ts ss rs of k (omega arith);
+  }
 
   module _ (i place f t start s : ℕ) (x : Bool) (sofar : FitTo i) (h : i < bindings) (ep : place ≡ get_or index (bindings_at + i) 0) (ef : f ≡ word file place)
       (et : t ≡ word file (place + 2)) (eq : start ≡ get_or index (nonterminals_at + f) 0) (es : s ≡ word file start) (tests : TestsFit file index fit t s x) where
-    pub fit_stop : x ≡ false → FindsMisfit file index fit bindings i
-    fit_stop z ns ts ss rs of = record { within = omega arith; fit_before = sofar ns ts ss rs of; misfit_there = λ l. sym (binding_tested of i place f t start s x h ep ef et eq es tests) ∙ z }
+    pub fit_stop : x ≡ false → FindsMisfit file index fit bindings (Some i)
+    fit_stop z ns ts ss rs of = record {
+      within = λ j e. let same : i ≡ j = cc in omega arith;
+      fit_before = λ j e k l. let same : i ≡ j = cc in sofar ns ts ss rs of k (omega arith);
+      misfit_there = λ j e.
+          let same : i ≡ j = cc in
+          subst (λ j. binding_fits rs (get_or (payloads binding rs) j []) ≡ false) same (sym (binding_tested of i place f t start s x h ep ef et eq es tests) ∙ z);
+      all_fit = λ e. absurd (cc);
+    }
 
     pub fit_more : x ≡ true → FitTo (i + 1)
     fit_more z ns ts ss rs of =
@@ -130,13 +143,13 @@ module _ (signatures : List Sort) (types : List Ty) where
   first_met (x ∷ l) (suc r) h b e =
       test_passed 11 x.place (fitting x.payload) (tests l) (b 0 (omega arith)) ∙ first_met l r (le_of_suc-le-suc h) (λ i k. b (suc i) (omega arith)) e
 
-module _ (rs : List Record) (bindings r : ℕ) (counted : count binding rs ≡ bindings) (answer : FirstMisfit rs bindings r) where
+module _ (rs : List Record) (bindings : ℕ) (r : Option ℕ) (counted : count binding rs ≡ bindings) (answer : FirstMisfit rs bindings r) where
   -- where every binding fits, there is no refusal 11
-  pub misfits_none : r ≡ bindings → first (misfits (signatures_of rs) (bindings_of rs) (of_kind binding rs)) ≡ none
+  pub misfits_none : r ≡ None → first (misfits (signatures_of rs) (bindings_of rs) (of_kind binding rs)) ≡ none
   unfolding bindings_of payloads count
-  misfits_none e = all_passed (signatures_of rs) (types_of rs) (of_kind binding rs) (λ i h. answer.fit_before i (omega arith))
+  misfits_none e = all_passed (signatures_of rs) (types_of rs) (of_kind binding rs) (λ i h. answer.all_fit e i (omega arith))
 
   -- where one does not, it is at the place of the first such binding
-  pub misfits_first : r < bindings → first (misfits (signatures_of rs) (bindings_of rs) (of_kind binding rs)) ≡ some (record { number = 11; place = place_of binding rs r })
+  pub misfits_first : (i : ℕ) → r ≡ Some i → first (misfits (signatures_of rs) (bindings_of rs) (of_kind binding rs)) ≡ some (record { number = 11; place = place_of binding rs i })
   unfolding bindings_of payloads count
-  misfits_first h = first_met (signatures_of rs) (types_of rs) (of_kind binding rs) r (omega arith) answer.fit_before (answer.misfit_there h)
+  misfits_first i e = let h = answer.within i e in first_met (signatures_of rs) (types_of rs) (of_kind binding rs) i (omega arith) (answer.fit_before i e) (answer.misfit_there i e)

@@ -1,6 +1,6 @@
 -- What our own crates promise each other; nothing here has to be believed.
 -- The bindings that the table of fits turns away, and the first of them. Refusal 11 of the scope.
-use Rattle.std.specs.Prelude.{ℕ, ◌<◌, ◌≤◌, ◌≡◌, Bool, true, false, List, [], get_or}
+use Rattle.std.specs.Prelude.{ℕ, ◌<◌, ◌≤◌, ◌≡◌, Bool, true, false, Option, Some, None, List, [], get_or}
 use Rattle.scheme.specs.Sorts.{o}
 use Rattle.scheme.specs.Types.{state, fits}
 use Rattle.casefile.specs.Fields.{word}
@@ -34,13 +34,14 @@ pub record Offered (file index fit : List ℕ) (bindings nonterminals types sort
   pub listed : TypesAndSorts file index types sorts rs
   pub table : Fitted fit types sorts rs
 
--- r is the number of the first of a given number of bindings that does not fit, or the number of bindings where all fit
-pub record FirstMisfit (rs : List Record) (bindings r : ℕ) : Type 0 where
-  pub within : r ≤ bindings
-  pub fit_before : (i : ℕ) → i < r → binding_fits rs (get_or (payloads binding rs) i []) ≡ true
-  pub misfit_there : r < bindings → binding_fits rs (get_or (payloads binding rs) r []) ≡ false
+-- r is the number of the first of a given number of bindings that does not fit, or none where all fit
+pub record FirstMisfit (rs : List Record) (bindings : ℕ) (r : Option ℕ) : Type 0 where
+  pub within : (i : ℕ) → r ≡ Some i → i < bindings
+  pub fit_before : (i : ℕ) → r ≡ Some i → (k : ℕ) → k < i → binding_fits rs (get_or (payloads binding rs) k []) ≡ true
+  pub misfit_there : (i : ℕ) → r ≡ Some i → binding_fits rs (get_or (payloads binding rs) i []) ≡ false
+  pub all_fit : r ≡ None → (k : ℕ) → k < bindings → binding_fits rs (get_or (payloads binding rs) k []) ≡ true
 
 -- the answer, whatever records the file has that agree with the arrays
-abbrev pub FindsMisfit : List ℕ → List ℕ → List ℕ → ℕ → ℕ → Type 0
+abbrev pub FindsMisfit : List ℕ → List ℕ → List ℕ → ℕ → Option ℕ → Type 0
 FindsMisfit file index fit bindings r =
     (nonterminals types sorts : ℕ) (rs : List Record) → Offered file index fit bindings nonterminals types sorts rs → FirstMisfit rs bindings r

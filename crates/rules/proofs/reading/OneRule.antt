@@ -5,6 +5,7 @@ use mathlib.Core.Path.{◌≡◌, refl, sym, ap, ap₂, subst, ◌∙◌}
 use mathlib.Core.Bool.{Bool, true, false, not}
 use mathlib.Core.List.{List, [], ◌∷◌, map}
 use borrow.Author.Tests.{not-true, not-false}
+use Rattle.std.specs.Prelude.{Some, None}
 use lib.ListN.{length, get_or}
 use Rattle.scheme.specs.Sorts.{Sort, o}
 use Rattle.casefile.specs.Fields.{word}
@@ -38,18 +39,18 @@ length_is {index = index} {f = f} place ep len el rules rs j h =
 module _ {file index froms tos trees arities signatures : List ℕ} {f : ℕ} {before : List ℕ} where
   -- nothing is read, since the arrays hold no such rule
   rule_not : ((rules : ℕ) (rs : List Record) → Judged file index froms tos trees arities signatures rules rs → f < rules → length (rule_of rs f) / 4 ≤ length before → ⊥)
-      → RuleRead file index froms tos trees arities signatures f before before 0
-  rule_not z = record { long = refl; within = omega arith; fits = λ rules rs j h l ne. absurd (ne refl); fails = λ rules rs j h l e. absurd (z rules rs j h l) }
+      → RuleRead file index froms tos trees arities signatures f before before None
+  rule_not z = record { long = refl; within = λ n e. absurd (cc); fits = λ rules rs j h l n e. absurd (cc); fails = λ rules rs j h l e. absurd (z rules rs j h l) }
 
-  pub rule_none : 255 < f → RuleRead file index froms tos trees arities signatures f before before 0
+  pub rule_none : 255 < f → RuleRead file index froms tos trees arities signatures f before before None
   rule_none x = rule_not (λ rules rs j h l. let y = j.few in omega arith)
 
   module _ (place : ℕ) (ep : place ≡ get_or index (rules_at + f) 0) where
     module _ (len : ℕ) (el : HasLength file place len) where
-      pub rule_long : max_body < len → RuleRead file index froms tos trees arities signatures f before before 0
+      pub rule_long : max_body < len → RuleRead file index froms tos trees arities signatures f before before None
       rule_long x = rule_not (λ rules rs j h l. let y = j.few_nodes f h in let z = length_is place ep len el rules rs j h in omega arith)
 
-      pub rule_room : length before < len / 4 → RuleRead file index froms tos trees arities signatures f before before 0
+      pub rule_room : length before < len / 4 → RuleRead file index froms tos trees arities signatures f before before None
       rule_room x = rule_not (λ rules rs j h l. let z = length_is place ep len el rules rs j h in omega arith)
 
       module _ (p : List ℕ) (part : p ≡ part_of file place len) (own : ℕ) (eo : own ≡ get_or signatures f 0) (after : List ℕ) (r : Bool) (decided : BodyDecided p froms tos trees arities signatures own before after r) where
@@ -65,22 +66,22 @@ module _ {file index froms tos trees arities signatures : List ℕ} {f : ℕ} {b
           verdict l = decided_is.decided (sorts_of rs) (arities_of rs) (numbers_of rs) (j.setting f h) (j.few_nodes f h) l
               ∙ ap₂ (λ (x : List Sort) (y : Sort). not (wrong_body (arities_of rs) x y (rule_of rs f))) (numbers_sorts rs) (j.sort_is f h)
 
-        pub rule_wrong : r ≡ false → RuleRead file index froms tos trees arities signatures f before after 0
+        pub rule_wrong : r ≡ false → RuleRead file index froms tos trees arities signatures f before after None
         rule_wrong e = record {
           long = decided.long;
-          within = omega arith;
-          fits = λ rules rs j h l ne. absurd (ne refl);
+          within = λ n e. absurd (cc);
+          fits = λ rules rs j h l n e. absurd (cc);
           fails = λ rules rs j h l z. not-false (wrong_at rs f) (sym (verdict rules rs j h l) ∙ e);
         }
 
-        pub rule_right : r ≡ true → len / 4 ≤ length before → RuleRead file index froms tos trees arities signatures f before after (len / 4)
+        pub rule_right : r ≡ true → len / 4 ≤ length before → RuleRead file index froms tos trees arities signatures f before after (Some (len / 4))
         rule_right e room = record {
           long = decided.long;
-          within = room;
-          fits = λ rules rs j h l ne. (
-            ap (λ n. n / 4) (length_is place ep len el rules rs j h),
+          within = λ n is. let same : len / 4 ≡ n = cc in omega arith;
+          fits = λ rules rs j h l n is. (
+            (let same : n ≡ len / 4 = cc in same ∙ ap (λ n. n / 4) (length_is place ep len el rules rs j h)),
             not-true (wrong_at rs f) (sym (verdict rules rs j h l) ∙ e),
             (decided_is rules rs j h).ends_are (sorts_of rs) (arities_of rs) (numbers_of rs) (j.setting f h) (j.few_nodes f h) l e,
           );
-          fails = λ rules rs j h l z. absurd (let x = j.some_nodes f h in let y = length_is place ep len el rules rs j h in omega arith);
+          fails = λ rules rs j h l z. absurd (cc);
         }

@@ -1,5 +1,4 @@
 -- `row_of` meets its contract: a state's row or an arrow's, by the length of the payload.
-use borrow.Author.Rules.{rules}
 use Rattle.fits.proofs.fits.Filling.{row_state, row_arrow}
 use Rattle.fits.proofs.fits.row_of.Goals as goal
 

@@ -1,10 +1,6 @@
 -- `unions_of` meets its contract. The invariant: what each union lacks still is in the bits that are left.
-use Prim.Native.Nat.{◌-◌, ◌≤◌}
-use mathlib.Core.Path.{refl}
-use native.Mathlib.Omega.{arith}
-use lib.Bits.{and_le_l, and_le_r}
-use Rattle.fits.proofs.masks.Bits.{lowest}
-use Rattle.fits.proofs.masks.Uniting.{UnitedTo, united_none, united_more, united_all}
+use Prim.Native.Nat.{◌≤◌}
+use Rattle.fits.proofs.masks.Uniting.{UnitedTo}
 use Rattle.fits.proofs.masks.unions_of.Given as goal
 
 abbrev pub invariant-loop-left : goal.invariant-loop-left

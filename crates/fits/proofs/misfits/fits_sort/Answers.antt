@@ -1,5 +1,4 @@
 -- `fits_sort` meets its contract.
-use borrow.Author.Rules.{rules}
 use Rattle.fits.proofs.misfits.Misfits.{tree_tested, unlisted_tested, listed_tested}
 use Rattle.fits.proofs.misfits.fits_sort.Goals as goal
 
