@@ -6,8 +6,8 @@ use index::layout::{CONSTRUCTORS_AT, MAX_CONSTRUCTORS, MAX_STATES, NO_TARGET, Ro
 use records::fields::byte_at;
 
 // The row of the table for a state and a constructor; none where there is no transition, which the table says by 255.
-pub fn row_of(table: Transitions, constructors: usize, state: usize, c: usize) -> Option<Row>
-    ensures { IsRow table constructors state c result }
+pub fn row_of(table: &Transitions, constructors: usize, state: usize, c: usize) -> Option<Row>
+    ensures { IsRow table.now constructors state c result }
 {
     if MAX_STATES <= state || constructors <= c || MAX_CONSTRUCTORS <= c {
         return None;
