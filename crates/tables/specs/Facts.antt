@@ -2,7 +2,7 @@
 -- What the flat table of a check says of a file's types, bindings, automaton and bodies.
 use Rattle.std.specs.Prelude.{ℕ, zero, suc, ◌+◌, ◌*◌, ◌/◌, ◌%◌, ◌^◌, ◌<◌, ◌≤◌, ◌≡◌, true, length, get_or, drop}
 use mathlib.Core.List.{List, ◌++◌, Memᴰ}
-use Rattle.std.proofs.Math.Option.{Option, none, some}
+use Rattle.std.proofs.Math.Option.{none, some}
 use Rattle.scheme.specs.Terms.{Head, con, nt, par, Term, node, Terms, countᵗ, nodes}
 use Rattle.scheme.specs.Prefix.{Node, flat, flats}
 use Rattle.scheme.specs.Types.{Ty, state, arrow, Tys, members, final, off}

@@ -31,12 +31,10 @@ fn present_in(index: &[u16], constructors: usize, c: usize) -> usize
         return 0;
     }
     let mut states: u32 = 0;
-    let mut q: usize = 0;
-    while q < MAX_STATES {
-        if place_in(index, q, c) != 0 {
+    for q in 0..MAX_STATES {
+        if place_in(index, q, c).is_some() {
             states = with_bit(states, q);
         }
-        q = q + 1;
     }
     states as usize
 }
@@ -49,14 +47,11 @@ fn fill_targets(file: &[u8], index: &[u16], c: usize, present: usize, t: &mut [u
     if present == 0 {
         return;
     }
-    let mut q: usize = 0;
-    while q < MAX_STATES {
-        let place = place_in(index, q, c);
-        if place != 0 {
+    for q in 0..MAX_STATES {
+        if let Some(place) = place_in(index, q, c) {
             let targets = packed(file, place);
             store(t, TARGETS_AT + c * MAX_STATES + q, targets);
         }
-        q = q + 1;
     }
 }
 
@@ -64,13 +59,11 @@ fn fill_targets(file: &[u8], index: &[u16], c: usize, present: usize, t: &mut [u
 pub fn fill_automaton(file: &[u8], index: &[u16], constructors: usize, t: &mut [u16])
     ensures { FillsAutomaton file.now index.now constructors t.old t.new }
 {
-    let mut c: usize = 0;
-    while c < MAX_CONSTRUCTORS {
+    for c in 0..MAX_CONSTRUCTORS {
         let present = present_in(index, constructors, c);
         let arity = arity_of(file, index, constructors, c);
         store(t, PRESENT_AT + c, present);
         store(t, ARITIES_AT + c, arity);
         fill_targets(file, index, c, present, t);
-        c = c + 1;
     }
 }

@@ -18,8 +18,7 @@ fn enter(t: &[u16], b: usize, words: usize, sets: &mut [u32])
     let wide = words % WIDEST;
     let bit = 1u32 << ((b % WORD) as u32);
     let mut goal = own_of(t, b);
-    let mut k: usize = 0;
-    while k < STEPS {
+    for _ in 0..STEPS {
         if goal == NONE {
             return;
         }
@@ -28,7 +27,6 @@ fn enter(t: &[u16], b: usize, words: usize, sets: &mut [u32])
             sets[i] = sets[i] | bit;
         }
         goal = result_of(t, goal);
-        k = k + 1;
     }
 }
 
@@ -39,10 +37,8 @@ pub fn fill_sets(t: &[u16], bindings: usize, words: usize, sets: &mut [u32])
     if MAX_BINDINGS < bindings {
         return;
     }
-    let mut b: usize = 0;
-    while b < bindings {
+    for b in 0..bindings {
         enter(t, b, words, sets);
-        b = b + 1;
     }
 }
 
@@ -53,8 +49,7 @@ pub fn leave_sets(t: &[u16], b: usize, words: usize, sets: &mut [u32])
     let wide = words % WIDEST;
     let bit = 1u32 << ((b % WORD) as u32);
     let mut goal = own_of(t, b);
-    let mut k: usize = 0;
-    while k < STEPS {
+    for _ in 0..STEPS {
         if goal == NONE {
             return;
         }
@@ -63,6 +58,5 @@ pub fn leave_sets(t: &[u16], b: usize, words: usize, sets: &mut [u32])
             sets[i] = sets[i] - (sets[i] & bit);
         }
         goal = result_of(t, goal);
-        k = k + 1;
     }
 }

@@ -53,12 +53,10 @@ fn fill_body(
     if t.len() < at + n * NODE_CELLS {
         return;
     }
-    let mut i: usize = 0;
-    while i < n {
+    for i in 0..n {
         let place = start + i * NODE;
         let next = place_at(ends, first + i);
         enter_node(file, place, next, at + i * NODE_CELLS, t);
-        i = i + 1;
     }
 }
 
@@ -80,12 +78,10 @@ pub fn fill_nodes(
     if PLACE_LIMIT <= at {
         return;
     }
-    let mut f: usize = 0;
-    while f < rules {
+    for f in 0..rules {
         let start = place_at(index, RULES_AT + f);
         let n = count_nodes(file, start);
         let first = place_at(firsts, f);
         fill_body(file, start, n, ends, first, at + first * NODE_CELLS, t);
-        f = f + 1;
     }
 }

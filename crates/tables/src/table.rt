@@ -6,11 +6,9 @@ use crate::automaton::fill_automaton;
 use crate::nodes::fill_nodes;
 use crate::types::{fill_bindings, fill_states, fill_types};
 use goals::groups::fill_groups;
-use index::entries::place_at;
-use index::layout::{
-    BINDING, CONSTRUCTOR, GROUPS_AT, MAX_STATES, NONTERMINAL, PAIRS_AT, ROW_CELLS, ROWS_AT, RULE,
-    TYPE,
-};
+use index::entries::count_of;
+use index::layout::{GROUPS_AT, MAX_STATES, PAIRS_AT, ROW_CELLS, ROWS_AT};
+use records::kind::Kind;
 
 // Enters the groups of n bindings by nonterminal.
 fn enter_groups(file: &[u8], index: &[u16], n: usize, last: usize, t: &mut [u16])
@@ -33,11 +31,11 @@ pub fn fill_table(
 ) -> usize
     ensures { FillsTable file.now index.now counts.now ends.now firsts.now t.old t.new result }
 {
-    let types = place_at(counts, TYPE);
-    let bindings = place_at(counts, BINDING);
-    let nonterminals = place_at(counts, NONTERMINAL);
-    let constructors = place_at(counts, CONSTRUCTOR);
-    let rules = place_at(counts, RULE);
+    let types = count_of(counts, Kind::Type);
+    let bindings = count_of(counts, Kind::Binding);
+    let nonterminals = count_of(counts, Kind::Nonterminal);
+    let constructors = count_of(counts, Kind::Constructor);
+    let rules = count_of(counts, Kind::Rule);
     let at = ROWS_AT + (types + MAX_STATES) * ROW_CELLS;
     enter_groups(file, index, bindings, nonterminals, t);
     fill_automaton(file, index, constructors, t);

@@ -1,5 +1,5 @@
 // The rows of states, types and bindings.
-ghost use Rattle.std.specs.Prelude.{◌≡◌, ◌<◌, ◌≤◌};
+ghost use Rattle.std.specs.Prelude.{◌≡◌, ◌<◌, ◌≤◌, MatchOption};
 ghost use Rattle.index.specs.layout.Layout.{max_types, max_members};
 ghost use Rattle.tables.specs.types.Rows.{row_of, goal_of_spec, Room, FillsStates, CountsMembers, NearAmong, AddsMember, FillsMembers, FillsArrow, FillsType, FillsTypes, FillsBindings};
 
@@ -22,20 +22,18 @@ fn goal_of(t: &[u16], m: usize) -> usize
     requires { m < 65536 }
     ensures { (result ≡ goal_of_spec t.now m) × (result < 65536) }
 {
-    place_at(t, ROWS_AT + (MAX_STATES + m) % ROW_LIMIT * ROW_CELLS + GOAL)
+    place_at(t, row_at(MAX_STATES + m) + GOAL)
 }
 
 // Enters the rows of the states.
 pub fn fill_states(t: &mut [u16])
     ensures { FillsStates t.old t.new }
 {
-    let mut q: usize = 0;
-    while q < MAX_STATES {
+    for q in 0..MAX_STATES {
         let row = row_at(q);
         store(t, row + RESULT, NONE);
         store(t, row + END, q);
         store(t, row + MANY, 0);
-        q = q + 1;
     }
 }
 
@@ -53,63 +51,57 @@ fn members_in(len: usize) -> usize
 }
 
 // What there is among members: the states as bits, and how many arrows.
-#[derive(Drop)]
+#[derive(Clone, Copy)]
 struct Among {
     states: u32,
     arrows: usize,
 }
 
+impl Among {
+    // What there is among members, and one more.
+    fn with_member(self, member: usize) -> Among
+        requires { self.arrows < max_members }
+        ensures { AddsMember self member result }
+    {
+        if member < MAX_STATES {
+            return Among {
+                states: with_bit(self.states, member),
+                ..self
+            };
+        }
+        Among {
+            arrows: self.arrows + 1,
+            ..self
+        }
+    }
+}
+
 // The word in which members stand as goals, and their bits there.
-#[derive(Drop)]
+#[derive(Clone, Copy)]
 struct Near {
     word: usize,
     mask: u32,
 }
 
-// What there is among members, and one more.
-fn with_member(among: Among, member: usize) -> Among
-    requires { among.arrows < max_members }
-    ensures { AddsMember among member result }
-{
-    if member < MAX_STATES {
-        return Among {
-            states: with_bit(among.states, member),
-            arrows: among.arrows,
-        };
-    }
-    Among {
-        states: among.states,
-        arrows: among.arrows + 1,
-    }
-}
-
-// The word in which all members of type m, an arrow, stand as goals, and their bits there; NONE for few members, or more than one word.
-fn near_members(t: &[u16], m: usize, many: usize) -> Near
+// The word in which all members of type m, an arrow, stand as goals, and their bits there; none for few members, or more than one word.
+fn near_members(t: &[u16], m: usize, many: usize) -> Option<Near>
     requires { (many ≤ max_members) × (m < max_types) }
-    ensures { NearAmong t.now (row_of m) many result.word result.mask }
+    ensures { MatchOption result (Unit {0}) (λ near. NearAmong t.now (row_of m) many near.word near.mask) }
 {
     if many < FEW_MEMBERS {
-        return Near {
-            word: NONE,
-            mask: 0,
-        };
+        return None;
     }
     let row = row_at(MAX_STATES + m);
     let word = place_at(t, row + MEMBERS) / WORD;
     let mut mask: u32 = 0;
-    let mut j: usize = 0;
-    while j < many {
+    for j in 0..many {
         let member = place_at(t, row + (MEMBERS + j));
         if member / WORD != word {
-            return Near {
-                word: NONE,
-                mask: 0,
-            };
+            return None;
         }
         mask = with_bit(mask, member);
-        j = j + 1;
     }
-    Near { word, mask }
+    Some(Near { word, mask })
 }
 
 // Enters the members of type m, an arrow whose payload begins at a place and whose row is there, and returns what there is among them.
@@ -122,12 +114,10 @@ fn fill_members(file: &[u8], start: usize, many: usize, m: usize, t: &mut [u16])
         states: 0,
         arrows: 0,
     };
-    let mut j: usize = 0;
-    while j < many {
+    for j in 0..many {
         let goal = goal_of(t, word_at(file, start + 2 + 2 * j));
         t[row + (MEMBERS + j)] = goal as u16;
-        among = with_member(among, goal);
-        j = j + 1;
+        among = among.with_member(goal);
     }
     among
 }
@@ -147,7 +137,10 @@ fn fill_arrow(file: &[u8], start: usize, len: usize, m: usize, t: &mut [u16])
     t[row + MEMBER_STATES] = among.states as u16;
     t[row + ARROWS] = among.arrows as u16;
     t[row + MANY] = many as u16;
-    let near = near_members(t, m, many);
+    let near = near_members(t, m, many).unwrap_or(Near {
+        word: NONE,
+        mask: 0,
+    });
     t[row + NEAR] = near.word as u16;
     t[row + LOW] = (near.mask % 65536) as u16;
     t[row + HIGH] = (near.mask / 65536) as u16;
@@ -180,10 +173,8 @@ pub fn fill_types(file: &[u8], index: &[u16], types: usize, t: &mut [u16])
     if MAX_TYPES < types {
         return;
     }
-    let mut m: usize = 0;
-    while m < types {
+    for m in 0..types {
         fill_type(file, index, m, t);
-        m = m + 1;
     }
 }
 
@@ -197,14 +188,12 @@ pub fn fill_bindings(file: &[u8], index: &[u16], bindings: usize, t: &mut [u16])
     if t.len() < PAIRS_AT + bindings * PAIR_CELLS {
         return;
     }
-    let mut b: usize = 0;
-    while b < bindings {
+    for b in 0..bindings {
         let pair = PAIRS_AT + b * PAIR_CELLS;
         let place = place_at(index, BINDINGS_AT + b);
         let symbol = word_at(file, place);
         let own = goal_of(t, word_at(file, place + 2));
         t[pair + SYMBOL] = symbol as u16;
         t[pair + OWN] = own as u16;
-        b = b + 1;
     }
 }

@@ -10,7 +10,7 @@ use Rattle.casefile.specs.Fields.{byte}
 use Rattle.casefile.proofs.Payloads.{arity_small}
 use Rattle.index.specs.layout.Layout.{max_states, max_constructors, targets_base, present_at, arities_at, groups_at}
 use Rattle.index.specs.enter.Entering.{stored}
-use Rattle.transitions.specs.places.RowPlaces.{place_in, IsPlaceIn}
+use Rattle.transitions.specs.places.RowPlaces.{place_in, NoPlaceIn, IsPlaceIn}
 use Rattle.transitions.specs.rows.Rows.{IsArity}
 use Rattle.marks.specs.Marks.{bit_of}
 use Rattle.marks.proofs.Bits.{zero_bit}
@@ -33,9 +33,9 @@ pub record PresentsTo (index : List ℕ) (c q r : ℕ) : Type 0 where
 pub presents_none : {index : List ℕ} {c : ℕ} → PresentsTo index c 0 0
 presents_none = record { up_to = omega arith; small = omega arith; in_set = λ p h. absurd (omega arith); only = λ p e. absurd (let z = zero_bit p in omega arith) }
 
-module _ {index : List ℕ} {c q r : ℕ} (so : PresentsTo index c q r) (h : q < max_states) (l : c < max_constructors) (place : ℕ) (is : IsPlaceIn index q c place) where
-  pub presents_put : (place ≡ 0 → ⊥) → (r' : ℕ) → Adds r q r' → PresentsTo index c (q + 1) r'
-  presents_put ne r' put =
+module _ {index : List ℕ} {c q r : ℕ} (so : PresentsTo index c q r) (h : q < max_states) where
+  pub presents_put : (place : ℕ) → IsPlaceIn index q c place → (r' : ℕ) → Adds r q r' → PresentsTo index c (q + 1) r'
+  presents_put place is r' put =
       record { up_to = omega arith; small = put.small so.small h; in_set = λ p k d. there p k d (ℕ_discrete p q); only = λ p e. whose p (put.only (omega arith) p e) }
     where
       there : (p : ℕ) → p < q + 1 → (place_in index p c ≡ 0 → ⊥) → Dec (p ≡ q) → bit_of p r' ≡ 1
@@ -44,13 +44,13 @@ module _ {index : List ℕ} {c q r : ℕ} (so : PresentsTo index c q r) (h : q <
 
       whose : (p : ℕ) → (bit_of p r ≡ 1) ⊎ (p ≡ q) → place_in index p c ≡ 0 → ⊥
       whose p (inl e) f = so.only p e f
-      whose p (inr e) f = ne (is.place h l ∙ ap (λ x. place_in index x c) (sym e) ∙ f)
+      whose p (inr e) f = is.there (is.place ∙ ap (λ x. place_in index x c) (sym e) ∙ f)
 
-  pub presents_pass : place ≡ 0 → PresentsTo index c (q + 1) r
-  presents_pass e = record { up_to = omega arith; small = so.small; in_set = λ p k d. there p k d (ℕ_discrete p q); only = so.only }
+  pub presents_pass : c < max_constructors → NoPlaceIn index q c → PresentsTo index c (q + 1) r
+  presents_pass l none = record { up_to = omega arith; small = so.small; in_set = λ p k d. there p k d (ℕ_discrete p q); only = so.only }
     where
       there : (p : ℕ) → p < q + 1 → (place_in index p c ≡ 0 → ⊥) → Dec (p ≡ q) → bit_of p r ≡ 1
-      there p k d (yes z) = absurd (d (ap (λ x. place_in index x c) z ∙ sym (is.place h l) ∙ e))
+      there p k d (yes z) = absurd (d (ap (λ x. place_in index x c) z ∙ none h l))
       there p k d (no z) = let y : (p ≡ q → ⊥) = z in so.in_set p (omega arith) d
 
 pub presents_no : {index : List ℕ} {constructors c : ℕ} → constructors ≤ c → Presents index constructors c 0
@@ -73,9 +73,9 @@ pub targets_none : {file index : List ℕ} {c : ℕ} {before : List ℕ} → Tar
 targets_none = record { up_to = omega arith; within = within_none; targets = λ room p h. absurd (omega arith) }
 
 module _ {file index : List ℕ} {c : ℕ} {before : List ℕ} {q : ℕ} {t : List ℕ} (so : TargetsTo file index c before q t) where
-  module _ (l : c < max_constructors) (h : q < max_states) (place : ℕ) (is : IsPlaceIn index q c place) where
-    pub targets_more : (v : ℕ) → v ≡ packed_at file place → v < 65536 → (after : List ℕ) → after ≡ stored t (targets_base + c * max_states + q) v → TargetsTo file index c before (q + 1) after
-    targets_more v ev small after ea =
+  module _ (l : c < max_constructors) (h : q < max_states) where
+    pub targets_more : (place : ℕ) → IsPlaceIn index q c place → (v : ℕ) → v ≡ packed_at file place → v < 65536 → (after : List ℕ) → after ≡ stored t (targets_base + c * max_states + q) v → TargetsTo file index c before (q + 1) after
+    targets_more place is v ev small after ea =
         record { up_to = omega arith; within = within_then so.within (within_store put (omega arith) (omega arith)); targets = λ room p k ne. at room p k ne (ℕ_discrete p q) }
       where
         put : Put t (targets_base + c * max_states + q) v after
@@ -88,13 +88,13 @@ module _ {file index : List ℕ} {c : ℕ} {before : List ℕ} {q : ℕ} {t : Li
         at room p k ne (yes z) =
             let here : targets_base + c % max_constructors * max_states + p % max_states ≡ targets_base + c * max_states + q = omega arith in
             let lt = so.within.long in
-            ap (λ x. get_or after x 0) here ∙ store_here put small (omega arith) ∙ ev ∙ ap (packed_at file) (is.place h l ∙ ap (λ x. place_in index x c) (sym z))
+            ap (λ x. get_or after x 0) here ∙ store_here put small (omega arith) ∙ ev ∙ ap (packed_at file) (is.place ∙ ap (λ x. place_in index x c) (sym z))
 
-    pub targets_pass : place ≡ 0 → TargetsTo file index c before (q + 1) t
-    targets_pass e = record { up_to = omega arith; within = so.within; targets = λ room p k ne. at room p k ne (ℕ_discrete p q) }
+    pub targets_pass : NoPlaceIn index q c → TargetsTo file index c before (q + 1) t
+    targets_pass none = record { up_to = omega arith; within = so.within; targets = λ room p k ne. at room p k ne (ℕ_discrete p q) }
       where
         at : groups_at ≤ length before → (p : ℕ) → p < q + 1 → (place_in index p c ≡ 0 → ⊥) → Dec (p ≡ q) → targets_of_spec t c p ≡ packed_at file (place_in index p c)
-        at room p k ne (yes z) = absurd (ne (ap (λ x. place_in index x c) z ∙ sym (is.place h l) ∙ e))
+        at room p k ne (yes z) = absurd (ne (ap (λ x. place_in index x c) z ∙ none h l))
         at room p k ne (no z) = let y : (p ≡ q → ⊥) = z in so.targets room p (omega arith) ne
 
   pub targets_all : {present : ℕ} → max_states ≤ q → FillsTargets file index c present before t

@@ -4,16 +4,16 @@ use native.Mathlib.Omega.{arith}
 use native.Mathlib.Decide.{dec_lt}
 use native.Mathlib.Nat.{add-zero}
 use mathlib.Core.Path.{◌≡◌, sym, ap, subst, ◌∙◌}
-use mathlib.Core.List.{List, [], ◌++◌}
+use mathlib.Core.List.{List, []}
 use borrow.Author.Tests.{eqb-true, leb-false, not-false}
 use lib.Dec.{eqb, leb}
-use lib.ListN.{length, get_or, length-append}
+use lib.ListN.{length, get_or}
 use Rattle.scheme.specs.Types.{Ty, state}
 use Rattle.scheme.specs.Typing.{Binding}
-use Rattle.scheme.proofs.Lists.{or_false, select_append, get_d_map_in}
+use Rattle.scheme.proofs.Lists.{or_false, get_d_map_in}
 use Rattle.casefile.specs.Fields.{word}
 use Rattle.casefile.specs.Records.{Record}
-use Rattle.casefile.specs.Kinds.{Kind, number, of_kind, payloads, count}
+use Rattle.casefile.specs.Kinds.{Kind, payloads, count}
 use Rattle.casefile.specs.Refusals.{wrong_length, out_of_range}
 use Rattle.casefile.specs.Tables.{types_of, bindings_of}
 use Rattle.casefile.specs.Promises.{Passed}

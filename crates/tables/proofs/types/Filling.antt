@@ -18,6 +18,9 @@ use Rattle.tables.specs.Facts.{StateRow}
 use Rattle.tables.specs.Frames.{Within, Adds}
 use Rattle.tables.specs.declared.types.Among.{Among}
 use Rattle.tables.specs.reading.Cells.{row_at, cell_of, end_of, member_of_spec, mask_of, symbol_of, own_of, pair_at}
+use Rattle.std.specs.Prelude.{Option, None, Some, MatchOption}
+use Rattle.std.specs.Option.{unwrap_or}
+use Rattle.tables.specs.declared.types.Near.{Near}
 use Rattle.tables.specs.types.Rows.{row_of, goal_of_spec, member_in, Room, FillsStates, CountsMembers, FillsMembers, StatesAmong, ArrowsAmong, NearAmong, AddsMember, ArrowSays, Low, FillsArrow, TypeSays, FillsType, FillsTypes, FillsBindings}
 use Rattle.tables.proofs.Frames.{Put, within_none, within_then, within_wider, store_long, store_here, store_other, within_store, within_set, stores, other_row}
 
@@ -213,6 +216,11 @@ module _ {file : List ℕ} {start many m : ℕ} {before : List ℕ} {j : ℕ} {t
 -- Where the members of an arrow stand: nothing said of it, and the word and the bits of the first j.
 pub near_unsaid : {t : List ℕ} {g many : ℕ} → NearAmong t g many no_number 0
 near_unsaid = record { small = omega arith; fits = omega arith; word = λ n. absurd (n refl); bit = λ n. absurd (n refl) }
+
+-- the same of a word that may be there
+pub near_or : {t : List ℕ} {g many : ℕ} {near : Near} (r : Option Near) → near ≡ unwrap_or r (record { word = no_number; mask = 0 }) → MatchOption r (Unit {0}) (λ n. NearAmong t g many n.word n.mask) → NearAmong t g many near.word near.mask
+near_or None e h = rw e near_unsaid
+near_or (Some n) e h = rw e h
 
 pub record NearTo (t : List ℕ) (m many j near mask : ℕ) : Type 0 where
   pub up_to : j ≤ many

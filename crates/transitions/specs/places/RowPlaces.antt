@@ -27,10 +27,15 @@ targets_from file arity place = choose eqb place 0 then none else some (take ari
 pub record RowsFor (file index : List ℕ) (rs : List Record) : Type 0 where
   pub targets : (q c : ℕ) → q < max_states → c < max_constructors → targets_from file (get_or (arities_of rs) c 0) (place_in index q c) ≡ targets_at (transitions_of rs) q c
 
--- r is the place of the transition of a state and a constructor; 0 past the states and the constructors
+-- no transition of a state and a constructor has a place; so it is past the states and the constructors
+abbrev pub NoPlaceIn : List ℕ → ℕ → ℕ → Type 0
+NoPlaceIn index q c = q < max_states → c < max_constructors → place_in index q c ≡ 0
+
+-- r is the place of the transition of a state and a constructor, which is no 0
 pub record IsPlaceIn (index : List ℕ) (q c r : ℕ) : Type 0 where
-  pub place : q < max_states → c < max_constructors → r ≡ place_in index q c
-  pub inside : (r ≡ 0 → ⊥) → (q < max_states) × (c < max_constructors)
+  pub place : r ≡ place_in index q c
+  pub there : r ≡ 0 → ⊥
+  pub inside : (q < max_states) × (c < max_constructors)
   pub bound : r < 65536
 
 -- the index after the places of n transitions were entered: all up to them is as it was

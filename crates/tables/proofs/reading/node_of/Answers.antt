@@ -1,6 +1,5 @@
 -- `node_of` meets its contract.
 use Rattle.tables.proofs.reading.Offs.{node_made}
-use borrow.Author.Rules.{rules}
 use Rattle.tables.proofs.reading.node_of.Goals as goal
 
 pub returns : goal.returns

@@ -4,6 +4,3 @@ use Rattle.transitions.proofs.places.fill_rows.Given as goal
 
 abbrev pub invariant-loop-k : goal.invariant-loop-k
 invariant-loop-k l = Sofar l.file l.initial.index l.n l.k l.index
-
-abbrev pub decreases-loop-k : goal.decreases-loop-k
-decreases-loop-k l = l.k
