@@ -27,12 +27,12 @@ pub struct Refuted {
 
 // The answer to a path behind its last letter, on the term held.
 fn arrive(
-    table: &Transitions,
+    table: Transitions,
     constructors: usize,
     held: Held,
     letters: usize,
 ) -> Result<Refuted, Refusal>
-    ensures { Arrives table.now constructors held letters result }
+    ensures { Arrives table constructors held letters result }
 {
     let elsewhere = Refusal {
         fault: Fault::NotStuck,
@@ -41,7 +41,7 @@ fn arrive(
     let Head::Constructor(constructor) = held.head else {
         return Err(elsewhere);
     };
-    if row_of(table, constructors, held.state, constructor).is_some() {
+    if row_of(&table, constructors, held.state, constructor).is_some() {
         return Err(elsewhere);
     }
     Ok(Refuted {
@@ -57,11 +57,11 @@ fn run(
     index: &[u16],
     rules: usize,
     constructors: usize,
-    table: &Transitions,
+    table: Transitions,
     path: &[u8],
     cells: &mut [u64],
 ) -> Result<Refuted, Refusal>
-    ensures { Runs file.now index.now rules constructors table.now path.now cells.old result }
+    ensures { Runs file.now index.now rules constructors table path.now cells.old result }
 {
     let mut held = Held {
         head: Head::Nonterminal(0),
@@ -76,7 +76,7 @@ fn run(
             index,
             rules,
             constructors,
-            table,
+            &table,
             cells,
             held,
             letter,
@@ -103,7 +103,7 @@ fn path_within<const CELLS: usize>(
     let rules = count_of(counts, Kind::Rule);
     let constructors = count_of(counts, Kind::Constructor);
     let mut cells = [0u64; CELLS];
-    run(file, index, rules, constructors, &table, path, &mut cells)
+    run(file, index, rules, constructors, table, path, &mut cells)
 }
 
 // The answer to the path of a file, by its tables. A path has the smallest of four sets of cells that is enough for its letters:
