@@ -1,11 +1,12 @@
 // A record by its kind: its test, 3 to 7, and its entry in the tables of the walk where it passes.
 ghost use Rattle.std.specs.Prelude.{◌≡◌, List, ℕ, ◌<◌, ◌≤◌};
-ghost use Rattle.casefile.specs.Records.{Record};
+ghost use Rattle.casefile.specs.Records;
 ghost use Rattle.casefile.specs.Kinds;
 ghost use Rattle.casefile.specs.Kinds.{number};
 ghost use Rattle.casefile.specs.Tables.{state_count_spec};
 ghost use Rattle.index.specs.entries.Index.{base, Indexed};
 ghost use Rattle.index.specs.entries.Tests.{Fitting};
+ghost use Rattle.records.specs.cursor.Reading.{part_of};
 ghost use Rattle.records.specs.kind.Kinds.{kind_as};
 ghost use Rattle.records.specs.refusal.Numbers.{code_of};
 ghost use Rattle.walk.specs.kinds.Taking.{Adds, Taken};
@@ -23,13 +24,14 @@ use record_tests::rule_record::test_rule;
 use record_tests::sort_record::test_sort;
 use record_tests::symbols::{test_constructor, test_nonterminal};
 use record_tests::type_record::test_type;
+use records::cursor::Record;
 use records::fields::byte_at;
 use records::kind::Kind;
 use records::refusal::Fault;
 
 // How many states there are, by the n states records.
 fn state_count(file: &[u8], index: &[u16], n: usize) -> usize
-    ensures { (rs : List Record) → Indexed file.now index.now Kinds.states n rs → Fitting Kinds.states n rs → n ≤ 1 → result ≡ state_count_spec rs }
+    ensures { (rs : List Records.Record) → Indexed file.now index.now Kinds.states n rs → Fitting Kinds.states n rs → n ≤ 1 → result ≡ state_count_spec rs }
 {
     if n == 0 {
         0
@@ -210,20 +212,20 @@ fn take_path(index: &mut [u16], counts: &mut [u16], start: usize, p: &[u8]) -> R
     Ok(())
 }
 
-// A record of a kind, by its number, with the payload p, which begins at start: the first of 3 to 7 that is met, or none, and
-// then the record is entered in the tables, behind the others of its kind. Where it is refused they stay as they are.
+// A record of a file, by its kind: the first of 3 to 7 that it meets, or none, and then it is entered in the tables, behind the
+// others of its kind. Where it is refused they stay as they are.
 pub(crate) fn take(
     file: &[u8],
     index: &mut [u16],
     lens: &mut [u16],
     counts: &mut [u16],
-    kind: usize,
-    start: usize,
-    p: &[u8],
+    found: Record,
 ) -> Result<(), Fault>
-    ensures { Taken file.now index.old lens.old counts.old kind start p.now index.new lens.new counts.new (code_of result) }
+    ensures { Taken file.now index.old lens.old counts.old found.kind found.start (part_of file.now found.start found.len) index.new lens.new counts.new (code_of result) }
 {
-    match Kind::try_from(kind)? {
+    let start = found.start;
+    let p = found.payload(file);
+    match Kind::try_from(found.kind)? {
         Kind::Sort => take_sort(file, index, lens, counts, start, p),
         Kind::Constructor => take_constructor(index, counts, start, p),
         Kind::Nonterminal => take_nonterminal(index, counts, start, p),

@@ -19,17 +19,10 @@ fn turn(
 ) -> Result<(), Refusal>
     ensures { TurnsTo file.now found last index.old lens.old counts.old index.new lens.new counts.new result }
 {
-    let Record {
-        place,
-        start,
-        kind,
-        ..
-    } = found;
-    if kind < last {
-        return Err(Fault::WrongKind.at(place));
+    if found.kind < last {
+        return Err(Fault::WrongKind.at(found.place));
     }
-    let p = found.payload(file);
-    take(file, index, lens, counts, kind, start, p).map_err(|fault| fault.at(place))
+    take(file, index, lens, counts, found).map_err(|fault| fault.at(found.place))
 }
 
 // One pass over a file: a reader goes from record to record, and each is put to a turn.

@@ -80,8 +80,10 @@ module _ {file index lens counts : List ℕ} {start : ℕ} {p : List ℕ} (k : K
 
 -- A record by the number of its kind.
 module _ {file index lens counts : List ℕ} {kind start : ℕ} {p : List ℕ} where
-  pub of_kind_law : {index' lens' counts' : List ℕ} {k k' : Kind.Kind} {r : ℕ} → kind_of kind ≡ some (kind_as k) → k ≡ k' → Taken file index lens counts (number (kind_as k')) start p index' lens' counts' r → Taken file index lens counts kind start p index' lens' counts' r
-  of_kind_law {index'} {lens'} {counts'} {k} {k'} {r} e f = subst (λ z. Taken file index lens counts z start p index' lens' counts' r) (sym (number_is kind (kind_as k') (e ∙ ap (λ z. some (kind_as z)) f)))
+  pub of_kind_law : {q index' lens' counts' : List ℕ} {k k' : Kind.Kind} {r : ℕ} → kind_of kind ≡ some (kind_as k) → k ≡ k' → q ≡ p → Taken file index lens counts (number (kind_as k')) start q index' lens' counts' r → Taken file index lens counts kind start p index' lens' counts' r
+  of_kind_law {index' = index'} {lens' = lens'} {counts' = counts'} {k' = k'} {r = r} e f is taken =
+      subst (λ z. Taken file index lens counts z start p index' lens' counts' r) (sym (number_is kind (kind_as k') (e ∙ ap (λ z. some (kind_as z)) f)))
+      (subst (λ z. Taken file index lens counts (number (kind_as k')) start z index' lens' counts' r) is taken)
 
   -- one of no kind
   pub unknown : {f : Fault} {r : Result Unit Fault} → (f ≡ WrongKind) × (kind_of kind ≡ none) → r ≡ Err f → Taken file index lens counts kind start p index lens counts (code_of r)
