@@ -1,13 +1,14 @@
 // The tests over the whole file, 8 to 12.
-ghost use Rattle.std.specs.Prelude.{◌*◌, ◌≤◌, IfSome};
-ghost use Rattle.index.specs.layout.Layout.{max_types, fit_masks};
+ghost use Rattle.std.specs.Prelude.{◌≤◌, IfSome};
+ghost use Rattle.index.specs.layout.Layout.{max_types};
 ghost use Rattle.intake.specs.evidence.Whole.{TestsEvidence, FindsFirst, TestsWhole};
 
 use crate::plan::test_plan;
 use fits::fits::fill_fits;
+use fits::masks::NO_ROW;
 use fits::misfits::first_misfit;
 use index::entries::{count_of, place_of};
-use index::layout::{BINDINGS_AT, FEW_FITS, FEW_TYPES, FITS, Rows, SOME_FITS, SOME_TYPES};
+use index::layout::{BINDINGS_AT, FEW_TYPES, MAX_TYPES, Rows, SOME_TYPES};
 use records::kind::Kind;
 use records::refusal::{Fault, Refusal};
 
@@ -18,20 +19,20 @@ pub enum Case {
     Path,
 }
 
-// The number of the first binding whose type does not fit its nonterminal's sort, none where all fit, by a table of WORDS words that
-// has room for the rows of the types.
-fn misfit_in<const WORDS: usize>(
+// The number of the first binding whose type does not fit its nonterminal's sort, none where all fit, by a table with room for the
+// rows of ROOM types.
+fn misfit_in<const ROOM: usize>(
     file: &[u8],
     index: &[u16],
     types: usize,
     sorts: usize,
     bindings: usize,
 ) -> Option<usize>
-    requires { WORDS ≤ max_types * fit_masks }
-    ensures first { types * fit_masks ≤ WORDS → FindsFirst file.now index.now types sorts bindings result }
+    requires { ROOM ≤ max_types }
+    ensures first { types ≤ ROOM → FindsFirst file.now index.now types sorts bindings result }
     ensures within { IfSome result (λ b. b ≤ bindings) }
 {
-    let mut fit = [0u64; WORDS];
+    let mut fit = [NO_ROW; ROOM];
     fill_fits(file, index, types, sorts, &mut fit);
     first_misfit(file, index, &fit, bindings)
 }
@@ -43,12 +44,12 @@ fn misfit(file: &[u8], index: &[u16], types: usize, sorts: usize, bindings: usiz
     ensures within { IfSome result (λ b. b ≤ bindings) }
 {
     if types <= FEW_TYPES {
-        return misfit_in::<FEW_FITS>(file, index, types, sorts, bindings);
+        return misfit_in::<FEW_TYPES>(file, index, types, sorts, bindings);
     }
     if types <= SOME_TYPES {
-        return misfit_in::<SOME_FITS>(file, index, types, sorts, bindings);
+        return misfit_in::<SOME_TYPES>(file, index, types, sorts, bindings);
     }
-    misfit_in::<FITS>(file, index, types, sorts, bindings)
+    misfit_in::<MAX_TYPES>(file, index, types, sorts, bindings)
 }
 
 // The tests of the evidence, 10 to 12, for a given number of lent flags.

@@ -22,15 +22,16 @@ use Rattle.casefile.specs.Tables.{types_of, sorts_of, signatures_of, bindings_of
 use Rattle.casefile.specs.Refusals.{Test, refuse◌at◌when◌, first, wrong_length, misfits}
 use Rattle.casefile.proofs.TypeTable.{count_payloads}
 use Rattle.records.specs.fields.Promises.{HasLength}
-use Rattle.index.specs.layout.Layout.{max_sorts, nonterminals_at, types_at, bindings_at, fit_sorts}
-use Rattle.fits.specs.masks.Masks.{has, mask_of}
+use Rattle.index.specs.layout.Layout.{max_sorts, nonterminals_at, types_at, bindings_at}
+use Rattle.fits.specs.masks.Masks.{has, row_in}
+use Rattle.fits.specs.declared.masks.Row.{Row}
 use Rattle.fits.specs.fits.Filled.{fits_at}
 use Rattle.fits.specs.misfits.Misfits.{TestsFit, binding_fits, Offered, FirstMisfit, FindsMisfit}
 use Rattle.fits.proofs.masks.Bits.{has_shifted}
 use Rattle.fits.proofs.fits.Rows.{state_fits, arrow_tree}
 
 -- What the program looks at says whether type t fits sort s.
-module _ (file index fit : List ℕ) (t : ℕ) where
+module _ (file index : List ℕ) (fit : List Row) (t : ℕ) where
   -- sort 0: where the payload has one byte
   pub tree_tested : (s place len : ℕ) → s ≡ 0 → place ≡ get_or index (types_at + t) 0 → HasLength file place len → TestsFit file index fit t s (eqb len 1)
   tree_tested s place len zeroth ep el types sorts rs listed table h l = by (ℕ_discrete len 1) ∙ ap (fits_at rs t) (sym zeroth)
@@ -44,12 +45,12 @@ module _ (file index fit : List ℕ) (t : ℕ) where
   unlisted_tested s r late types sorts rs listed table h l = absurd (let few = listed.few_sorts in omega arith)
 
   -- a listed sort: by its bit
-  pub listed_tested : (s m : ℕ) → (s ≡ 0 → ⊥) → m ≡ mask_of fit t fit_sorts → TestsFit file index fit t s (eqb (m / 2 ^ (s - 1) % 2) 1)
+  pub listed_tested : (s m : ℕ) → (s ≡ 0 → ⊥) → m ≡ (row_in fit t).sorts → TestsFit file index fit t s (eqb (m / 2 ^ (s - 1) % 2) 1)
   listed_tested s m ne em types sorts rs listed table h l =
       has_shifted (s - 1) m ∙ ap (λ x. has x (s - 1)) em ∙ (table t (s - 1) h (omega arith)).sort_right ∙ ap (fits_at rs t) (omega arith)
 
 -- Whether binding i fits: its numbers and its nonterminal's sort, read through the index.
-module _ {file index fit : List ℕ} {bindings nonterminals types sorts : ℕ} {rs : List Record} (of : Offered file index fit bindings nonterminals types sorts rs) where
+module _ {file index : List ℕ} {fit : List Row} {bindings nonterminals types sorts : ℕ} {rs : List Record} (of : Offered file index fit bindings nonterminals types sorts rs) where
   abbrev pay : ℕ → List ℕ
   pay i = get_or (payloads binding rs) i []
 
@@ -77,7 +78,7 @@ module _ {file index fit : List ℕ} {bindings nonterminals types sorts : ℕ} {
         (ap (λ k. get_or (sorts_of rs) k o) s_is ∙ sym (sort_of_law f hf) ∙ ap (λ k. get_or (signatures_of rs) k o) f_is)
 
 -- The bindings one after the other.
-module _ (file index fit : List ℕ) (bindings : ℕ) where
+module _ (file index : List ℕ) (fit : List Row) (bindings : ℕ) where
   -- the bindings before i fit
   abbrev pub FitTo : ℕ → Type 0
   FitTo i =

@@ -10,10 +10,11 @@ use Rattle.casefile.specs.Tables.{signatures_of, types_of}
 use Rattle.index.specs.layout.Layout.{max_bindings}
 use Rattle.index.specs.entries.Index.{Indexed}
 use Rattle.index.specs.entries.Tests.{Fitting}
+use Rattle.fits.specs.declared.masks.Row.{Row}
 use Rattle.fits.specs.fits.Filled.{fits_at, Fitted, TypesAndSorts}
 
 -- r says whether type t fits sort s, where the table has the types and the sorts of the index
-abbrev pub TestsFit : List ℕ → List ℕ → List ℕ → ℕ → ℕ → Bool → Type 0
+abbrev pub TestsFit : List ℕ → List ℕ → List Row → ℕ → ℕ → Bool → Type 0
 TestsFit file index fit t s r =
     (types sorts : ℕ) (rs : List Record) → TypesAndSorts file index types sorts rs → Fitted fit types sorts rs → t < types → s ≤ sorts → r ≡ fits_at rs t s
 
@@ -22,7 +23,7 @@ abbrev pub binding_fits : List Record → List ℕ → Bool
 binding_fits rs p = fits (get_or (types_of rs) (word p 2) (state 0)) (get_or (signatures_of rs) (word p 0) o)
 
 -- the index has the bindings and the nonterminals, whose numbers have entries, and the types and the sorts, which the table has too
-pub record Offered (file index fit : List ℕ) (bindings nonterminals types sorts : ℕ) (rs : List Record) : Type 0 where
+pub record Offered (file index : List ℕ) (fit : List Row) (bindings nonterminals types sorts : ℕ) (rs : List Record) : Type 0 where
   pub bindings_there : Indexed file index binding bindings rs
   pub bindings_whole : Fitting binding bindings rs
   pub few_bindings : bindings ≤ max_bindings
@@ -42,6 +43,6 @@ pub record FirstMisfit (rs : List Record) (bindings : ℕ) (r : Option ℕ) : Ty
   pub all_fit : r ≡ None → (k : ℕ) → k < bindings → binding_fits rs (get_or (payloads binding rs) k []) ≡ true
 
 -- the answer, whatever records the file has that agree with the arrays
-abbrev pub FindsMisfit : List ℕ → List ℕ → List ℕ → ℕ → Option ℕ → Type 0
+abbrev pub FindsMisfit : List ℕ → List ℕ → List Row → ℕ → Option ℕ → Type 0
 FindsMisfit file index fit bindings r =
     (nonterminals types sorts : ℕ) (rs : List Record) → Offered file index fit bindings nonterminals types sorts rs → FirstMisfit rs bindings r

@@ -1,5 +1,5 @@
 -- The tests of the evidence, 10 to 12, by what the program found.
-use Prim.Native.Nat.{ℕ, ◌+◌, ◌*◌, ◌<◌, ◌≤◌}
+use Prim.Native.Nat.{ℕ, ◌+◌, ◌<◌, ◌≤◌}
 use native.Mathlib.Omega.{arith}
 use mathlib.Core.Path.{◌≡◌, refl, sym, ap, ap₂, subst, ◌∙◌}
 use mathlib.Core.Bool.{Bool, false, ◌&&◌}
@@ -16,8 +16,9 @@ use Rattle.casefile.specs.Kinds.{sort, nonterminal, type, binding, path, number,
 use Rattle.casefile.specs.Tables.{signatures_of, bindings_of}
 use Rattle.casefile.specs.Refusals.{first, misfits}
 use Rattle.casefile.proofs.TypeTable.{count_payloads}
-use Rattle.index.specs.layout.Layout.{max_sorts, bindings_at, fit_masks}
+use Rattle.index.specs.layout.Layout.{max_sorts, bindings_at}
 use Rattle.index.specs.entries.Index.{Indexed}
+use Rattle.fits.specs.declared.masks.Row.{Row}
 use Rattle.fits.specs.fits.Filled.{TypesAndSorts, Fills}
 use Rattle.fits.specs.misfits.Misfits.{FirstMisfit, FindsMisfit}
 use Rattle.fits.proofs.misfits.Misfits.{misfits_none, misfits_first}
@@ -32,8 +33,8 @@ use Rattle.records.specs.declared.refusal.Fault.TheVariants.{MixedEvidence, Misf
 use Rattle.records.specs.declared.refusal.Refusal.{Refusal}
 
 -- the table of fits, then the first binding that does not fit
-pub finds_first : (file index old fit : List ℕ) (types sorts bindings : ℕ) (r : Option ℕ) → Bytes file → Fills file index types sorts old fit → FindsMisfit file index fit bindings r
-    → types * fit_masks ≤ length old → FindsFirst file index types sorts bindings r
+pub finds_first : (file index : List ℕ) (old fit : List Row) (types sorts bindings : ℕ) (r : Option ℕ) → Bytes file → Fills file index types sorts old fit → FindsMisfit file index fit bindings r
+    → types ≤ length old → FindsFirst file index types sorts bindings r
 finds_first file index old fit types sorts bindings r bytes fills finds long rs ok ti si bi n ni tf sf bf =
     let listed : TypesAndSorts file index types sorts rs = record { passed = ok; type_bytes = payload_bytes ti bytes; sort_bytes = payload_bytes si bytes; types_there = ti; sorts_there = si; few_types_law = tf; few_sorts = sf } in
     finds n types sorts rs (offered ok fit bi bf ni listed (fills.filled rs listed long))

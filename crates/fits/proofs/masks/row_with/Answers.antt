@@ -1,11 +1,11 @@
--- `unions_of` meets its contract. The invariant: what each union lacks still is in the bits that are left.
+-- `row_with` meets its contract. The invariant: what each union lacks still is in the bits that are left.
 use Prim.Native.Nat.{◌-◌}
 use mathlib.Core.Path.{refl}
 use native.Mathlib.Omega.{arith}
 use lib.Bits.{and_le_l, and_le_r}
 use Rattle.fits.proofs.masks.Bits.{lowest}
 use Rattle.fits.proofs.masks.Uniting.{united_none, united_more, united_all}
-use Rattle.fits.proofs.masks.unions_of.Goals as goal
+use Rattle.fits.proofs.masks.row_with.Goals as goal
 
 pub loop-left-init : goal.loop-left-init
 loop-left-init c = (omega arith, united_none _ _, united_none _ _)
@@ -45,7 +45,8 @@ loop-left-preserved c =
       united_more _ _ l.arguments l.left _ l.invariant.2 (omega arith) (omega arith) refl,
     )
 
-pub returns : goal.returns
-returns c =
-    let l = c.loop-left in
-    (united_all _ _ l.results l.left l.invariant.1 (omega arith), united_all _ _ l.arguments l.left l.invariant.2 (omega arith))
+pub returns-clause-results : goal.returns-clause-results
+returns-clause-results c = let l = c.loop-left in united_all _ _ l.results l.left l.invariant.1 (omega arith)
+
+pub returns-clause-arguments : goal.returns-clause-arguments
+returns-clause-arguments c = let l = c.loop-left in united_all _ _ l.arguments l.left l.invariant.2 (omega arith)
