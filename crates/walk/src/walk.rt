@@ -31,12 +31,14 @@ fn pass(file: &[u8], index: &mut [u16], lens: &mut [u16], counts: &mut [u16]) ->
 {
     let mut reader = Reader::start(file);
     let mut last = 0;
-    while let Some(record) = reader.next()? {
+    loop {
+        let Some(record) = reader.next()? else {
+            return Ok(());
+        };
         turn(reader.file, record, last, index, lens, counts)?;
         reader = reader.moved(record.next.at);
         last = record.kind;
     }
-    Ok(())
 }
 
 // Walks over the records of a file of at most 60,000 bytes: enters each in the index, the argument counts of the sorts and

@@ -14,8 +14,8 @@ returns-in_err-record c = λ few start.
     let same : c.from_residual.result ≡ Err c.in_err-record.field-0.0 = search rules in
     subst (WalkEnds _ _ _ _) (sym same) (ends_refused (walks few start) _ (c.in_err-record.ensures ∙ ap (λ (s : List ℕ). read_at s c.loop-record.reader.at) here))
 
-pub returns : goal.returns
-returns c = λ few start.
+pub returns-in_default : goal.returns-in_default
+returns-in_default c = λ few start.
     let (here, walks) = c.loop-record.invariant in
     let read = c.in_ok-record.ensures in
     ends_read (walks few start) (let none = c.in_default.is in cc)
