@@ -1,40 +1,16 @@
 -- What is read and what is written when the bindings are judged: where users and answers begin, and the room for them.
-use Prim.Native.Nat.{ℕ, ◌+◌, ◌*◌, ◌-◌, ◌/◌, ◌<◌, ◌≤◌}
+use Prim.Native.Nat.{ℕ, ◌+◌, ◌-◌, ◌≤◌}
 use native.Mathlib.Omega.{arith}
-use native.Mathlib.Nat.{mul-le-mul}
-use mathlib.Core.Path.{◌≡◌, refl, sym, subst, ◌∙◌}
+use mathlib.Core.Path.{◌≡◌, sym, subst, ◌∙◌}
 use mathlib.Core.List.{List, ◌++◌}
-use lib.ListN.{length, get_or, take, drop, set, length-set}
-use lib.Seq.{get_or-drop, drop-set-lt, get_or-set_same, get_or-set_other}
+use lib.ListN.{length, get_or, take, drop}
+use lib.Seq.{get_or-drop}
 use Rattle.index.specs.layout.Layout.{test_users, test_answers, test_cells}
 use Rattle.tables.specs.Filling.{FillsSets}
 use Rattle.term_check.specs.Worlds.{split_at, from_in, answers_of, users_of}
 use Rattle.term_check.proofs.parts.Parting.{length_users}
-use Rattle.rounds.proofs.tested.Placing.{placed_none, sets_lent, sets_back, sets_placed}
-use Rattle.binding_cases.specs.Judging.{Places, Fills}
-
--- the users of so many bindings are fewer than that
-pub users_small : (total : ℕ) → total < 65536 → total * ((total + 31) / 32) ≤ 134217728
-users_small total h = mul-le-mul {n₁ = total} {m₁ = (total + 31) / 32} {n₂ = 65536} {m₂ = 2048} (omega arith) (omega arith)
-
--- where users and answers begin
-pub places_none : (users answers : ℕ) (r : List ℕ) → length r < test_cells → Places users answers r r
-places_none users answers r h = record { long = refl; users_at = λ k. absurd (omega arith); answers_at = λ k. absurd (omega arith); sets = refl }
-
-pub second_inside : (r : List ℕ) (n : ℕ) → test_cells ≤ length r → test_answers < length (set r test_users n)
-second_inside r n h = omega (arith, length-set r test_users n)
-
-pub places_set : (users answers : ℕ) (r : List ℕ) → test_cells ≤ length r → Places users answers r (set (set r test_users users) test_answers answers)
-places_set users answers r h =
-    record {
-      long = length-set (set r test_users users) test_answers answers ∙ length-set r test_users users;
-      users_at = λ k. get_or-set_other (set r test_users users) test_answers test_users answers 0 (λ e. omega arith) ∙ get_or-set_same r test_users users 0 (omega arith);
-      answers_at = λ k. get_or-set_same (set r test_users users) test_answers answers 0 (omega (arith, length-set r test_users users));
-      sets = drop-set-lt test_cells (set r test_users users) test_answers answers (omega arith) ∙ drop-set-lt test_cells r test_users users (omega arith);
-    }
-
-pub fills_none : (t : List ℕ) (bindings words : ℕ) (r : List ℕ) → length r < test_cells → Fills t bindings words r r
-fills_none t bindings words r h = record { placed = placed_none r; filled = λ k. absurd (omega arith) }
+use Rattle.rounds.proofs.tested.Placing.{sets_lent, sets_back, sets_placed}
+use Rattle.binding_cases.specs.Judging.{Fills}
 
 pub fills_part : (t : List ℕ) (bindings words : ℕ) (r : List ℕ) → test_cells ≤ length r → (m : List ℕ) → FillsSets t bindings words (take (length r - test_cells) (drop test_cells r)) m
     → Fills t bindings words r (take test_cells r ++ (m ++ drop (length r - test_cells) (drop test_cells r)))

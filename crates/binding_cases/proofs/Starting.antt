@@ -1,15 +1,17 @@
 -- The start binding among those kept: the table says which is of nonterminal 0, and which type is the state 0.
-use Prim.Native.Nat.{ℕ, zero, suc, ◌+◌, ◌<◌, ◌≤◌}
+use Prim.Native.Nat.{ℕ, zero, suc, ◌<◌, ◌≤◌, min}
 use native.Mathlib.Omega.{arith}
 use native.Mathlib.Decide.{dec_lt}
 use native.Mathlib.Nat.{le_of_suc-le-suc}
-use mathlib.Core.Path.{◌≡◌, refl, sym, ap, ap₂, ◌∙◌}
+use mathlib.Core.Path.{◌≡◌, refl, sym, ap, ap₂, subst, ◌∙◌}
 use mathlib.Core.Bool.{Bool, true, false, ◌&&◌, ◌||◌}
 use mathlib.Core.List.{List, [], ◌∷◌}
-use borrow.Author.Count.{below_more}
 use borrow.Author.Tests.{ne_eqb}
 use lib.Dec.{eqb}
 use lib.ListN.{length, get_or}
+use Rattle.std.specs.Bool.{MatchBool}
+use Rattle.std.specs.List.{HoldsAt, AllWithin, range_with_len}
+use Rattle.std.proofs.lemmas.List.FromFn.{length-range_with_len, get_or-range_with_len}
 use Rattle.scheme.specs.Lists.{any, keep_if}
 use Rattle.scheme.specs.Types.{Ty, state, same}
 use Rattle.scheme.specs.Flags.{is_kept, chosen}
@@ -84,53 +86,43 @@ module _ (t flags : List ℕ) (b flag : ℕ) (is : IsField 1 flags b flag) where
         }
 
 -- The bindings one after the other.
--- none of the first b starts
-pub record NoneTo (t flags : List ℕ) (n b : ℕ) : Type 0 where
-  pub none_starts : (rs : List Record) → TypesAre rs t → BindingsAre rs t → n ≡ count Kind.binding rs → (i : ℕ) → i < b → starts_at rs flags i ≡ false
-
 module _ (t flags : List ℕ) (n : ℕ) where
-  pub none_yet : NoneTo t flags n 0
-  none_yet = record { none_starts = λ rs types bindings e i h. absurd (omega arith) }
+  start_found : (b : ℕ) → b < n → StartsAt t flags b true → FindsStart t flags n true
+  start_found b h at =
+      record {
+        answer = λ rs types bindings m.
+            let many = bindings_many rs in
+            sym (any_some is_start flags (bindings_of rs) b no_binding (omega arith) (sym (at.answer rs types bindings (omega arith))));
+      }
 
-  module _ (b : ℕ) (none : NoneTo t flags n b) where
-    module _ (h : b < n) (r : Bool) (at : StartsAt t flags b r) where
-      pub none_more : r ≡ false → NoneTo t flags n (b + 1)
-      none_more e =
-          record {
-            none_starts = λ rs types bindings m.
-                below_more (λ i. starts_at rs flags i ≡ false) b (none.none_starts rs types bindings m) (sym (at.answer rs types bindings (omega arith)) ∙ e);
-          }
+  -- those behind are of other nonterminals
+  start_behind : (b : ℕ) → b ≡ min n (group_of t 1) → ((i : ℕ) → i < b → StartsAt t flags i false) → FindsStart t flags n false
+  unfolding is_start
+  start_behind b e none =
+      record {
+        answer = λ rs types bindings m.
+            let many = bindings_many rs in
+            sym (any_none is_start flags (bindings_of rs) no_binding (λ i k. by rs types bindings m i (omega arith) (dec_lt i b)));
+      }
+    where
+      other : (rs : List Record) → BindingsAre rs t → (i : ℕ) → i < count Kind.binding rs → group_of t 1 ≤ i → (binding_at rs i).nonterminal ≡ 0 → ⊥
+      other rs bindings i l k z = let below = (bindings.grouped i l).1 in let first = ap (λ f. group_of t (suc f)) z in omega arith
 
-      pub start_found : r ≡ true → FindsStart t flags n true
-      start_found e =
-          record {
-            answer = λ rs types bindings m.
-                let many = bindings_many rs in
-                sym (any_some is_start flags (bindings_of rs) b no_binding (omega arith) (sym (at.answer rs types bindings (omega arith)) ∙ e));
-          }
+      by : (rs : List Record) → TypesAre rs t → BindingsAre rs t → n ≡ count Kind.binding rs → (i : ℕ) → i < count Kind.binding rs → Dec (i < b) → starts_at rs flags i ≡ false
+      by rs types bindings m i l (yes k) = sym ((none i k).answer rs types bindings l)
+      by rs types bindings m i l (no k) =
+          ap (λ x. is_kept (get_or flags i 0) && (x && same (binding_at rs i).type (state 0))) (ne_eqb (binding_at rs i).nonterminal 0 (other rs bindings i l (omega arith))) ∙ and_no (is_kept (get_or flags i 0))
 
-    -- those behind are of other nonterminals
-    pub start_behind : group_of t 1 ≤ b → FindsStart t flags n false
-    unfolding is_start
-    start_behind h =
-        record {
-          answer = λ rs types bindings m.
-              let many = bindings_many rs in
-              sym (any_none is_start flags (bindings_of rs) no_binding (λ i k. by rs types bindings m i (omega arith) (dec_lt i b)));
-        }
-      where
-        other : (rs : List Record) → BindingsAre rs t → (i : ℕ) → i < count Kind.binding rs → b ≤ i → (binding_at rs i).nonterminal ≡ 0 → ⊥
-        other rs bindings i l k z = let below = (bindings.grouped i l).1 in let first = ap (λ f. group_of t (suc f)) z in omega arith
-
-        by : (rs : List Record) → TypesAre rs t → BindingsAre rs t → n ≡ count Kind.binding rs → (i : ℕ) → i < count Kind.binding rs → Dec (i < b) → starts_at rs flags i ≡ false
-        by rs types bindings m i l (yes k) = none.none_starts rs types bindings m i k
-        by rs types bindings m i l (no k) =
-            ap (λ x. is_kept (get_or flags i 0) && (x && same (binding_at rs i).type (state 0))) (ne_eqb (binding_at rs i).nonterminal 0 (other rs bindings i l (omega arith))) ∙ and_no (is_kept (get_or flags i 0))
-
-    pub start_none : n ≤ b → FindsStart t flags n false
-    start_none h =
-        record {
-          answer = λ rs types bindings m.
-              let many = bindings_many rs in
-              sym (any_none is_start flags (bindings_of rs) no_binding (λ i k. none.none_starts rs types bindings m i (omega arith)));
-        }
+  -- any of the bindings of nonterminal 0
+  pub start_any : (r : Bool) (b : ℕ) → b ≡ min n (group_of t 1)
+      → MatchBool r ((i : ℕ) × (i < length (range_with_len 0 b)) × HoldsAt (λ i. StartsAt t flags i true) (range_with_len 0 b) i) (AllWithin (λ i. StartsAt t flags i false) (range_with_len 0 b) 0 (length (range_with_len 0 b)))
+      → FindsStart t flags n r
+  start_any true b e (i, l, at) =
+      let h = length-range_with_len 0 b in
+      let is : get_or (range_with_len 0 b) i 0 ≡ i = get_or-range_with_len 0 b i 0 (omega arith) ∙ omega arith in
+      start_found i (omega arith) (subst (λ k. StartsAt t flags k true) is (at 0))
+  start_any false b e none =
+      let h = length-range_with_len 0 b in
+      start_behind b e (λ i l.
+      let is : get_or (range_with_len 0 b) i 0 ≡ i = get_or-range_with_len 0 b i 0 l ∙ omega arith in
+      subst (λ k. StartsAt t flags k false) is (none i 0 (omega arith) (omega arith)))

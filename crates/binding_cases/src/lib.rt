@@ -4,12 +4,10 @@
 ghost use Rattle.std.specs.Prelude.{◌<◌};
 ghost use Rattle.binding_cases.specs.Judging.{StartsAt, FindsStart, Places, Fills, JudgesBindings};
 
-use index::entries::place_at;
-use index::layout::{
-    BINDING, MAX_STATES, PLACE_LIMIT, RULE, TEST_ANSWERS, TEST_CELLS, TEST_USERS, TRANSITION, TYPE,
-    WORD,
-};
+use index::entries::count_of;
+use index::layout::{MAX_STATES, PLACE_LIMIT, TEST_ANSWERS, TEST_CELLS, TEST_USERS, WORD};
 use records::fields::byte_at;
+use records::kind::Kind;
 use rounds::shrinking::shrink;
 use rounds::tested::Sizes;
 use rules::first_nodes::fill_firsts;
@@ -46,17 +44,7 @@ fn start_kept(t: &[u16], flags: &[u8], n: usize) -> bool
     ensures { FindsStart t.now flags.now n result }
 {
     let others = group_of(t, 1);
-    let mut b: usize = 0;
-    while b < n {
-        if others <= b {
-            return false;
-        }
-        if starts_at(t, flags, b) {
-            return true;
-        }
-        b = b + 1;
-    }
-    false
+    (0..n.min(others)).any(|b| starts_at(t, flags, b))
 }
 
 // Writes where users and answers begin, in front of the sets of candidates.
@@ -98,18 +86,18 @@ pub fn judge_bindings(
 ) -> Shrunken
     ensures { JudgesBindings file.now index.old counts.now ends.now firsts.old t.old r.old w.old hints flags.old flags.new result.accepted result.kept result.total result.rounds }
 {
-    let total = place_at(counts, BINDING);
-    fill_rows(file, index, place_at(counts, TRANSITION));
-    fill_firsts(file, index, place_at(counts, RULE), firsts);
+    let total = count_of(counts, Kind::Binding);
+    fill_rows(file, index, count_of(counts, Kind::Transition));
+    fill_firsts(file, index, count_of(counts, Kind::Rule), firsts);
     let nodes = fill_table(file, index, counts, ends, firsts, t);
-    let words = (total + (WORD - 1)) / WORD;
+    let words = total.div_ceil(WORD);
     let from = hints % PLACE_LIMIT;
     let users = total * words + total;
     set_places(r, from, from + users);
     fill_candidates(t, total, words, r);
     let sizes = Sizes {
         nodes,
-        goals: place_at(counts, TYPE) + MAX_STATES,
+        goals: count_of(counts, Kind::Type) + MAX_STATES,
         bindings: total,
     };
     let ended = shrink(t, firsts, sizes, r, w, flags);

@@ -6,8 +6,8 @@ ghost use Rattle.term_check.specs.Worlds.{users_of};
 ghost use Rattle.rounds.specs.tested.Tested.{Placed};
 ghost use Rattle.rounds.specs.dropping.Dropping.{JoinsWord, JoinsWords, Joins, Drops, DropsAll};
 
-use crate::tested::{Course, Sizes};
-use index::layout::{BINDING_WORDS, MAX_BINDINGS, ROW_LIMIT, TEST_CELLS, WORD};
+use crate::tested::{Failures, Sizes};
+use index::layout::{BINDING_WORDS, MAX_BINDINGS, TEST_CELLS};
 use marks::{next_beyond, next_in, word_in};
 use tables::candidates::leave_sets;
 use term_check::masks::{lowest, without_bit};
@@ -18,7 +18,7 @@ fn join_word(into: &mut [u32], k: usize, word: u32)
     ensures { JoinsWord k word into.old into.new }
 {
     if k < into.len() {
-        into[k] = into[k] | word;
+        into[k] |= word;
     }
 }
 
@@ -83,15 +83,15 @@ fn drop_binding(
 )
     ensures { Placed r.old r.new × ((firsts : List ℕ) → Drops t.now firsts (users_of r.old w.now) sizes b (drop test_cells r.old) flags.old todo.old (drop test_cells r.new) flags.new todo.new) }
 {
-    let total = sizes.bindings % ROW_LIMIT;
-    let words = (total + (WORD - 1)) / WORD;
+    let total = sizes.total();
+    let words = sizes.words();
     let dropped = b % MAX_BINDINGS;
     drop_flag(flags, b);
     join_users(r, w, dropped * words, total * words + dropped, todo);
     leave(t, b, words, r);
 }
 
-// Drops all that failed, which are from the least of a course on and before its past.
+// Drops all that failed in a turn.
 pub fn drop_failed(
     t: &[u16],
     w: &[u32],
@@ -100,7 +100,7 @@ pub fn drop_failed(
     r: &mut [u32],
     flags: &mut [u8],
     todo: &mut [u32],
-    n: Course,
+    n: Failures,
 )
     ensures { Placed r.old r.new × ((firsts : List ℕ) → DropsAll t.now firsts (users_of r.old w.now) sizes failed.now (drop test_cells r.old) flags.old todo.old n.least n.past (drop test_cells r.new) flags.new todo.new) }
 {

@@ -1,7 +1,6 @@
 // Shrinking by rounds: each round tests the bindings that rest on one that the round before dropped, against the set as the round
 // began, and drops those that fail; the rounds end with one that drops nothing.
-ghost use Rattle.std.specs.Prelude.{◌≡◌, ◌<◌, ◌≤◌, length, get_or, drop};
-ghost use Rattle.scheme.specs.Flags.{bit, is_kept};
+ghost use Rattle.std.specs.Prelude.{◌≡◌, ◌≤◌, length, drop};
 ghost use Rattle.index.specs.layout.Layout.{test_cells};
 ghost use Rattle.term_check.specs.Worlds.{answers_of, users_of};
 ghost use Rattle.rounds.specs.tested.Tested.{Same};
@@ -9,11 +8,11 @@ ghost use Rattle.rounds.specs.shrinking.Shrinking.{Turns, KeepsAll, Counts, Shri
 
 use crate::dropping::drop_failed;
 use crate::tested::{Course, Sizes, retest};
-use index::layout::{BINDING_WORDS, ROW_LIMIT};
+use index::layout::BINDING_WORDS;
 use marks::briefs::next_marked;
 
 // What the rounds leave beside the flags: how many bindings are kept, and how many rounds dropped something.
-#[derive(Drop)]
+#[derive(Clone, Copy)]
 pub struct Ended {
     pub kept: usize,
     pub rounds: usize,
@@ -33,11 +32,10 @@ fn turn(
 ) -> Course
     ensures { (length w.new ≡ length w.old) × Same r.old r.new × Turns t.now (drop test_cells r.old) firsts.now sizes flags.now todo.now (answers_of r.old w.old) (users_of r.old w.old) failed.old last (answers_of r.old w.new) (users_of r.old w.new) failed.new result }
 {
-    let total = sizes.bindings % ROW_LIMIT;
+    let total = sizes.total();
     let mut n = Course {
         last,
-        least: 0,
-        past: 0,
+        failures: None,
     };
     let mut b = next_marked(todo, 0, BINDING_WORDS, 0, total);
     while b < total {
@@ -54,22 +52,7 @@ fn all_kept(flags: &mut [u8], n: usize)
     if flags.len() < n {
         return;
     }
-    let mut i: usize = 0;
-    while i < n {
-        flags[i] = 1;
-        i = i + 1;
-    }
-}
-
-// 1 where flag i, which is there, says kept, else 0.
-fn kept_at(flags: &[u8], i: usize) -> usize
-    requires { i < length flags.now }
-    ensures { result ≡ bit (is_kept (get_or flags.now i 0)) }
-{
-    if flags[i] == 0 {
-        return 0;
-    }
-    1
+    flags[..n].fill(1);
 }
 
 // How many of the first n flags say kept, where there are so many.
@@ -79,13 +62,7 @@ fn count_kept(flags: &[u8], n: usize) -> usize
     if flags.len() < n {
         return 0;
     }
-    let mut kept: usize = 0;
-    let mut i: usize = 0;
-    while i < n {
-        kept = kept + kept_at(flags, i);
-        i = i + 1;
-    }
-    kept
+    flags[..n].iter().filter(|flag| **flag != 0).count()
 }
 
 // The bindings that are left when the rounds have ended, by the lent flags: 1 for a kept binding and 0 for a dropped one. All start
@@ -101,24 +78,25 @@ pub fn shrink(
 ) -> Ended
     ensures { ShrinksByRounds t.now (drop test_cells r.old) firsts.now sizes (answers_of r.old w.old) (users_of r.old w.old) flags.old flags.new result.kept result.rounds }
 {
-    let total = sizes.bindings % ROW_LIMIT;
+    let total = sizes.total();
     all_kept(flags, total);
     let mut todo = [4294967295u32; BINDING_WORDS + 1];
-    let mut rounds: usize = 0;
     let mut last: u32 = 0;
-    while rounds <= total {
+    for rounds in 0..total + 1 {
         let mut failed = [0u32; BINDING_WORDS];
         let n = turn(t, firsts, sizes, flags, &todo, r, w, &mut failed, last);
-        if n.past == 0 {
+        let Some(failures) = n.failures else {
             return Ended {
                 kept: count_kept(flags, total),
                 rounds,
             };
-        }
+        };
         last = n.last;
         todo = [0u32; BINDING_WORDS + 1];
-        drop_failed(t, w, sizes, &failed, r, flags, &mut todo, n);
-        rounds = rounds + 1;
+        drop_failed(t, w, sizes, &failed, r, flags, &mut todo, failures);
     }
-    Ended { kept: 0, rounds }
+    Ended {
+        kept: 0,
+        rounds: total + 1,
+    }
 }

@@ -1,14 +1,14 @@
 // The test of one binding against those that are kept, and its mark where it fails.
-ghost use Rattle.std.specs.Prelude.{◌≡◌, ◌≤◌, length, drop};
-ghost use Rattle.index.specs.layout.Layout.{test_users, test_cells};
+ghost use Rattle.std.specs.Prelude.{◌≡◌, ◌+◌, ◌/◌, ◌%◌, length, drop};
+ghost use Rattle.index.specs.layout.Layout.{row_limit, word_bits, test_cells};
 ghost use Rattle.term_check.specs.Worlds.{answers_of, users_of};
-ghost use Rattle.rounds.specs.tested.Tested.{Same, Writes, Clears, Freshens, Fails, TestsBinding, Retests};
+ghost use Rattle.rounds.specs.tested.Tested.{Same, Freshens, Fails, TestsBinding, Retests};
 
 use index::entries::place_at;
 use index::layout::{
     LAST_TEST, MAX_BINDINGS, NODE_CELLS, PLACE_LIMIT, ROW_LIMIT, TEST_ANSWERS, TEST_USERS, WORD,
 };
-use marks::{put_in, word_in};
+use marks::put_in;
 use records::fields::byte_at;
 use tables::reading::{end_of, own_of, symbol_of};
 use term_check::check::check_term;
@@ -22,22 +22,50 @@ pub struct Sizes {
     pub bindings: usize,
 }
 
-// The course of a turn: the number of the last test, the least binding that failed, and one more than the greatest or 0.
+impl Sizes {
+    // How many bindings there are, a number below ROW_LIMIT.
+    pub fn total(self) -> usize
+        ensures { result ≡ self.bindings % row_limit }
+    {
+        self.bindings % ROW_LIMIT
+    }
+
+    // How many words a set of bindings has.
+    pub fn words(self) -> usize
+        ensures { result ≡ (self.bindings % row_limit + 31) / word_bits }
+    {
+        self.total().div_ceil(WORD)
+    }
+}
+
+// Those that failed in a turn: the least binding, and one more than the greatest.
 #[derive(Clone, Copy)]
-pub struct Course {
-    pub last: u32,
+pub struct Failures {
     pub least: usize,
     pub past: usize,
 }
 
-// Sets all words to 0.
-fn clear(words: &mut [u32])
-    ensures { Clears words.old words.new }
-{
-    let mut i: usize = 0;
-    while i < words.len() {
-        words[i] = 0;
-        i = i + 1;
+// The course of a turn: the number of the last test, and those that failed, if any did.
+#[derive(Clone, Copy)]
+pub struct Course {
+    pub last: u32,
+    pub failures: Option<Failures>,
+}
+
+impl Course {
+    // The course after binding b failed in the last test, and is greater than those that failed before.
+    fn with_failed(self, last: u32, b: usize) -> Course
+        ensures { Fails self last b result }
+    {
+        let least = match self.failures {
+            Some(failures) => failures.least,
+            None => b,
+        };
+        let past = b % ROW_LIMIT + 1;
+        Course {
+            last,
+            failures: Some(Failures { least, past }),
+        }
     }
 }
 
@@ -49,24 +77,13 @@ fn freshen(r: &[u32], w: &mut [u32], last: u32) -> u32
         return last + 1;
     }
     let split = split_of(r, w);
-    clear(&mut w[split..]);
+    w[split..].fill(0);
     1
 }
 
-// Writes the numbers of a test in front of the sets of candidates, but for those that say where users and answers begin.
-fn set_test(test: &[u32], r: &mut [u32])
-    requires { test_users ≤ length r.old }
-    ensures { Writes test.now r.old r.new }
-{
-    let mut k: usize = 0;
-    while k < TEST_USERS {
-        r[k] = word_in(test, 0, k);
-        k = k + 1;
-    }
-}
-
 // Whether binding b holds against those that are kept: its nonterminal's body has the final state of its type. What a yes rests on
-// is noted. Where there is no room for the numbers of a test there is none for notes.
+// is noted. The numbers of the test are written in front of the sets of candidates, but for those that say where users and answers
+// begin; where there is no room for them there is none for notes.
 fn holds(
     t: &[u16],
     firsts: &[u16],
@@ -85,39 +102,21 @@ fn holds(
     let first = place_at(firsts, symbol_of(t, b));
     let base = sizes.nodes % PLACE_LIMIT + first * NODE_CELLS;
     let number = b % MAX_BINDINGS;
-    let words = (sizes.bindings % ROW_LIMIT + (WORD - 1)) / WORD;
-    let wide = (sizes.goals % ROW_LIMIT + (WORD - 1)) / WORD;
-    let test = [
+    let words = sizes.words();
+    let wide = (sizes.goals % ROW_LIMIT).div_ceil(WORD);
+    let total = sizes.total();
+    let test: [u32; TEST_USERS] = [
         own as u32,
         base as u32,
         number as u32,
         stamp,
         wide as u32,
         words as u32,
-        (sizes.bindings % ROW_LIMIT) as u32,
+        total as u32,
     ];
-    set_test(&test, r);
+    r[..TEST_USERS].copy_from_slice(&test);
     let goal = end_of(t, own);
     check_term(t, r, w, 0, goal)
-}
-
-// The course after binding b failed in the last test, and is greater than those that failed before.
-fn with_failed(n: Course, last: u32, b: usize) -> Course
-    ensures { Fails n last b result }
-{
-    let past = b % ROW_LIMIT + 1;
-    if n.past == 0 {
-        return Course {
-            last,
-            least: b,
-            past,
-        };
-    }
-    Course {
-        last,
-        least: n.least,
-        past,
-    }
 }
 
 // Tests binding b where its flag says kept, and marks it where it fails. The course after the test is returned.
@@ -139,12 +138,8 @@ pub fn retest(
     }
     let stamp = freshen(r, w, n.last);
     if holds(t, firsts, sizes, r, w, stamp, b) {
-        return Course {
-            last: stamp,
-            least: n.least,
-            past: n.past,
-        };
+        return Course { last: stamp, ..n };
     }
     put_in(failed, 0, b);
-    with_failed(n, stamp, b)
+    n.with_failed(stamp, b)
 }

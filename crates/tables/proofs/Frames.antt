@@ -36,15 +36,6 @@ row_apart p q k l hp hq hk hl e = go (dec_lt p q) (dec_lt q p)
     go (no a) (yes b) = absurd (omega arith)
     go (no a) (no b) = omega arith
 
--- and in one column
-pub column_apart : (p q k l : ℕ) → k < row_cells → l < row_cells → row_at p + k ≡ row_at q + l → k ≡ l
-column_apart p q k l hk hl e = go (dec_lt (p % row_limit) (q % row_limit)) (dec_lt (q % row_limit) (p % row_limit))
-  where
-    go : Dec (p % row_limit < q % row_limit) → Dec (q % row_limit < p % row_limit) → k ≡ l
-    go (yes a) d = absurd (omega arith)
-    go (no a) (yes b) = absurd (omega arith)
-    go (no a) (no b) = omega arith
-
 -- a row that did not change
 pub other_row : {q : ℕ} {a b : List ℕ} → Within (row_at q) (row_at q + row_cells) a b → (p k : ℕ) → p < row_limit → q < row_limit → k < row_cells → (p ≡ q → ⊥) → cell_of b p k ≡ cell_of a p k
 other_row {q} w p k hp hq hk ne = w.outside (row_at p + k) (λ x y. ne (let e : row_at p + k ≡ row_at q + (row_at p + k - row_at q) = omega arith in row_apart p q k (row_at p + k - row_at q) hp hq hk (omega arith) e))

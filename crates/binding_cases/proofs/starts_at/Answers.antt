@@ -1,5 +1,4 @@
 -- `starts_at` meets its contract.
-use borrow.Author.Rules.{rules}
 use Rattle.binding_cases.proofs.Starting.{starts_dropped, starts_other, starts_here}
 use Rattle.binding_cases.proofs.starts_at.Goals as goal
 

@@ -1,6 +1,6 @@
 -- Bindings that are dropped one by one: those that failed and are passed are gone and what they served is marked, the sets of candidates
 -- are right for the flags.
-use Prim.Native.Nat.{ℕ, zero, suc, ◌+◌, ◌-◌, ◌*◌, ◌/◌, ◌%◌, ◌<◌, ◌≤◌}
+use Prim.Native.Nat.{ℕ, zero, suc, ◌+◌, ◌*◌, ◌/◌, ◌%◌, ◌<◌, ◌≤◌}
 use native.Mathlib.Omega.{arith}
 use native.Mathlib.Decide.{dec_lt, ℕ_discrete}
 use native.Mathlib.Nat.{mul-le-mul, le_of_suc-le-suc}
@@ -26,19 +26,9 @@ set_past [] i h = refl
 set_past (x ∷ xs) zero h = absurd (omega arith)
 set_past (x ∷ xs) (suc i) h = ap (x ∷◌) (set_past xs i (le_of_suc-le-suc h))
 
--- a search that goes on behind b finds a number there or none
-pub search_less : {b end r : ℕ} → (r < end → b + 1 ≤ r) → b < end → end - r < end - b
-search_less {b} {end} {r} f h = go (dec_lt r end)
-  where
-    go : Dec (r < end) → end - r < end - b
-    go (yes l) = let k = f l in omega arith
-    go (no l) = omega arith
-
-pub columns_fit : (n : ℕ) → n % row_limit * ((n % row_limit + 31) / 32) ≤ 131008
-columns_fit n = mul-le-mul {n₁ = n % row_limit} {m₁ = (n % row_limit + 31) / 32} {n₂ = 2047} {m₂ = 64} (omega arith) (omega arith)
-
-pub product_fits : (b n : ℕ) → b % max_bindings * ((n % row_limit + 31) / 32) ≤ 65472
-product_fits b n = mul-le-mul {n₁ = b % max_bindings} {m₁ = (n % row_limit + 31) / 32} {n₂ = 1023} {m₂ = 64} (omega arith) (omega arith)
+-- the places of a set of so many bindings fit a word
+pub places_fit : (n words m : ℕ) → n < row_limit → words ≡ (m % row_limit + 31) / 32 → n * words ≤ 131008
+places_fit n words m l e = mul-le-mul {n₁ = n} {m₁ = words} {n₂ = 2047} {m₂ = 64} (omega arith) (omega arith)
 
 module _ {rs : List Record} {t firsts : List ℕ} {sizes : Sizes} (f : Frame rs t firsts sizes) where
   pub total_is : sizes.bindings % row_limit ≡ total rs
@@ -48,9 +38,9 @@ module _ {rs : List Record} {t firsts : List ℕ} {sizes : Sizes} (f : Frame rs 
   words_are = ap (λ n. (n + 31) / 32) total_is
 
 module _ (t firsts users : List ℕ) (sizes : Sizes) where
-  pub dropped_one : (b : ℕ) (sets flags todo sets' flags' todo' : List ℕ) → flags' ≡ set flags b 0 → LeavesSets t b ((sizes.bindings % row_limit + 31) / 32) sets sets'
-      → Joins users (b % max_bindings * ((sizes.bindings % row_limit + 31) / 32)) (sizes.bindings % row_limit * ((sizes.bindings % row_limit + 31) / 32) + b % max_bindings) todo todo' → Drops t firsts users sizes b sets flags todo sets' flags' todo'
-  dropped_one b sets flags todo sets' flags' todo' e l j =
+  pub dropped_one : (b : ℕ) (sets flags todo sets' flags' todo' : List ℕ) (all words : ℕ) → all ≡ sizes.bindings % row_limit → words ≡ (sizes.bindings % row_limit + 31) / 32 → flags' ≡ set flags b 0 → LeavesSets t b words sets sets'
+      → Joins users (b % max_bindings * words) (all * words + b % max_bindings) todo todo' → Drops t firsts users sizes b sets flags todo sets' flags' todo'
+  dropped_one b sets flags todo sets' flags' todo' all words ea ew e l j =
       record {
         sets_long = l.long;
         flags_long = ap length e ∙ length-set flags b 0;
@@ -59,17 +49,17 @@ module _ (t firsts users : List ℕ) (sizes : Sizes) where
         others = λ c d. ap (λ x. get_or x c 0) e ∙ get_or-set_other flags b c 0 0 d;
         grows = j.grows;
         candidates = λ rs f h k cs.
-            let w = words_are f in
+            let w = ew ∙ words_are f in
             subst (λ x. CandidatesAre rs x sets' (words_for rs)) (sym e)
             (subst (CandidatesAre rs (set flags b 0) sets') w (l.left rs flags f.table.types f.table.bindings h k w (subst (CandidatesAre rs flags sets) (sym w) cs)));
         marked = λ rs f room h long d i.
-            let n = total_is f in
-            let w = words_are f in
+            let n = ea ∙ total_is f in
+            let w = ew ∙ words_are f in
             let few = f.few_bindings in
             let own : b ≡ b % max_bindings = omega arith in
-            let place : b * words_for rs ≡ b % max_bindings * ((sizes.bindings % row_limit + 31) / 32) = ap₂ ◌*◌ own (sym w) in
-            let brief : total rs * words_for rs + b ≡ sizes.bindings % row_limit * ((sizes.bindings % row_limit + 31) / 32) + b % max_bindings = ap₂ ◌+◌ (ap₂ ◌*◌ (sym n) (sym w)) own in
-            j.joined d long (subst (λ x. Marked users (b % max_bindings * ((sizes.bindings % row_limit + 31) / 32)) x d) brief (subst (λ x. Marked users x (total rs * words_for rs + b) d) place i));
+            let place : b * words_for rs ≡ b % max_bindings * words = ap₂ ◌*◌ own (sym w) in
+            let brief : total rs * words_for rs + b ≡ all * words + b % max_bindings = ap₂ ◌+◌ (ap₂ ◌*◌ (sym n) (sym w)) own in
+            j.joined d long (subst (λ x. Marked users (b % max_bindings * words) x d) brief (subst (λ x. Marked users x (total rs * words_for rs + b) d) place i));
       }
 
   -- all that failed below b are dropped

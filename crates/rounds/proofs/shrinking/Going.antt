@@ -5,6 +5,7 @@ use native.Mathlib.Decide.{dec_lt}
 use mathlib.Core.Path.{◌≡◌, refl, sym, ap, ap₂, subst, ◌∙◌}
 use mathlib.Core.Bool.{Bool, true, false, ◌&&◌, false≢true}
 use mathlib.Core.List.{List, ◌++◌}
+use Rattle.std.specs.Prelude.{None, Some}
 use lib.Dec.{T}
 use lib.ListN.{length, get_or, take, drop, replicate, get_or-replicate, length-drop, take-append-drop}
 use lib.Seq.{get_or-take, get_or-drop, ext_get_or, length-take-le}
@@ -21,10 +22,11 @@ use Rattle.answers.specs.Answers.{Under}
 use Rattle.tables.specs.Facts.{binding_at, no_binding, CandidatesAre}
 use Rattle.tables.specs.Filling.{words_for}
 use Rattle.rounds.specs.Resting.{total, test_of, Holds, Frame, Noted, Rests, Room}
-use Rattle.rounds.specs.tested.Tested.{Ranged, Todo}
+use Rattle.rounds.specs.tested.Tested.{past_in, Spans, Ranged, Todo}
 use Rattle.rounds.specs.dropping.Dropping.{DropsAll}
 use Rattle.rounds.specs.shrinking.Shrinking.{Settled, Turnable, Turns, KeepsAll, Counts, ShrinksByRounds}
 use Rattle.rounds.specs.declared.tested.Sizes.{Sizes}
+use Rattle.rounds.specs.declared.tested.Failures.{Failures}
 use Rattle.rounds.specs.declared.tested.Course.{Course}
 use Rattle.rounds.proofs.shrinking.Flagged.{chosen_take, round_take, round_length, round_at}
 use Rattle.rounds.proofs.shrinking.Leaving.{Left, left_start, left_turn, left_same, left_rounds, left_flags, left_kept}
@@ -126,8 +128,8 @@ module _ (t firsts : List ℕ) (sizes : Sizes) (sets₀ memo₀ users₀ lent : 
 
   module _ (sets memo users flags todo : List ℕ) (rounds last : ℕ) (g : Going sets memo users flags todo rounds last) (end : ℕ) (is : end ≡ sizes.bindings % 2048) where
     -- so many rounds there are not
-    pub going_out : end < rounds → (kept : ℕ) → ShrinksByRounds t sets₀ firsts sizes memo₀ users₀ lent flags kept rounds
-    going_out h kept =
+    pub going_out : end < rounds → (kept counted : ℕ) → ShrinksByRounds t sets₀ firsts sizes memo₀ users₀ lent flags kept counted
+    going_out h kept counted =
         record {
           long = g.long;
           flags_are = λ rs fr ca ro un lo. absurd (never rs (record { frame = fr; candidates = ca; room = ro; under = un; long = lo }));
@@ -158,10 +160,10 @@ module _ (t firsts : List ℕ) (sizes : Sizes) (sets₀ memo₀ users₀ lent : 
         resting : Settled rs flags users' (In failed 0)
         resting = turn.settled rs asks
 
-        ranged : Ranged failed n
+        ranged : Ranged failed n.failures
         ranged = turn.ranged rs asks
 
-        few_failed : n.past ≤ total rs
+        few_failed : past_in n.failures ≤ total rs
         few_failed = let r = reached end is rs w in let b = turn.before in omega arith
 
         enough : length (bindings_of rs) ≤ length flags
@@ -196,12 +198,12 @@ module _ (t firsts : List ℕ) (sizes : Sizes) (sets₀ memo₀ users₀ lent : 
         kept_made new e = ap length (sym (chosen_take new (bindings_of rs)) ∙ ap (λ fs. chosen fs (bindings_of rs)) e ∙ chosen_round (test_of rs) (bindings_of rs) flags)
 
       -- nothing failed
-      module _ (h : n.past ≡ 0) where
+      module _ (h : n.failures ≡ None) where
         module _ (rs : List Record) (w : Given rs) where
           more : length (chosen flags (bindings_of rs)) ≡ length (Rounds.round (test_of rs) (chosen flags (bindings_of rs)))
           more =
               kept_made rs w flags
-              (made rs w flags refl (λ c l i. absurd (let k = (ranged rs w).inside c i in omega arith)) (λ c l i. refl))
+              (made rs w flags refl (λ c l i. absurd (subst (Ranged failed) h (ranged rs w) c i)) (λ c l i. refl))
 
           kept_all : length (chosen flags (bindings_of rs)) ≤ length (Rounds.round (test_of rs) (chosen flags (bindings_of rs)))
           kept_all = let m = more in omega arith
@@ -232,10 +234,16 @@ module _ (t firsts : List ℕ) (sizes : Sizes) (sets₀ memo₀ users₀ lent : 
             rounds_here rs w = left_rounds (test_of rs) (bindings_of rs) flags _ rounds (g.left rs w) (length (Rounds.round (test_of rs) (chosen flags (bindings_of rs)))) (enough rs w) refl (kept_all rs w)
 
       -- some failed, and are dropped
-      module _ (h : n.past ≡ 0 → ⊥) (sets' new todo' : List ℕ) (d : DropsAll t firsts users' sizes failed sets flags (replicate 33 0) n.least n.past sets' new todo') where
+      module _ (f : Failures) (h : n.failures ≡ Some f) (sets' new todo' : List ℕ) (d : DropsAll t firsts users' sizes failed sets flags (replicate 33 0) f.least f.past sets' new todo') where
         module _ (rs : List Record) (w : Given rs) where
+          spans : Spans failed f
+          spans = subst (Ranged failed) h (ranged rs w)
+
+          few_past : f.past ≤ total rs
+          few_past = let few = few_failed rs w in let e = ap past_in h in omega arith
+
           gone : (c : ℕ) → c < total rs → In failed 0 c → get_or new c 0 ≡ 0
-          gone c l i = let k = (ranged rs w).inside c i in d.gone rs w.frame (few_failed rs w) (let l = g.long in let k = w.long in omega arith) c k.0 k.1 i
+          gone c l i = let k = spans.inside c i in d.gone rs w.frame few_past (let l = g.long in let k = w.long in omega arith) c k.0 k.1 i
 
           others : (c : ℕ) → (In failed 0 c → ⊥) → get_or new c 0 ≡ get_or flags c 0
           others = d.others
@@ -250,13 +258,13 @@ module _ (t firsts : List ℕ) (sizes : Sizes) (sets₀ memo₀ users₀ lent : 
               all = length (bindings_of rs)
 
               first : ℕ
-              first = n.least
+              first = f.least
 
               in_first : In failed 0 first
-              in_first = (ranged rs w).some_failed (let k = h in omega arith)
+              in_first = spans.some_failed
 
               below : first < total rs
-              below = let k = (ranged rs w).inside first in_first in let b = few_failed rs w in omega arith
+              below = let k = spans.inside first in_first in let b = few_past in omega arith
 
               go : Dec (length (chosen new (bindings_of rs)) < length (chosen flags (bindings_of rs))) → length (chosen new (bindings_of rs)) < length (chosen flags (bindings_of rs))
               go (yes l) = l
@@ -278,7 +286,7 @@ module _ (t firsts : List ℕ) (sizes : Sizes) (sets₀ memo₀ users₀ lent : 
                   room = let r = w.room in let a = g.users_long in let b = turn.users_long in omega arith
 
                   has : (fs : List ℕ) → ((c : ℕ) → c < total rs → is_kept (get_or new c 0) ≡ true → Noted rs users' b c → is_kept (get_or fs c 0) ≡ true) → (c : ℕ) → c < total rs → is_kept (get_or flags c 0) ≡ true → Noted rs users' b c → Dec (In failed 0 c) → is_kept (get_or fs c 0) ≡ true
-                  has fs kept-noted c m s noted (yes j) = let k = (ranged rs w).inside c j in absurd (unmarked (d.marked rs w.frame room (few_failed rs w) (omega arith) c b k.0 k.1 j noted))
+                  has fs kept-noted c m s noted (yes j) = let k = spans.inside c j in absurd (unmarked (d.marked rs w.frame room few_past (omega arith) c b k.0 k.1 j noted))
                   has fs kept-noted c m s noted (no j) = kept-noted c m (ap is_kept (others c j) ∙ s) noted
 
           past : drop (total rs) new ≡ drop (total rs) flags
@@ -287,7 +295,7 @@ module _ (t firsts : List ℕ) (sizes : Sizes) (sets₀ memo₀ users₀ lent : 
               let e' = length-drop (total rs) flags in
               let l = d.flags_long in
               ext_get_or 0 (drop (total rs) new) (drop (total rs) flags) (omega arith)
-              (λ i m. get_or-drop (total rs) new i 0 ∙ others (total rs + i) (λ k. let m = (ranged rs w).inside (total rs + i) k in let b = few_failed rs w in absurd (omega arith)) ∙ sym (get_or-drop (total rs) flags i 0))
+              (λ i m. get_or-drop (total rs) new i 0 ∙ others (total rs + i) (λ k. let m = spans.inside (total rs + i) k in let b = few_past in absurd (omega arith)) ∙ sym (get_or-drop (total rs) flags i 0))
 
         pub going_more : Going sets' memo' users' new todo' (rounds + 1) n.last
         going_more =
@@ -297,7 +305,7 @@ module _ (t firsts : List ℕ) (sizes : Sizes) (sets₀ memo₀ users₀ lent : 
               marks_long = d.todo_long;
               under = λ u. turn.under (g.under u);
               stays = λ rs w. past rs w ∙ g.stays rs w;
-              candidates = λ rs w. d.candidates rs w.frame (few_failed rs w) (let l = g.long in let k = w.long in omega arith) (g.candidates rs w);
+              candidates = λ rs w. d.candidates rs w.frame (few_past rs w) (let l = g.long in let k = w.long in omega arith) (g.candidates rs w);
               settled = settled_new;
               few = λ rs w. let was = g.few rs w in let less = fewer rs w in omega arith;
               left = λ rs w. left_turn (test_of rs) (bindings_of rs) flags _ rounds (g.left rs w) new (length (chosen new (bindings_of rs))) (made_new rs w) (kept_made rs w new (made_new rs w)) (fewer rs w);

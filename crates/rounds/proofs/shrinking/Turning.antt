@@ -1,10 +1,11 @@
 -- One turn over the marked bindings: those that are passed are tested, and all that is not marked rests on its notes as before.
-use Prim.Native.Nat.{ℕ, ◌+◌, ◌-◌, ◌*◌, ◌/◌, ◌%◌, ◌<◌, ◌≤◌}
+use Prim.Native.Nat.{ℕ, ◌+◌, ◌*◌, ◌/◌, ◌%◌, ◌<◌, ◌≤◌}
 use native.Mathlib.Omega.{arith}
 use native.Mathlib.Decide.{dec_lt, ℕ_discrete}
 use mathlib.Core.Path.{◌≡◌, refl, sym, subst, ◌∙◌}
 use mathlib.Core.Bool.{true}
 use mathlib.Core.List.{List}
+use Rattle.std.specs.Prelude.{None}
 use lib.ListN.{length, get_or, drop}
 use Rattle.scheme.specs.Flags.{is_kept}
 use Rattle.casefile.specs.Records.{Record}
@@ -16,7 +17,7 @@ use Rattle.tables.specs.Filling.{words_for}
 use Rattle.term_check.specs.Worlds.{answers_of, users_of}
 use Rattle.marks.proofs.briefs.Passing.{in_more, marked_more}
 use Rattle.rounds.specs.Resting.{total, Holds, Rests}
-use Rattle.rounds.specs.tested.Tested.{Placed, Todo, Grows, Ranged, Retests}
+use Rattle.rounds.specs.tested.Tested.{Placed, Todo, Grows, past_in, Ranged, Retests}
 use Rattle.rounds.specs.shrinking.Shrinking.{Turnable, Turns}
 use Rattle.rounds.specs.declared.tested.Sizes.{Sizes}
 use Rattle.rounds.specs.declared.tested.Course.{Course}
@@ -38,19 +39,19 @@ module _ (t sets firsts : List ℕ) (sizes : Sizes) (kept todo memo users failed
     pub users_long : length users' ≡ length users
     pub failed_long : length failed' ≡ length failed
     pub under : Under memo (last + 1) → Under memo' (n.last + 1)
-    pub before : n.past ≤ b
-    pub ranged : (rs : List Record) → Given rs → Ranged failed' n
+    pub before : past_in n.failures ≤ b
+    pub ranged : (rs : List Record) → Given rs → Ranged failed' n.failures
     pub failures : (rs : List Record) → Given rs → (c : ℕ) → c < total rs → In failed' 0 c → (is_kept (get_or kept c 0) ≡ true) × (Holds rs kept c → ⊥)
     pub settled : (rs : List Record) → Given rs → (c : ℕ) → c < total rs → is_kept (get_or kept c 0) ≡ true → (In failed' 0 c → ⊥) → (Todo todo c → c < b) → Rests rs kept users' c
 
-  pub turn_none : (end b : ℕ) → FindsMarked todo 0 max_binding_words 0 end b → Turning memo users failed (record { last = last; least = 0; past = 0 }) b
+  pub turn_none : (end b : ℕ) → FindsMarked todo 0 max_binding_words 0 end b → Turning memo users failed (record { last = last; failures = None }) b
   turn_none end b f =
       record {
         users_long = refl;
         failed_long = refl;
         under = λ u. u;
         before = omega arith;
-        ranged = λ rs g. record { inside = λ c i. absurd (g.none c i); some_failed = λ h. absurd (omega arith) };
+        ranged = λ rs g. g.none;
         failures = λ rs g c l i. absurd (g.none c i);
         settled = λ rs g c l k n m. g.settled c l k (λ i. f.passed c (omega arith) (m i) i);
       }

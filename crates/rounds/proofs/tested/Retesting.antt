@@ -2,21 +2,23 @@
 use Prim.Native.Nat.{ℕ, zero, suc, ◌+◌, ◌/◌, ◌%◌, ◌<◌, ◌≤◌}
 use native.Mathlib.Omega.{arith}
 use native.Mathlib.Decide.{ℕ_discrete}
-use mathlib.Core.Path.{◌≡◌, sym, subst, ◌∙◌}
+use mathlib.Core.Path.{◌≡◌, sym, ap, subst, ◌∙◌}
 use mathlib.Core.Logic.{◌⊎◌, inl, inr}
 use mathlib.Core.Bool.{Bool, true, false, true≢false}
 use mathlib.Core.List.{List}
+use Rattle.std.specs.Prelude.{Option, None, Some}
 use lib.ListN.{length, get_or, drop}
 use Rattle.scheme.specs.Flags.{is_kept}
 use Rattle.scheme.proofs.Flags.{kept_byte}
 use Rattle.casefile.specs.Fields.{field}
-use Rattle.index.specs.layout.Layout.{test_cells}
+use Rattle.index.specs.layout.Layout.{row_limit, test_cells}
 use Rattle.marks.specs.Marks.{In, Puts}
 use Rattle.answers.specs.Answers.{Under}
 use Rattle.term_check.specs.Worlds.{answers_of, users_of}
 use Rattle.marks.proofs.briefs.Passing.{in_more}
-use Rattle.rounds.specs.tested.Tested.{Same, Freshens, Fails, TestsBinding, Ranged, Retests}
+use Rattle.rounds.specs.tested.Tested.{Same, Freshens, least_or, past_in, Fails, TestsBinding, Spans, Ranged, Retests}
 use Rattle.rounds.specs.declared.tested.Sizes.{Sizes}
+use Rattle.rounds.specs.declared.tested.Failures.{Failures}
 use Rattle.rounds.specs.declared.tested.Course.{Course}
 use Rattle.rounds.proofs.tested.Placing.{moved_sets}
 
@@ -57,7 +59,7 @@ module _ (t sets firsts : List ℕ) (sizes : Sizes) (kept memo users failed : Li
     on u = told.under (new.fresh u)
 
     -- one that holds
-    pub retest_holds : r ≡ true → Retests t sets firsts sizes kept memo users failed n b memo' users' failed (record { last = stamp; least = n.least; past = n.past })
+    pub retest_holds : r ≡ true → Retests t sets firsts sizes kept memo users failed n b memo' users' failed (record n { last = stamp })
     retest_holds y =
         record {
           grows = told.grows;
@@ -65,7 +67,7 @@ module _ (t sets firsts : List ℕ) (sizes : Sizes) (kept memo users failed : Li
           under = on;
           only = λ c x d. x;
           before = λ h l. omega arith;
-          ranged = λ h l long g. record { inside = g.inside; some_failed = g.some_failed };
+          ranged = λ h l long g. g;
           answer = λ rs w ca ro u long h. (λ k no'. told.yes y rs kept w ca ro (new.fresh u) h, λ x no'. absurd (no' x));
         }
 
@@ -77,8 +79,8 @@ module _ (t sets firsts : List ℕ) (sizes : Sizes) (kept memo users failed : Li
           more = p.grows;
           under = λ u. subst (λ k. Under memo' (k + 1)) (sym l.last_is) (on u);
           only = only;
-          before = λ h m. let e = l.past_is in omega arith;
-          ranged = λ h m long g. ranged h m long g (ℕ_discrete n.past 0);
+          before = λ h m. let e = ap past_in l.failures_are in omega arith;
+          ranged = λ h m long g. subst (Ranged failed') (sym l.failures_are) (ranged n.failures h m long g);
           answer = λ rs w ca ro u long h. (
             λ k no'. absurd (no' (p.put (let few = w.few_bindings in omega arith))),
             λ x no'. (kept_byte (get_or kept b 0) (λ z. ne (flag_is kept b flag e ∙ z)), told.no y rs kept w ca ro (new.fresh u) h),
@@ -92,25 +94,17 @@ module _ (t sets firsts : List ℕ) (sizes : Sizes) (kept memo users failed : Li
         only : (c : ℕ) → In failed' 0 c → (c ≡ b → ⊥) → In failed 0 c
         only c x d = one c d (p.only (0 + c / 32) (c % 32) (omega arith) x)
 
-        ranged : n.past ≤ b → b < 1024 → 32 ≤ length failed → Ranged failed n → Dec (n.past ≡ 0) → Ranged failed' a
-        ranged h m long g (yes z) =
-            record {
-              inside = λ c i. first c i (ℕ_discrete c b);
-              some_failed = λ k. subst (In failed' 0) (sym (l.first z)) (p.put (omega arith));
-            }
+        ranged : (o : Option Failures) → past_in o ≤ b → b < 1024 → 32 ≤ length failed → Ranged failed o → Spans failed' (record { least = least_or b o; past = b % row_limit + 1 })
+        ranged None h m long g = record { inside = λ c i. first c i (ℕ_discrete c b); some_failed = p.put (omega arith) }
           where
-            first : (c : ℕ) → In failed' 0 c → Dec (c ≡ b) → (a.least ≤ c) × (c < a.past)
-            first c i (yes e) = let q = l.first z in let u = l.past_is in (omega arith, omega arith)
-            first c i (no d) = absurd (let k = g.inside c (only c i d) in omega arith)
-        ranged h m long g (no z) =
-            record {
-              inside = λ c i. later c i (ℕ_discrete c b);
-              some_failed = λ k. subst (In failed' 0) (sym (l.later z)) (in_more failed failed' p.grows 0 n.least (g.some_failed (omega arith)));
-            }
+            first : (c : ℕ) → In failed' 0 c → Dec (c ≡ b) → (b ≤ c) × (c < b % row_limit + 1)
+            first c i (yes e) = (omega arith, omega arith)
+            first c i (no d) = absurd (g c (only c i d))
+        ranged (Some f) h m long g = record { inside = λ c i. later c i (ℕ_discrete c b); some_failed = in_more failed failed' p.grows 0 f.least g.some_failed }
           where
-            later : (c : ℕ) → In failed' 0 c → Dec (c ≡ b) → (a.least ≤ c) × (c < a.past)
-            later c i (yes e) = let q = l.later z in let u = l.past_is in let k = g.inside n.least (g.some_failed (omega arith)) in (omega arith, omega arith)
-            later c i (no d) = let q = l.later z in let u = l.past_is in let k = g.inside c (only c i d) in (omega arith, omega arith)
+            later : (c : ℕ) → In failed' 0 c → Dec (c ≡ b) → (f.least ≤ c) × (c < b % row_limit + 1)
+            later c i (yes e) = let k = g.inside f.least g.some_failed in (omega arith, omega arith)
+            later c i (no d) = let k = g.inside c (only c i d) in (omega arith, omega arith)
 
 -- the same by the places and the sets as they stood before
 pub retests_from : (r₀ r w w' t firsts : List ℕ) (sizes : Sizes) (kept failed : List ℕ) (n : Course) (b : ℕ) (failed' : List ℕ) (a : Course) → Same r₀ r → Retests t (drop test_cells r) firsts sizes kept (answers_of r w) (users_of r w) failed n b (answers_of r w') (users_of r w') failed' a

@@ -12,7 +12,7 @@ use Rattle.answers.specs.Answers.{Under}
 use Rattle.tables.specs.Facts.{CandidatesAre}
 use Rattle.tables.specs.Filling.{words_for}
 use Rattle.rounds.specs.Resting.{total, test_of, Holds, Frame, Rests, Room}
-use Rattle.rounds.specs.tested.Tested.{Ranged, Todo}
+use Rattle.rounds.specs.tested.Tested.{past_in, Ranged, Todo}
 use Rattle.rounds.specs.declared.tested.Sizes.{Sizes}
 use Rattle.rounds.specs.declared.tested.Course.{Course}
 
@@ -35,8 +35,8 @@ pub record Turns (t sets firsts : List ℕ) (sizes : Sizes) (kept todo memo user
   pub users_long : length users' ≡ length users
   pub failed_long : length failed' ≡ length failed
   pub under : Under memo (last + 1) → Under memo' (r.last + 1)
-  pub before : r.past ≤ sizes.bindings % row_limit
-  pub ranged : (rs : List Record) → Turnable t sets firsts sizes kept todo memo users failed last rs → Ranged failed' r
+  pub before : past_in r.failures ≤ sizes.bindings % row_limit
+  pub ranged : (rs : List Record) → Turnable t sets firsts sizes kept todo memo users failed last rs → Ranged failed' r.failures
   pub failures : (rs : List Record) → Turnable t sets firsts sizes kept todo memo users failed last rs → (b : ℕ) → b < total rs → In failed' 0 b → (is_kept (get_or kept b 0) ≡ true) × (Holds rs kept b → ⊥)
   pub settled : (rs : List Record) → Turnable t sets firsts sizes kept todo memo users failed last rs → Settled rs kept users' (In failed' 0)
 

@@ -1,6 +1,6 @@
 -- What our own crates promise each other; nothing here has to be believed.
 -- The test of one binding.
-use Rattle.std.specs.Prelude.{ℕ, ◌+◌, ◌*◌, ◌%◌, ◌<◌, ◌≤◌, ◌≡◌, Bool, true, false, List, length, get_or, drop}
+use Rattle.std.specs.Prelude.{ℕ, ◌+◌, ◌*◌, ◌%◌, ◌<◌, ◌≤◌, ◌≡◌, Bool, true, false, Option, None, Some, List, length, get_or, drop}
 use Rattle.scheme.specs.Flags.{is_kept}
 use Rattle.casefile.specs.Records.{Record}
 use Rattle.index.specs.layout.Layout.{row_limit, word_bits, max_binding_words, test_users, test_answers, test_cells}
@@ -11,6 +11,7 @@ use Rattle.tables.specs.Facts.{CandidatesAre}
 use Rattle.tables.specs.Filling.{words_for}
 use Rattle.rounds.specs.Resting.{total, Holds, Frame, Rests, Room}
 use Rattle.rounds.specs.declared.tested.Sizes.{Sizes}
+use Rattle.rounds.specs.declared.tested.Failures.{Failures}
 use Rattle.rounds.specs.declared.tested.Course.{Course}
 
 -- users and answers begin where they did
@@ -49,12 +50,20 @@ pub record Freshens (memo : List ℕ) (last : ℕ) (memo' : List ℕ) (r : ℕ) 
   pub some_number : 0 < r
   pub fresh : Under memo (last + 1) → Under memo' r
 
+-- the least that failed, and a given one where none did
+abbrev pub least_or : ℕ → Option Failures → ℕ
+least_or b None = b
+least_or b (Some f) = f.least
+
+-- one more than the greatest that failed, and 0 where none did
+abbrev pub past_in : Option Failures → ℕ
+past_in None = 0
+past_in (Some f) = f.past
+
 -- r is the course after binding b failed in test number `last`
 pub record Fails (n : Course) (last b : ℕ) (r : Course) : Type 0 where
   pub last_is : r.last ≡ last
-  pub past_is : r.past ≡ b % row_limit + 1
-  pub first : n.past ≡ 0 → r.least ≡ b
-  pub later : (n.past ≡ 0 → ⊥) → r.least ≡ n.least
+  pub failures_are : r.failures ≡ Some (record { least = least_or b n.failures; past = b % row_limit + 1 })
 
 -- r says whether binding b holds against those that are kept
 pub record TestsBinding (t sets firsts : List ℕ) (sizes : Sizes) (memo users : List ℕ) (stamp b : ℕ) (memo' users' : List ℕ) (r : Bool) : Type 0 where
@@ -64,9 +73,14 @@ pub record TestsBinding (t sets firsts : List ℕ) (sizes : Sizes) (memo users :
   pub no : r ≡ false → (rs : List Record) (kept : List ℕ) → Frame rs t firsts sizes → CandidatesAre rs kept sets (words_for rs) → Room rs users → Under memo stamp → b < total rs → Holds rs kept b → ⊥
 
 -- those that failed are from the least on and before the past, and the least is one of them
-pub record Ranged (failed : List ℕ) (n : Course) : Type 0 where
-  pub inside : (c : ℕ) → In failed 0 c → (n.least ≤ c) × (c < n.past)
-  pub some_failed : 0 < n.past → In failed 0 n.least
+pub record Spans (failed : List ℕ) (f : Failures) : Type 0 where
+  pub inside : (c : ℕ) → In failed 0 c → (f.least ≤ c) × (c < f.past)
+  pub some_failed : In failed 0 f.least
+
+-- these are those that failed, if any did
+abbrev pub Ranged : List ℕ → Option Failures → Type 0
+Ranged failed None = (c : ℕ) → In failed 0 c → ⊥
+Ranged failed (Some f) = Spans failed f
 
 -- after binding b was tested, if it is kept: what it rests on, or that it failed; no other mark is set
 pub record Retests (t sets firsts : List ℕ) (sizes : Sizes) (kept memo users failed : List ℕ) (n : Course) (b : ℕ) (memo' users' failed' : List ℕ) (r : Course) : Type 0 where
@@ -74,7 +88,7 @@ pub record Retests (t sets firsts : List ℕ) (sizes : Sizes) (kept memo users f
   pub more : Grows failed failed'
   pub under : Under memo (n.last + 1) → Under memo' (r.last + 1)
   pub only : (c : ℕ) → In failed' 0 c → (c ≡ b → ⊥) → In failed 0 c
-  pub before : n.past ≤ b → b < row_limit → r.past ≤ b + 1
-  pub ranged : n.past ≤ b → b < max_binding_words * word_bits → max_binding_words ≤ length failed → Ranged failed n → Ranged failed' r
+  pub before : past_in n.failures ≤ b → b < row_limit → past_in r.failures ≤ b + 1
+  pub ranged : past_in n.failures ≤ b → b < max_binding_words * word_bits → max_binding_words ≤ length failed → Ranged failed n.failures → Ranged failed' r.failures
   pub answer : (rs : List Record) → Frame rs t firsts sizes → CandidatesAre rs kept sets (words_for rs) → Room rs users → Under memo (n.last + 1) → max_binding_words ≤ length failed → b < total rs
       → (is_kept (get_or kept b 0) ≡ true → (In failed' 0 b → ⊥) → Rests rs kept users' b) × (In failed' 0 b → (In failed 0 b → ⊥) → (is_kept (get_or kept b 0) ≡ true) × (Holds rs kept b → ⊥))

@@ -3,7 +3,6 @@ use Prim.Native.Nat.{ℕ, ◌+◌, ◌*◌, ◌%◌, ◌<◌, ◌≤◌}
 use native.Mathlib.Omega.{arith}
 use native.Mathlib.Decide.{ℕ_discrete}
 use mathlib.Core.Path.{◌≡◌, refl, sym, ap, subst, ◌∙◌}
-use mathlib.Core.Logic.{◌⊎◌, inl, inr}
 use mathlib.Core.List.{List}
 use lib.ListN.{length, get_or}
 use Rattle.casefile.specs.Fields.{byte}
@@ -13,10 +12,9 @@ use Rattle.index.specs.enter.Entering.{stored}
 use Rattle.transitions.specs.places.RowPlaces.{place_in, NoPlaceIn, IsPlaceIn}
 use Rattle.transitions.specs.rows.Rows.{IsArity}
 use Rattle.marks.specs.Marks.{bit_of}
-use Rattle.marks.proofs.Bits.{zero_bit}
-use Rattle.tables.specs.Frames.{Within, Adds}
+use Rattle.tables.specs.Frames.{Within}
 use Rattle.tables.specs.reading.Cells.{targets_of_spec, present_of_spec, arity_of_spec}
-use Rattle.tables.specs.automaton.Packing.{packed_at, Presents, FillsTargets, ConstructorSays, FillsAutomaton}
+use Rattle.tables.specs.automaton.Packing.{packed_at, Presents, FillsTargets, ConstructorSays}
 use Rattle.tables.proofs.Frames.{Put, within_none, within_then, within_wider, store_long, store_here, store_other, within_store}
 
 pub packed_is : (file : List ℕ) (place a b c d : ℕ) → a ≡ byte file (place + 2) → b ≡ byte file (place + 3) → c ≡ byte file (place + 4) → d ≡ byte file (place + 5) → a % 16 + 16 * (b % 16) + 256 * (c % 16) + 4096 * (d % 16) ≡ packed_at file place
@@ -30,44 +28,11 @@ pub record PresentsTo (index : List ℕ) (c q r : ℕ) : Type 0 where
   pub in_set : (p : ℕ) → p < q → (place_in index p c ≡ 0 → ⊥) → bit_of p r ≡ 1
   pub only : (p : ℕ) → bit_of p r ≡ 1 → place_in index p c ≡ 0 → ⊥
 
-pub presents_none : {index : List ℕ} {c : ℕ} → PresentsTo index c 0 0
-presents_none = record { up_to = omega arith; small = omega arith; in_set = λ p h. absurd (omega arith); only = λ p e. absurd (let z = zero_bit p in omega arith) }
-
-module _ {index : List ℕ} {c q r : ℕ} (so : PresentsTo index c q r) (h : q < max_states) where
-  pub presents_put : (place : ℕ) → IsPlaceIn index q c place → (r' : ℕ) → Adds r q r' → PresentsTo index c (q + 1) r'
-  presents_put place is r' put =
-      record { up_to = omega arith; small = put.small so.small h; in_set = λ p k d. there p k d (ℕ_discrete p q); only = λ p e. whose p (put.only (omega arith) p e) }
-    where
-      there : (p : ℕ) → p < q + 1 → (place_in index p c ≡ 0 → ⊥) → Dec (p ≡ q) → bit_of p r' ≡ 1
-      there p k d (yes z) = subst (λ x. bit_of x r' ≡ 1) (sym z) (put.put (omega arith))
-      there p k d (no z) = let y : (p ≡ q → ⊥) = z in put.grows p (so.in_set p (omega arith) d)
-
-      whose : (p : ℕ) → (bit_of p r ≡ 1) ⊎ (p ≡ q) → place_in index p c ≡ 0 → ⊥
-      whose p (inl e) f = so.only p e f
-      whose p (inr e) f = is.there (is.place ∙ ap (λ x. place_in index x c) (sym e) ∙ f)
-
-  pub presents_pass : c < max_constructors → NoPlaceIn index q c → PresentsTo index c (q + 1) r
-  presents_pass l none = record { up_to = omega arith; small = so.small; in_set = λ p k d. there p k d (ℕ_discrete p q); only = so.only }
-    where
-      there : (p : ℕ) → p < q + 1 → (place_in index p c ≡ 0 → ⊥) → Dec (p ≡ q) → bit_of p r ≡ 1
-      there p k d (yes z) = absurd (d (ap (λ x. place_in index x c) z ∙ none h l))
-      there p k d (no z) = let y : (p ≡ q → ⊥) = z in so.in_set p (omega arith) d
-
-pub presents_no : {index : List ℕ} {constructors c : ℕ} → constructors ≤ c → Presents index constructors c 0
-presents_no h = record { small = omega arith; in_set = λ l. absurd (omega arith); only = λ p e. absurd (let z = zero_bit p in omega arith) }
-
-pub presents_all : {index : List ℕ} {constructors c q r : ℕ} → PresentsTo index c q r → max_states ≤ q → Presents index constructors c r
-presents_all so h = record { small = so.small; in_set = λ m p l. so.in_set p (omega arith); only = so.only }
-
 -- The targets of a constructor.
 pub record TargetsTo (file index : List ℕ) (c : ℕ) (before : List ℕ) (q : ℕ) (t : List ℕ) : Type 0 where
   pub up_to : q ≤ max_states
   pub within : Within (targets_base + c * max_states) (targets_base + c * max_states + max_states) before t
   pub targets : groups_at ≤ length before → (p : ℕ) → p < q → (place_in index p c ≡ 0 → ⊥) → targets_of_spec t c p ≡ packed_at file (place_in index p c)
-
--- there are none, where no state is present
-pub targets_no : {file index : List ℕ} {c present : ℕ} {before : List ℕ} → present ≡ 0 → FillsTargets file index c present before before
-targets_no e = record { within = within_none; targets = λ room q h x ne. absurd (let z = zero_bit q in let y = ap (bit_of q) e in omega arith) }
 
 pub targets_none : {file index : List ℕ} {c : ℕ} {before : List ℕ} → TargetsTo file index c before 0 before
 targets_none = record { up_to = omega arith; within = within_none; targets = λ room p h. absurd (omega arith) }
@@ -97,17 +62,11 @@ module _ {file index : List ℕ} {c : ℕ} {before : List ℕ} {q : ℕ} {t : Li
         at room p k ne (yes z) = absurd (ne (ap (λ x. place_in index x c) z ∙ none h l))
         at room p k ne (no z) = let y : (p ≡ q → ⊥) = z in so.targets room p (omega arith) ne
 
-  pub targets_all : {present : ℕ} → max_states ≤ q → FillsTargets file index c present before t
-  targets_all h = record { within = so.within; targets = λ room p k x ne. so.targets room p (omega arith) ne }
-
 -- All constructors.
 pub record AutomatonTo (file index : List ℕ) (constructors : ℕ) (before : List ℕ) (c : ℕ) (t : List ℕ) : Type 0 where
   pub up_to : c ≤ max_constructors
   pub within : Within targets_base groups_at before t
   pub says : groups_at ≤ length before → (d : ℕ) → d < c → ConstructorSays file index constructors d t
-
-pub automaton_none : {file index : List ℕ} {constructors : ℕ} {before : List ℕ} → AutomatonTo file index constructors before 0 before
-automaton_none = record { up_to = omega arith; within = within_none; says = λ room d h. absurd (omega arith) }
 
 -- what the table has of a constructor stays, where its cells stay
 constructor_stays : {file index : List ℕ} {constructors d : ℕ} (t after : List ℕ) → present_of_spec after d ≡ present_of_spec t d → arity_of_spec after d ≡ arity_of_spec t d → ((q : ℕ) → targets_of_spec after d q ≡ targets_of_spec t d q)
@@ -161,6 +120,3 @@ module _ {file index : List ℕ} {constructors : ℕ} {before : List ℕ} {c : �
                 ap (λ x. get_or e x 0) qq ∙ fills.within.outside (arities_at + c) (λ u v. omega arith) ∙ store_here pb (omega arith) (omega arith) ∙ r;
             targets = λ q l x. let there = subst (λ y. bit_of q y ≡ 1) present_is x in fills.targets (omega arith) q l there (ps.only q there);
           })
-
-  pub automaton_all : max_constructors ≤ c → FillsAutomaton file index constructors before t
-  automaton_all h = record { within = so.within; says = λ room d k. so.says room d (omega arith) }

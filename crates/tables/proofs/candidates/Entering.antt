@@ -79,21 +79,12 @@ module _ {t : List ℕ} {b words : ℕ} {before : List ℕ} {goal k : ℕ} {sets
   pub enter_ended : goal ≡ no_number → Enters t b words before sets
   enter_ended e = enter_done (λ j l h. walk_ended so.walked e j l)
 
-  pub enter_all : 256 ≤ k → Enters t b words before sets
-  enter_all h = enter_done (λ j l m. absurd (omega arith))
-
 -- All bindings.
 pub record SetsTo (t : List ℕ) (bindings words : ℕ) (before : List ℕ) (b : ℕ) (sets : List ℕ) : Type 0 where
   pub up_to : b ≤ bindings
   pub long : length sets ≡ length before
   pub only : (i j : ℕ) → j < word_bits → bit_of j (get_or sets i 0) ≡ 1 → (bit_of j (get_or before i 0) ≡ 1) ⊎ ((c : ℕ) × (c < b) × OnChain t c words i j)
   pub put : (i : ℕ) → i < b → (k : ℕ) → k < 256 → (along t i k ≡ no_number → ⊥) → set_at words (along t i k) + i / word_bits < length before → In sets (set_at words (along t i k)) i
-
-pub sets_none : {t : List ℕ} {bindings words : ℕ} {before : List ℕ} → SetsTo t bindings words before 0 before
-sets_none = record { up_to = omega arith; long = refl; only = λ i j h x. inl x; put = λ i h. absurd (omega arith) }
-
-pub sets_many : {t : List ℕ} {bindings words : ℕ} {before : List ℕ} → max_bindings < bindings → FillsSets t bindings words before before
-sets_many h = record { long = refl; filled = λ rs ts bs e few. absurd (omega arith) }
 
 kept_all : (n b : ℕ) → b < n → is_kept (get_or (replicate n 1) b 0) ≡ true
 unfolding is_kept
@@ -102,30 +93,6 @@ kept_all (suc n) zero h = refl
 kept_all (suc n) (suc b) h = kept_all n b (omega arith)
 
 module _ {t : List ℕ} {bindings words : ℕ} {before : List ℕ} {b : ℕ} {sets : List ℕ} (so : SetsTo t bindings words before b sets) where
-  pub sets_more : b < bindings → {after : List ℕ} → Enters t b words sets after → SetsTo t bindings words before (b + 1) after
-  sets_more h {after} is =
-      record {
-        up_to = omega arith;
-        long = is.long ∙ so.long;
-        only = λ i j l x. of i j l (is.only i j l x);
-        put = λ i l k m d room. there i l k m d room (ℕ_discrete i b);
-      }
-    where
-      of : (i j : ℕ) → j < word_bits → (bit_of j (get_or sets i 0) ≡ 1) ⊎ OnChain t b words i j → (bit_of j (get_or before i 0) ≡ 1) ⊎ ((c : ℕ) × (c < b + 1) × OnChain t c words i j)
-      of i j l (inr on) = inr (b, omega arith, on)
-      of i j l (inl x) = older (so.only i j l x)
-        where
-          older : (bit_of j (get_or before i 0) ≡ 1) ⊎ ((c : ℕ) × (c < b) × OnChain t c words i j) → (bit_of j (get_or before i 0) ≡ 1) ⊎ ((c : ℕ) × (c < b + 1) × OnChain t c words i j)
-          older (inl y) = inl y
-          older (inr (c, lc, on)) = inr (c, omega arith, on)
-
-      there : (i : ℕ) → i < b + 1 → (k : ℕ) → k < 256 → (along t i k ≡ no_number → ⊥) → set_at words (along t i k) + i / word_bits < length before → Dec (i ≡ b) → In after (set_at words (along t i k)) i
-      there i l k m d room (no z) = let y : (i ≡ b → ⊥) = z in is.grows (set_at words (along t i k) + i / word_bits) (i % word_bits) (omega arith) (so.put i (omega arith) k m d room)
-      there i l k m d room (yes z) =
-          let q = so.long in
-          subst (λ x. (along t x k ≡ no_number → ⊥) → set_at words (along t x k) + x / word_bits < length before → In after (set_at words (along t x k)) x) (sym z)
-          (λ d' room'. is.put k m d' (subst (λ n. set_at words (along t b k) + b / word_bits < n) (sym q) room')) d room
-
   pub sets_all : bindings ≤ b → FillsSets t bindings words before sets
   sets_all h =
       record {

@@ -2,7 +2,7 @@
 use Prim.Native.Nat.{ℕ, zero, suc, ◌+◌, ◌-◌, ◌*◌, ◌/◌, ◌%◌, ◌<◌, ◌≤◌}
 use native.Mathlib.Omega.{arith}
 use native.Mathlib.Decide.{ℕ_discrete, dec_lt}
-use native.Mathlib.Nat.{mul-le-mul_left, mul-le-mul_right}
+use native.Mathlib.Nat.{mul-le-mul_right}
 use mathlib.Core.Path.{◌≡◌, refl, sym, ap, subst, ◌∙◌}
 use mathlib.Core.List.{List}
 use mathlib.Core.Option.{some}
@@ -14,14 +14,6 @@ use Rattle.tables.specs.reading.Cells.{result_of, own_of, off_of}
 use Rattle.tables.specs.candidates.Chains.{along, widest, OnChain}
 use Rattle.tables.proofs.reading.Offs.{off_none, off_next}
 use Rattle.tables.proofs.types.Meaning.{goal_below, state_goal}
-
--- a place among the sets fits a word
-pub place_fits : (a b : ℕ) → a < 65536 → a * (b % widest) < 18446744073709551616
-place_fits a b h = let l : b % widest ≤ widest = omega arith in let m : a * (b % widest) ≤ a * widest = mul-le-mul_left a l in omega arith
-
--- and so does the place of a word there
-pub word_fits : (a b n : ℕ) → a < 65536 → n < 18446744073709551616 → a * (b % widest) + n / word_bits < 18446744073709551616
-word_fits a b n h m = let l : b % widest ≤ widest = omega arith in let p : a * (b % widest) ≤ a * widest = mul-le-mul_left a l in omega arith
 
 -- one arrow more off
 module _ (t : List ℕ) where

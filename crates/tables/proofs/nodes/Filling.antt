@@ -2,22 +2,19 @@
 use Prim.Native.Nat.{ℕ, ◌+◌, ◌-◌, ◌*◌, ◌/◌, ◌%◌, ◌<◌, ◌≤◌}
 use native.Mathlib.Omega.{arith}
 use native.Mathlib.Decide.{ℕ_discrete}
-use mathlib.Core.Path.{◌≡◌, refl, sym, ap, subst, ◌∙◌}
+use mathlib.Core.Path.{◌≡◌, sym, ap, subst, ◌∙◌}
 use mathlib.Core.List.{List}
 use lib.ListN.{length, get_or, set, length-set}
 use lib.Seq.{get_or-set_same, get_or-set_other}
 use Rattle.casefile.specs.Fields.{field, word}
 use Rattle.records.specs.fields.Promises.{HasLength}
-use Rattle.index.specs.layout.Layout.{max_nonterminals, max_nodes, place_limit, node_cells, number_cell, next_cell}
+use Rattle.index.specs.layout.Layout.{max_nodes, node_cells, number_cell, next_cell}
 use Rattle.tables.specs.Frames.{Within}
 use Rattle.tables.specs.nodes.Bodies.{CountsNodes, EntersNode, NodeSays, BodySays, FillsBody, start_of, first_of, Bodied, FillsNodes}
-use Rattle.tables.proofs.Frames.{within_none, within_then, within_wider, within_set}
+use Rattle.tables.proofs.Frames.{within_then, within_set}
 
 -- the number of nodes
 module _ {file : List ℕ} {start len : ℕ} (is : HasLength file start len) where
-  pub nodes_many : max_nodes < len / 4 → CountsNodes file start 0
-  nodes_many h = record { few = omega arith; counted = λ l few. let e = is.headed l in absurd (omega arith) }
-
   pub nodes_few : len / 4 ≤ max_nodes → CountsNodes file start (len / 4)
   nodes_few h = record { few = h; counted = λ l few. ap (λ x. x / 4) (is.headed l) }
 
@@ -51,38 +48,10 @@ pub record BodyTo (file : List ℕ) (start n : ℕ) (ends : List ℕ) (first at 
   pub within : Within at (at + n * node_cells) before t
   pub says : (j : ℕ) → j < i → NodeSays file start (get_or ends (first + j) 0) j (at + j * node_cells) t
 
-pub body_short : {file : List ℕ} {start n : ℕ} {ends : List ℕ} {first at : ℕ} {before : List ℕ} → length file < start + n * 4 → FillsBody file start n ends first at before before
-body_short h = record { within = within_none; says = λ there room j k. absurd (omega arith) }
-
-pub body_far : {file : List ℕ} {start n : ℕ} {ends : List ℕ} {first at : ℕ} {before : List ℕ} → length before < at + n * node_cells → FillsBody file start n ends first at before before
-body_far h = record { within = within_none; says = λ there room j k. absurd (omega arith) }
-
-pub body_none : {file : List ℕ} {start n : ℕ} {ends : List ℕ} {first at : ℕ} {before : List ℕ} → BodyTo file start n ends first at before 0 before
-body_none = record { up_to = omega arith; within = within_none; says = λ j h. absurd (omega arith) }
-
 -- a node stays while its cells stay
 node_stays : {file : List ℕ} {start next i cell : ℕ} {t : List ℕ} (after : List ℕ) → ((k : ℕ) → cell ≤ k → k < cell + node_cells → get_or after k 0 ≡ get_or t k 0) → NodeSays file start next i cell t → NodeSays file start next i cell after
 node_stays {cell = cell} after same s =
     record { head = same cell (omega arith) (omega arith) ∙ s.head; number = same (cell + number_cell) (omega arith) (omega arith) ∙ s.number; behind = same (cell + next_cell) (omega arith) (omega arith) ∙ s.behind }
-
-module _ {file : List ℕ} {start n : ℕ} {ends : List ℕ} {first at : ℕ} {before : List ℕ} {i : ℕ} {t : List ℕ} (so : BodyTo file start n ends first at before i t) where
-  pub body_more : i < n → (next : ℕ) → next ≡ get_or ends (first + i) 0 → (after : List ℕ) → EntersNode file (start + i * 4) next (at + i * node_cells) t after → BodyTo file start n ends first at before (i + 1) after
-  body_more h next en after enters =
-      record {
-        up_to = omega arith;
-        within = within_then so.within (within_wider at (at + n * node_cells) (omega arith) (omega arith) enters.within);
-        says = λ j l. node j l (ℕ_discrete j i);
-      }
-    where
-      node : (j : ℕ) → j < i + 1 → Dec (j ≡ i) → NodeSays file start (get_or ends (first + j) 0) j (at + j * node_cells) after
-      node j l (no z) =
-          let y : (j ≡ i → ⊥) = z in
-          node_stays after (λ c a b. enters.within.outside c (λ p q. omega arith)) (so.says j (omega arith))
-      node j l (yes z) =
-          subst (λ x. NodeSays file start (get_or ends (first + x) 0) x (at + x * node_cells) after) (sym z) (record { head = enters.head; number = enters.number; behind = enters.behind ∙ en })
-
-  pub body_all : n ≤ i → FillsBody file start n ends first at before t
-  body_all h = record { within = so.within; says = λ there room j k. so.says j (omega arith) }
 
 -- All bodies.
 pub record NodesTo (file index ends firsts : List ℕ) (rules at : ℕ) (before : List ℕ) (f : ℕ) (t : List ℕ) : Type 0 where
@@ -90,15 +59,6 @@ pub record NodesTo (file index ends firsts : List ℕ) (rules at : ℕ) (before 
   pub long : length t ≡ length before
   pub below : (i : ℕ) → i < at → get_or t i 0 ≡ get_or before i 0
   pub says : (nodes : ℕ → ℕ) → Bodied file index firsts rules at nodes (length before) → (g : ℕ) → g < f → BodySays file (start_of index g) (nodes g) ends (first_of firsts g) (at + first_of firsts g * node_cells) t
-
-pub bodies_many : {file index ends firsts : List ℕ} {rules at : ℕ} {before : List ℕ} → max_nonterminals < rules → FillsNodes file index ends firsts rules at before before
-bodies_many h = record { long = refl; below = λ i l. refl; says = λ few. absurd (omega arith) }
-
-pub bodies_far : {file index ends firsts : List ℕ} {rules at : ℕ} {before : List ℕ} → place_limit ≤ at → FillsNodes file index ends firsts rules at before before
-bodies_far h = record { long = refl; below = λ i l. refl; says = λ few near. absurd (omega arith) }
-
-pub bodies_none : {file index ends firsts : List ℕ} {rules at : ℕ} {before : List ℕ} → NodesTo file index ends firsts rules at before 0 before
-bodies_none = record { up_to = omega arith; long = refl; below = λ i l. refl; says = λ nodes w g h. absurd (omega arith) }
 
 module _ {file index ends firsts : List ℕ} {rules at : ℕ} {before : List ℕ} {f : ℕ} {t : List ℕ} (so : NodesTo file index ends firsts rules at before f t) where
   pub bodies_more : f < rules → (start n first : ℕ) → start ≡ start_of index f → CountsNodes file start n → first ≡ first_of firsts f → (after : List ℕ) → FillsBody file start n ends first (at + first * node_cells) t after → NodesTo file index ends firsts rules at before (f + 1) after

@@ -2,7 +2,7 @@
 use Prim.Native.Nat.{ℕ, zero, suc, ◌+◌, ◌-◌, ◌*◌, ◌/◌, ◌%◌, ◌<◌, ◌≤◌}
 use native.Mathlib.Omega.{arith}
 use native.Mathlib.Decide.{dec_le}
-use mathlib.Core.Path.{◌≡◌, refl, sym, ap, subst, ◌∙◌}
+use mathlib.Core.Path.{◌≡◌, sym, ap, subst, ◌∙◌}
 use mathlib.Core.List.{List, ◌++◌}
 use lib.ListN.{length, get_or, take, drop, length-drop}
 use lib.Seq.{take-append_seam, drop-append_seam, get_or-take, get_or-drop, length-take-le}
@@ -33,10 +33,6 @@ use Rattle.tables.proofs.types.Kept.{types_kept, bindings_kept}
 use Rattle.tables.proofs.types.Bindings.{symbol_below, bindings_are}
 use Rattle.tables.proofs.automaton.Meaning.{automaton_is, automaton_kept}
 use Rattle.tables.proofs.nodes.Meaning.{nodes_are}
-
--- The groups, in their part of the table.
-pub groups_none : {file index : List ℕ} {n last : ℕ} {t : List ℕ} → length t < pairs_at → FillsGroups file index n last t t
-groups_none h = record { long = refl; grouped = λ room. absurd (omega arith) }
 
 pub groups_put : {file index : List ℕ} {n last : ℕ} (t groups : List ℕ) → pairs_at ≤ length t → Fills file index n last (take rows_size (drop groups_at t)) groups → FillsGroups file index n last t (take groups_at t ++ (groups ++ drop rows_size (drop groups_at t)))
 groups_put {file} {index} {n} {last} t groups room fills =

@@ -1,6 +1,6 @@
 -- The rows of states, types and bindings as they are filled, one after another. A row is entered by stores of its cells; each store leaves all
 -- other cells as they were, so what is so of an earlier row stays so.
-use Prim.Native.Nat.{ℕ, ◌+◌, ◌-◌, ◌*◌, ◌/◌, ◌%◌, ◌<◌, ◌≤◌}
+use Prim.Native.Nat.{ℕ, ◌+◌, ◌*◌, ◌/◌, ◌%◌, ◌<◌, ◌≤◌}
 use native.Mathlib.Omega.{arith}
 use native.Mathlib.Decide.{dec_lt, ℕ_discrete}
 use mathlib.Core.Path.{◌≡◌, refl, sym, ap, subst, ◌∙◌}
@@ -8,20 +8,18 @@ use mathlib.Core.Logic.{◌⊎◌, inl, inr}
 use mathlib.Core.List.{List}
 use lib.ListN.{length, get_or, set}
 use lib.Seq.{get_or-set_same, get_or-set_other}
-use Rattle.casefile.specs.Fields.{byte, word}
-use Rattle.records.specs.fields.Promises.{HasLength}
-use Rattle.index.specs.layout.Layout.{max_states, max_types, max_bindings, max_members, types_at, bindings_at, rows_at, row_cells, goal_cell, symbol_cell, own_cell, near_cell, low_cell, high_cell, members_cell, word_bits, no_number, pairs_at, pair_cells}
+use Rattle.casefile.specs.Fields.{word}
+use Rattle.index.specs.layout.Layout.{max_states, max_types, max_bindings, max_members, bindings_at, rows_at, row_cells, goal_cell, near_cell, low_cell, high_cell, members_cell, word_bits, no_number, pairs_at, pair_cells}
 use Rattle.index.specs.enter.Entering.{stored}
 use Rattle.marks.specs.Marks.{bit_of}
-use Rattle.marks.proofs.Bits.{zero_bit}
 use Rattle.tables.specs.Facts.{StateRow}
 use Rattle.tables.specs.Frames.{Within, Adds}
 use Rattle.tables.specs.declared.types.Among.{Among}
-use Rattle.tables.specs.reading.Cells.{row_at, cell_of, end_of, member_of_spec, mask_of, symbol_of, own_of, pair_at}
+use Rattle.tables.specs.reading.Cells.{row_at, cell_of, end_of, member_of_spec, mask_of, symbol_of, own_of}
 use Rattle.std.specs.Prelude.{Option, None, Some, MatchOption}
 use Rattle.std.specs.Option.{unwrap_or}
 use Rattle.tables.specs.declared.types.Near.{Near}
-use Rattle.tables.specs.types.Rows.{row_of, goal_of_spec, member_in, Room, FillsStates, CountsMembers, FillsMembers, StatesAmong, ArrowsAmong, NearAmong, AddsMember, ArrowSays, Low, FillsArrow, TypeSays, FillsType, FillsTypes, FillsBindings}
+use Rattle.tables.specs.types.Rows.{row_of, goal_of_spec, member_in, Room, FillsStates, CountsMembers, FillsMembers, StatesAmong, ArrowsAmong, NearAmong, AddsMember, FillsArrow, TypeSays, FillsTypes, FillsBindings}
 use Rattle.tables.proofs.Frames.{Put, within_none, within_then, within_wider, store_long, store_here, store_other, within_store, within_set, stores, other_row}
 
 -- The states.
@@ -29,9 +27,6 @@ pub record StatesTo (before : List ℕ) (q : ℕ) (t : List ℕ) : Type 0 where
   pub up_to : q ≤ max_states
   pub within : Within rows_at (rows_at + max_states * row_cells) before t
   pub rows : rows_at + max_states * row_cells ≤ length before → (p : ℕ) → p < q → StateRow t p
-
-pub states_none : {before : List ℕ} → StatesTo before 0 before
-states_none = record { up_to = omega arith; within = within_none; rows = λ l p h. absurd (omega arith) }
 
 module _ {before : List ℕ} {q : ℕ} {t : List ℕ} (so : StatesTo before q t) where
   pub states_more : q < max_states → (row : ℕ) → row ≡ row_at q → (a b c : List ℕ) → a ≡ stored t (row + 0) 65535 → b ≡ stored a (row + 1) q → c ≡ stored b (row + 4) 0 → StatesTo before (q + 1) c
@@ -73,13 +68,6 @@ module _ {before : List ℕ} {q : ℕ} {t : List ℕ} (so : StatesTo before q t)
 
   pub states_all : max_states ≤ q → FillsStates before t
   states_all h = record { within = so.within; rows = λ l p k. so.rows l p (omega arith) }
-
--- The states among members, and how many are arrows: none yet, and one member more.
-among_none : {t : List ℕ} {g : ℕ} → StatesAmong t g 0 0
-among_none = record { small = omega arith; in_set = λ j h. absurd (omega arith); only = λ q e. absurd (let z = zero_bit q in omega arith) }
-
-arrows_none : {t : List ℕ} {g : ℕ} → ArrowsAmong t g 0 0
-arrows_none = record { few = omega arith; none = λ e j h. absurd (omega arith) }
 
 module _ {t : List ℕ} {g j r : ℕ} (so : StatesAmong t g j r) (x : ℕ) (ex : member_of_spec t g j ≡ x) where
   among_put : x < max_states → (r' : ℕ) → Adds r x r' → StatesAmong t g (j + 1) r'
@@ -164,9 +152,6 @@ pub record MembersTo (file : List ℕ) (start many m : ℕ) (before : List ℕ) 
   pub states_so : StatesAmong t (row_of m) j among.states
   pub arrows_so : ArrowsAmong t (row_of m) j among.arrows
 
-pub members_none : {file : List ℕ} {start many m : ℕ} {before : List ℕ} → many ≤ max_members → m < max_types → Room (row_of m) before → MembersTo file start many m before 0 before (record { states = 0; arrows = 0 })
-members_none few types room = record { up_to = omega arith; few = few; types = types; room = room; within = within_none; member = λ i h. absurd (omega arith); count = omega arith; states_so = among_none; arrows_so = arrows_none }
-
 module _ {file : List ℕ} {start many m : ℕ} {before : List ℕ} {j : ℕ} {t : List ℕ} {among : Among} (so : MembersTo file start many m before j t among) where
   pub members_more : j < many → (row w goal : ℕ) → row ≡ row_at (row_of m) → w ≡ member_in file start j → goal ≡ goal_of_spec t w → {among' : Among} → AddsMember among goal among' → MembersTo file start many m before (j + 1) (set t (row + (members_cell + j)) goal) among'
   members_more h row w goal er ew eg is =
@@ -202,17 +187,6 @@ module _ {file : List ℕ} {start many m : ℕ} {before : List ℕ} {j : ℕ} {t
           apart : w < m → row_at (row_of m) + members_cell ≤ row_at (row_of w) + goal_cell → row_at (row_of w) + goal_cell < row_at (row_of m) + row_cells → ⊥
           apart b x y = omega (arith, so.types)
 
-  pub members_all : many ≤ j → FillsMembers file start many m before t among
-  members_all h =
-      let u = so.up_to in
-      let e : j ≡ many = omega arith in
-      record {
-        within = so.within;
-        member = λ i k. so.member i (omega arith);
-        states_so = states_same (λ i k. refl) e refl so.states_so;
-        arrows_so = arrows_same (λ i k. refl) e refl so.arrows_so;
-      }
-
 -- Where the members of an arrow stand: nothing said of it, and the word and the bits of the first j.
 pub near_unsaid : {t : List ℕ} {g many : ℕ} → NearAmong t g many no_number 0
 near_unsaid = record { small = omega arith; fits = omega arith; word = λ n. absurd (n refl); bit = λ n. absurd (n refl) }
@@ -227,32 +201,6 @@ pub record NearTo (t : List ℕ) (m many j near mask : ℕ) : Type 0 where
   pub few : many ≤ max_members
   pub so : NearAmong t (row_of m) j near mask
 
-pub near_none : {t : List ℕ} {m many near : ℕ} → many ≤ max_members → near < 65536 → NearTo t m many 0 near 0
-near_none few small = record { up_to = omega arith; few = few; so = record { small = small; fits = omega arith; word = λ n i k. absurd (omega arith); bit = λ n i k. absurd (omega arith) } }
-
-module _ {t : List ℕ} {m many j near mask : ℕ} (to : NearTo t m many j near mask) where
-  pub near_more : j < many → (row x : ℕ) → row ≡ row_at (row_of m) → x ≡ get_or t (row + (members_cell + j)) 0 → x / word_bits ≡ near → {mask' : ℕ} → Adds mask x mask' → NearTo t m many (j + 1) near mask'
-  near_more h row x er ex en {mask'} adds =
-      record {
-        up_to = omega arith;
-        few = to.few;
-        so = record { small = to.so.small; fits = adds.fits to.so.fits; word = λ n i k. stand n i k (ℕ_discrete i j); bit = λ n i k. there n i k (ℕ_discrete i j) };
-      }
-    where
-      here : (i : ℕ) → i ≡ j → member_of_spec t (row_of m) i ≡ x
-      here i z = let e : row_at (row_of m) + (members_cell + i % max_members) ≡ row + (members_cell + j) = omega (arith, to.few) in ap (λ y. get_or t y 0) e ∙ sym ex
-
-      stand : (near ≡ no_number → ⊥) → (i : ℕ) → i < j + 1 → Dec (i ≡ j) → member_of_spec t (row_of m) i / word_bits ≡ near
-      stand n i k (yes z) = ap (λ y. y / word_bits) (here i z) ∙ en
-      stand n i k (no z) = let y : (i ≡ j → ⊥) = z in to.so.word n i (omega arith)
-
-      there : (near ≡ no_number → ⊥) → (i : ℕ) → i < j + 1 → Dec (i ≡ j) → bit_of (member_of_spec t (row_of m) i % word_bits) mask' ≡ 1
-      there n i k (yes z) = subst (λ y. bit_of (y % word_bits) mask' ≡ 1) (sym (here i z)) adds.turned
-      there n i k (no z) = let y : (i ≡ j → ⊥) = z in adds.grows (member_of_spec t (row_of m) i % word_bits) (to.so.bit n i (omega arith))
-
-  pub near_all : many ≤ j → NearAmong t (row_of m) many near mask
-  near_all h = let u = to.up_to in near_kept (λ i k. refl) (omega arith) refl refl to.so
-
 -- The bindings.
 pub record BindingsTo (file index : List ℕ) (bindings : ℕ) (before : List ℕ) (b : ℕ) (t : List ℕ) : Type 0 where
   pub up_to : b ≤ bindings
@@ -263,69 +211,6 @@ pub record BindingsTo (file index : List ℕ) (bindings : ℕ) (before : List �
 
 pub bindings_many : {file index : List ℕ} {bindings : ℕ} {before : List ℕ} → max_bindings < bindings → FillsBindings file index bindings before before
 bindings_many h = record { within = within_none; symbol = λ few. absurd (omega arith); own = λ few. absurd (omega arith) }
-
-pub bindings_far : {file index : List ℕ} {bindings : ℕ} {before : List ℕ} → length before < pairs_at + bindings * pair_cells → FillsBindings file index bindings before before
-bindings_far h = record { within = within_none; symbol = λ few room. absurd (omega arith); own = λ few room. absurd (omega arith) }
-
-pub bindings_none : {file index : List ℕ} {bindings : ℕ} {before : List ℕ} → bindings ≤ max_bindings → BindingsTo file index bindings before 0 before
-bindings_none few = record { up_to = omega arith; few = few; within = within_none; symbol = λ l i h. absurd (omega arith); own = λ l i h. absurd (omega arith) }
-
-module _ {file index : List ℕ} {bindings : ℕ} {before : List ℕ} {b : ℕ} {t : List ℕ} (so : BindingsTo file index bindings before b t) where
-  pub bindings_more : b < bindings → (place symbol w own : ℕ) → place ≡ get_or index (bindings_at + b) 0 → symbol ≡ word file place → symbol < 65536 → w ≡ word file (place + 2) → own ≡ goal_of_spec t w → own < 65536
-      → BindingsTo file index bindings before (b + 1) (set (set t (pairs_at + b * pair_cells + symbol_cell) symbol) (pairs_at + b * pair_cells + own_cell) own)
-  bindings_more h place symbol w own ep es small ew eo small' =
-      let few = so.few in
-      record {
-        up_to = omega arith;
-        few = so.few;
-        within = within_then so.within (within_then (within_store pa (omega arith) (omega arith)) (within_store pc (omega arith) (omega arith)));
-        symbol = λ l i k. symbol_at l i k (ℕ_discrete i b);
-        own = λ l i k. own_at l i k (ℕ_discrete i b);
-      }
-    where
-      a : List ℕ
-      a = set t (pairs_at + b * pair_cells + symbol_cell) symbol
-
-      c : List ℕ
-      c = set a (pairs_at + b * pair_cells + own_cell) own
-
-      pa : Put t (pairs_at + b * pair_cells + symbol_cell) symbol a
-      pa = record { is = stores t (pairs_at + b * pair_cells + symbol_cell) symbol small }
-
-      pc : Put a (pairs_at + b * pair_cells + own_cell) own c
-      pc = record { is = stores a (pairs_at + b * pair_cells + own_cell) own small' }
-
-      both : (i : ℕ) → (i ≡ pairs_at + b * pair_cells + symbol_cell → ⊥) → (i ≡ pairs_at + b * pair_cells + own_cell → ⊥) → get_or c i 0 ≡ get_or t i 0
-      both i x y = store_other pc i y ∙ store_other pa i x
-
-      there : pair_at b ≡ pairs_at + b * pair_cells
-      there = let few = so.few in omega arith
-
-      symbol_at : pairs_at + bindings * pair_cells ≤ length before → (i : ℕ) → i < b + 1 → Dec (i ≡ b) → symbol_of c i ≡ word file (get_or index (bindings_at + i) 0)
-      symbol_at l i k (no z) =
-          let few = so.few in
-          let y : (i ≡ b → ⊥) = z in
-          both (pair_at i + symbol_cell) (λ e. z (omega arith)) (λ e. omega arith) ∙ so.symbol l i (omega arith)
-      symbol_at l i k (yes z) =
-          let lt = so.within.long in
-          let few = so.few in
-          subst (λ x. symbol_of c x ≡ word file (get_or index (bindings_at + x) 0)) (sym z)
-          (ap (λ x. get_or c (x + symbol_cell) 0) there ∙ store_other pc (pairs_at + b * pair_cells + symbol_cell) (λ e. omega arith) ∙ store_here pa small (omega arith) ∙ es ∙ ap (word file) ep)
-
-      own_at : pairs_at + bindings * pair_cells ≤ length before → (i : ℕ) → i < b + 1 → Dec (i ≡ b) → own_of c i ≡ goal_of_spec before (word file (get_or index (bindings_at + i) 0 + 2))
-      own_at l i k (no z) =
-          let few = so.few in
-          let y : (i ≡ b → ⊥) = z in
-          both (pair_at i + own_cell) (λ e. omega arith) (λ e. z (omega arith)) ∙ so.own l i (omega arith)
-      own_at l i k (yes z) =
-          let lt = so.within.long in
-          let la = store_long pa in
-          let few = so.few in
-          subst (λ x. own_of c x ≡ goal_of_spec before (word file (get_or index (bindings_at + x) 0 + 2))) (sym z)
-          (ap (λ x. get_or c (x + own_cell) 0) there ∙ store_here pc small' (omega arith) ∙ eo ∙ so.within.outside (row_at (row_of w) + goal_cell) (λ x y. omega arith) ∙ ap (goal_of_spec before) (ew ∙ ap (λ x. word file (x + 2)) ep))
-
-  pub bindings_all : bindings ≤ b → FillsBindings file index bindings before t
-  bindings_all h = record { within = so.within; symbol = λ few l i k. so.symbol l i (omega arith); own = λ few l i k. so.own l i (omega arith) }
 
 -- The row of an arrow: its first five cells, and then where its members stand.
 abbrev five : List ℕ → (row result end states arrows many : ℕ) → List ℕ
@@ -478,91 +363,7 @@ module _ {file : List ℕ} {start len m : ℕ} {t : List ℕ} (types : m < max_t
       kept : (j : ℕ) → member_of_spec last g j ≡ member_of_spec d g j
       kept j = past (members_cell + j % max_members) (omega arith) (λ i l z. omega arith)
 
--- The row of a type.
-pub type_far : {file index : List ℕ} {m : ℕ} {t : List ℕ} (row : ℕ) → row ≡ row_at (row_of m) → length t < row + row_cells → FillsType file index m t t
-type_far row er far = record { within = within_none; says = λ h room low. absurd (omega arith) }
-
-module _ (file index : List ℕ) (m : ℕ) (types : m < max_types) (row start len : ℕ) (er : row ≡ row_at (row_of m)) (es : start ≡ get_or index (types_at + m) 0) (is : HasLength file start len) where
-  -- the length, where the payload has a header
-  len_there : 4 ≤ get_or index (types_at + m) 0 → len ≡ word file (get_or index (types_at + m) 0 - 4)
-  len_there h = is.headed (omega arith) ∙ ap (λ x. word file (x - 4)) es
-
-  pub type_state : {t : List ℕ} → len ≡ 1 → (q : ℕ) → q ≡ byte file start → FillsType file index m t (set t (row + goal_cell) (q % max_states))
-  type_state {t} one q eq =
-      record {
-        within = within_store put (omega arith) (omega arith);
-        says = λ h room low.
-            let here : goal_of_spec a m ≡ q % max_states = store_here put (omega arith) (omega arith) in
-            record {
-              low = omega arith;
-              state = λ k e. here ∙ ap (λ x. x % max_states) (eq ∙ ap (byte file) es);
-              arrow = λ k ne. absurd (ne (sym (len_there k) ∙ one));
-            };
-      }
-    where
-      a : List ℕ
-      a = set t (row + goal_cell) (q % max_states)
-
-      put : Put t (row_at (row_of m) + goal_cell) (q % max_states) a
-      put = record { is = stores t (row + goal_cell) (q % max_states) (omega arith) ∙ ap (λ x. stored t (x + goal_cell) (q % max_states)) er }
-
-  pub type_arrow : {t : List ℕ} → (len ≡ 1 → ⊥) → {f : List ℕ} → FillsArrow file start len m (set t (row + goal_cell) (max_states + m)) f → FillsType file index m t f
-  type_arrow {t} many {f} fills =
-      record {
-        within = within_then first fills.within;
-        says = λ h room low.
-            let la = store_long put in
-            let here : goal_of_spec f m ≡ row_of m = fills.goal_same ∙ store_here put (omega arith) (omega arith) in
-            let says = fills.says (λ i k. subst (λ x. x < row_of m) (sym (other_row first (row_of i) goal_cell (omega arith) (omega arith) (omega arith) (λ z. omega arith))) (low i k)) in
-            record {
-              low = omega arith;
-              state = λ k e. absurd (many (len_there k ∙ e));
-              arrow = λ k ne. (here, subst (λ x. ArrowSays file x (word file (get_or index (types_at + m) 0 - 4)) m f) es (subst (λ x. ArrowSays file start x m f) (len_there k) says));
-            };
-      }
-    where
-      a : List ℕ
-      a = set t (row + goal_cell) (max_states + m)
-
-      put : Put t (row_at (row_of m) + goal_cell) (max_states + m) a
-      put = record { is = stores t (row + goal_cell) (max_states + m) (omega (arith, types)) ∙ ap (λ x. stored t (x + goal_cell) (max_states + m)) er }
-
-      first : Within (row_at (row_of m)) (row_at (row_of m) + row_cells) t a
-      first = within_store put (omega arith) (omega arith)
-
--- The rows of all types. What is so of a row stays so while the rows up to it do not change.
-module _ {i m : ℕ} (t after : List ℕ) (h : i < m) (same : (g k : ℕ) → g < row_of m → k < row_cells → cell_of after g k ≡ cell_of t g k) (low : (w : ℕ) → w < m → goal_of_spec t w < row_of m) where
-  says_stays : {file : List ℕ} {start len : ℕ} → ArrowSays file start len i t → ArrowSays file start len i after
-  says_stays {file} {start} s =
-      record {
-        result = λ l. here 0 (omega arith) ∙ s.result l ∙ sym (goal (word file start) (omega arith));
-        end = λ l. here 1 (omega arith) ∙ s.end l ∙ sym (ap (end_of after) (goal (word file start) (omega arith)) ∙ same (goal_of_spec t (word file start)) 1 (low (word file start) (omega arith)) (omega arith));
-        many = λ x y. here 4 (omega arith) ∙ s.many x y;
-        member = λ x y j k l. here (members_cell + j % max_members) (omega arith) ∙ s.member x y j k l ∙ sym (goal (member_in file start j) (omega arith));
-        states = λ x y. states_same (λ j k. here (members_cell + j % max_members) (omega arith)) refl (sym (here 2 (omega arith))) (s.states x y);
-        arrows = λ x y. arrows_same (λ j k. here (members_cell + j % max_members) (omega arith)) refl (sym (here 3 (omega arith))) (s.arrows x y);
-        near = λ x y. near_kept (λ j k. here (members_cell + j % max_members) (omega arith)) refl (sym (here near_cell (omega arith))) (sym mask) (s.near x y);
-      }
-    where
-      here : (k : ℕ) → k < row_cells → cell_of after (row_of i) k ≡ cell_of t (row_of i) k
-      here k l = same (row_of i) k (omega arith) l
-
-      mask : mask_of after (row_of i) ≡ mask_of t (row_of i)
-      mask = let x = here low_cell (omega arith) in let y = here high_cell (omega arith) in omega arith
-
-      goal : (w : ℕ) → w < m → goal_of_spec after w ≡ goal_of_spec t w
-      goal w l = same (row_of w) goal_cell (omega arith) (omega arith)
-
-  type_stays : {file index : List ℕ} → TypeSays file index i t → TypeSays file index i after
-  type_stays s =
-      let goal = same (row_of i) goal_cell (omega arith) (omega arith) in
-      let l = s.low in
-      record {
-        low = omega arith;
-        state = λ k e. goal ∙ s.state k e;
-        arrow = λ k ne. let (g, a) = s.arrow k ne in (goal ∙ g, says_stays a);
-      }
-
+-- The rows of all types.
 pub record TypesTo (file index : List ℕ) (types : ℕ) (before : List ℕ) (m : ℕ) (t : List ℕ) : Type 0 where
   pub up_to : m ≤ types
   pub few : types ≤ max_types
@@ -571,30 +372,3 @@ pub record TypesTo (file index : List ℕ) (types : ℕ) (before : List ℕ) (m 
 
 pub types_many : {file index : List ℕ} {types : ℕ} {before : List ℕ} → max_types < types → FillsTypes file index types before before
 types_many h = record { within = within_none; says = λ few. absurd (omega arith) }
-
-pub types_none : {file index : List ℕ} {types : ℕ} {before : List ℕ} → types ≤ max_types → TypesTo file index types before 0 before
-types_none few = record { up_to = omega arith; few = few; within = within_none; says = λ l i h. absurd (omega arith) }
-
-module _ {file index : List ℕ} {types : ℕ} {before : List ℕ} {m : ℕ} {t : List ℕ} (so : TypesTo file index types before m t) where
-  pub types_more : m < types → {after : List ℕ} → FillsType file index m t after → TypesTo file index types before (m + 1) after
-  types_more h {after} fills =
-      let few = so.few in
-      record {
-        up_to = omega arith;
-        few = so.few;
-        within = within_then so.within (within_wider (row_at (row_of 0)) (row_at (row_of 0) + types * row_cells) (omega arith) (omega arith) fills.within);
-        says = λ l i k. at l i k (ℕ_discrete i m);
-      }
-    where
-      low : row_at (row_of 0) + types * row_cells ≤ length before → Low m t
-      low l i k = let b = (so.says l i k).low in omega arith
-
-      same : (g k : ℕ) → g < row_of m → k < row_cells → cell_of after g k ≡ cell_of t g k
-      same g k l r = let few = so.few in other_row fills.within g k (omega arith) (omega arith) r (λ z. omega arith)
-
-      at : row_at (row_of 0) + types * row_cells ≤ length before → (i : ℕ) → i < m + 1 → Dec (i ≡ m) → TypeSays file index i after
-      at l i k (yes z) = let few = so.few in let lt = so.within.long in subst (λ x. TypeSays file index x after) (sym z) (fills.says (omega arith) (omega arith) (low l))
-      at l i k (no z) = let y : (i ≡ m → ⊥) = z in let b : i < m = omega arith in type_stays t after b same (low l) (so.says l i b)
-
-  pub types_all : types ≤ m → FillsTypes file index types before t
-  types_all h = record { within = so.within; says = λ few l i k. so.says l i (omega arith) }

@@ -1,26 +1,12 @@
 -- `drop_failed` meets its contract. The invariant: all that failed below b are dropped, and b failed.
-use Prim.Native.Nat.{ℕ, ◌-◌, ◌<◌}
 use native.Mathlib.Omega.{arith}
-use mathlib.Core.List.{List, []}
-use lib.ListN.{drop}
-use Rattle.index.specs.layout.Layout.{test_cells}
-use Rattle.marks.specs.Marks.{In}
-use Rattle.term_check.specs.Worlds.{users_of}
-use Rattle.rounds.specs.tested.Tested.{Placed}
 use Rattle.rounds.proofs.tested.Placing.{placed_none, placed_more}
-use Rattle.rounds.proofs.dropping.Gone.{search_less, Dropped, dropped_none, dropped_more, dropped_all}
+use Rattle.rounds.proofs.dropping.Gone.{dropped_none, dropped_more, dropped_all}
 use Rattle.rounds.proofs.dropping.LentParts.{drops_from}
-use borrow.Author.Rules.{rules}
 use Rattle.rounds.proofs.dropping.drop_failed.Goals as goal
 
 pub loop-b-init : goal.loop-b-init
 loop-b-init c = (λ l. (c.next_in-b.ensures.found l).1, placed_none _, λ firsts. dropped_none _ _ _ _ _ _ _ _ _ _ _ c.next_in-b.ensures)
-
-pub overflow_add-b : goal.overflow_add-b
-overflow_add-b c = omega (arith, c.loop-b-test.true)
-
-pub loop-b-smaller : goal.loop-b-smaller
-loop-b-smaller c = search_less (λ l. (c.next_beyond-b.ensures.found l).0) c.loop-b-test.true
 
 pub loop-b-preserved : goal.loop-b-preserved
 loop-b-preserved c =
@@ -31,15 +17,6 @@ loop-b-preserved c =
       placed_more i.1 d.0,
       λ firsts. dropped_more _ _ _ _ _ _ _ _ _ _ _ _ _ _ (i.2 firsts) h (i.0 h) _ _ _ (drops_from _ _ _ _ _ _ _ _ _ _ _ _ _ i.1 (d.1 firsts)) _ c.next_beyond-b.ensures,
     )
-
-pub shape_of-r : goal.shape_of-r
-shape_of-r c = c.loop-b.invariant.1.long
-
-pub shape_of-flags : goal.shape_of-flags
-shape_of-flags c = (c.loop-b.invariant.2 []).flags_long
-
-pub shape_of-todo : goal.shape_of-todo
-shape_of-todo c = (c.loop-b.invariant.2 []).todo_long
 
 pub returns : goal.returns
 returns c = (c.loop-b.invariant.1, λ firsts. dropped_all _ _ _ _ _ _ _ _ _ _ _ _ _ _ (c.loop-b.invariant.2 firsts) (omega (arith, c.loop-b-test.false)))

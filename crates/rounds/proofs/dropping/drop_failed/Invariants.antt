@@ -1,16 +1,12 @@
 -- `drop_failed` meets its contract. The invariant: all that failed below b are dropped, and b failed.
 use Prim.Native.Nat.{ℕ, ◌-◌, ◌<◌}
-use native.Mathlib.Omega.{arith}
-use mathlib.Core.List.{List, []}
+use mathlib.Core.List.{List}
 use lib.ListN.{drop}
 use Rattle.index.specs.layout.Layout.{test_cells}
 use Rattle.marks.specs.Marks.{In}
 use Rattle.term_check.specs.Worlds.{users_of}
 use Rattle.rounds.specs.tested.Tested.{Placed}
-use Rattle.rounds.proofs.tested.Placing.{placed_none, placed_more}
-use Rattle.rounds.proofs.dropping.Gone.{search_less, Dropped, dropped_none, dropped_more, dropped_all}
-use Rattle.rounds.proofs.dropping.LentParts.{drops_from}
-use borrow.Author.Rules.{rules}
+use Rattle.rounds.proofs.dropping.Gone.{Dropped}
 use Rattle.rounds.proofs.dropping.drop_failed.Given as goal
 
 abbrev pub invariant-loop-b : goal.invariant-loop-b

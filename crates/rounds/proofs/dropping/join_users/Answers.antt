@@ -1,7 +1,6 @@
 -- `join_users` meets its contract.
 use Rattle.term_check.proofs.parts.Parting.{from_below}
 use Rattle.rounds.proofs.dropping.LentParts.{join_part}
-use borrow.Author.Rules.{rules}
 use Rattle.rounds.proofs.dropping.join_users.Goals as goal
 
 pub slice_bounds-join-count : goal.slice_bounds-join-count

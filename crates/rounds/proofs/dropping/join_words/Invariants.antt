@@ -1,6 +1,5 @@
 -- `join_words` meets its contract. The invariant: the words that are not left are joined.
-use borrow.Author.Rules.{rules}
-use Rattle.rounds.proofs.dropping.Joining.{Joining, joining_none, joining_more, joining_all}
+use Rattle.rounds.proofs.dropping.Joining.{Joining}
 use Rattle.rounds.proofs.dropping.join_words.Given as goal
 
 abbrev pub invariant-loop-left : goal.invariant-loop-left

@@ -1,6 +1,5 @@
 -- `leave` meets its contract.
 use Rattle.rounds.proofs.dropping.LentParts.{leave_none, leave_part}
-use borrow.Author.Rules.{rules}
 use Rattle.rounds.proofs.dropping.leave.Goals as goal
 
 pub returns-then-r-lt-TEST_CELLS : goal.returns-then-r-lt-TEST_CELLS

@@ -1,17 +1,11 @@
 -- `turn` meets its contract. The invariant: all marked bindings below b are tested.
 use Prim.Native.Nat.{◌-◌, ◌≤◌}
-use native.Mathlib.Omega.{arith}
-use mathlib.Core.Path.{◌≡◌, refl, ◌∙◌}
+use mathlib.Core.Path.{◌≡◌}
 use lib.ListN.{length, drop}
 use Rattle.index.specs.layout.Layout.{test_cells}
 use Rattle.term_check.specs.Worlds.{answers_of, users_of}
-use Rattle.term_check.proofs.parts.Parting.{same_lengths}
 use Rattle.rounds.specs.tested.Tested.{Same}
-use Rattle.rounds.proofs.tested.Placing.{same_none, same_more}
-use Rattle.rounds.proofs.tested.Retesting.{retests_from}
-use Rattle.rounds.proofs.dropping.Gone.{search_less}
-use Rattle.rounds.proofs.shrinking.Turning.{Turning, turn_none, turn_more, turn_all}
-use borrow.Author.Rules.{rules}
+use Rattle.rounds.proofs.shrinking.Turning.{Turning}
 use Rattle.rounds.proofs.shrinking.turn.Given as goal
 
 abbrev pub invariant-loop-b : goal.invariant-loop-b

@@ -2,7 +2,6 @@
 use mathlib.Core.Path.{refl, ◌∙◌}
 use Rattle.rounds.proofs.tested.Placing.{same_none}
 use Rattle.rounds.proofs.tested.Retesting.{retest_dropped, retest_holds, retest_fails}
-use borrow.Author.Rules.{rules}
 use Rattle.rounds.proofs.tested.retest.Goals as goal
 
 pub returns-then-byte_at-eq0 : goal.returns-then-byte_at-eq0

@@ -8,10 +8,10 @@ pub loop-init : goal.loop-init
 loop-init c = leave_none _ c.own_of-goal.ensures.0 c.own_of-goal.ensures.1
 
 pub returns-then-goal-eq-NONE : goal.returns-then-goal-eq-NONE
-returns-then-goal-eq-NONE c = leave_ended c.loop.invariant (λ i. omega (arith, c.shared_slice_known-1.given i)) c.if-goal-eq-NONE.true
+returns-then-goal-eq-NONE c = leave_ended c.loop.invariant (λ i. omega (arith, c.type_inv.t i)) c.if-goal-eq-NONE.true
 
 pub loop-preserved : goal.loop-preserved
 loop-preserved c = leave_more c.loop.invariant c.loop-test.true c.if-goal-eq-NONE.false _ (elim c.if-i-sets.branch [ then-i-sets w ↦ out_there w.if-i-sets.true w.sets-is | else-i-sets w ↦ out_past w.if-i-sets.false w.sets-is ]) _ c.result_of-goal.ensures.0 c.result_of-goal.ensures.1
 
 pub returns : goal.returns
-returns c = leave_all c.loop.invariant (λ i. omega (arith, c.shared_slice_known-1.given i)) c.loop-test.false
+returns c = leave_all c.loop.invariant (λ i. omega (arith, c.type_inv.t i)) c.loop-test.false
