@@ -1,11 +1,10 @@
 -- A goal's number is the number that is printed for its type; a type leads to a goal where, arrows off, it is the goal.
-use Prim.Native.Nat.{ℕ, zero, suc, ◌+◌, ◌<◌}
+use Prim.Native.Nat.{ℕ, ◌+◌, ◌<◌}
 use native.Mathlib.Omega.{arith}
-use mathlib.Core.Path.{◌≡◌, refl, sym, ap, subst, ◌∙◌}
+use mathlib.Core.Path.{◌≡◌, refl, sym, ap, ◌∙◌}
 use mathlib.Core.Bool.{Bool, true, false, true≢false}
 use mathlib.Core.List.{List}
 use mathlib.Core.Option.{Option, none, some}
-use lib.Dec.{T}
 use lib.ListN.{length, get_or}
 use Rattle.scheme.specs.Lists.{found}
 use Rattle.scheme.specs.Types.{Ty, state, arrow, same, off}

@@ -1,11 +1,11 @@
 -- The search, step by step: where it has come to, it comes to the same as from the body on; where it ends is the reason.
-use Prim.Native.Nat.{ℕ, ◌+◌, ◌<◌, ◌≤◌}
+use Prim.Native.Nat.{ℕ, ◌<◌, ◌≤◌}
 use native.Mathlib.Omega.{arith}
 use native.Mathlib.Nat.{zero-add}
 use mathlib.Core.Path.{◌≡◌, refl, sym, ap, ◌∙◌}
-use mathlib.Core.Logic.{◌⊎◌, inl, inr}
 use mathlib.Core.List.{List, []}
 use lib.ListN.{length}
+use Rattle.std.specs.Prelude.{Option, Some, None, MatchOption, ⊤}
 use Rattle.scheme.specs.Terms.{Term, node}
 use Rattle.scheme.specs.Types.{Ty}
 use Rattle.scheme.specs.Reasons.{Reason}
@@ -20,6 +20,7 @@ use Rattle.tables.specs.Facts.{At}
 use Rattle.term_check.specs.Worlds.{Case, World, Setting, Ready, Keeps}
 use Rattle.term_check.proofs.Goals.{goal_below}
 use Rattle.term_check.proofs.check.Keeping.{keeps_all, keeps_on, ready_on}
+use Rattle.reasons.specs.declared.Reason as Declared
 use Rattle.reasons.specs.Searching.{reason_at, Lacks, ComesTo, Steps, IsReason, Searches}
 use Rattle.reasons.proofs.Goals.{goal_printed}
 
@@ -45,37 +46,36 @@ module _ (x : Case) (memo users : List ℕ) (g : ℕ) where
     pub come_past : max_nodes ≤ at → Searches x memo users g memo' users' at wanted
     come_past h = record { keeps = k.keeps; found = λ w r u σ l. let c = k.comes w r u σ l in let i = inside r.setting at c.term c.lacks.here in absurd (omega arith) }
 
-    module _ (memo'' users'' : List ℕ) (i g' : ℕ) (step : Steps x memo' users' at wanted memo'' users'' i g') where
-      pub come_on : at < i → Come memo'' users'' i g'
-      come_on h =
-          record {
-            keeps = keeps_on k.keeps step.keeps;
-            comes = λ w r u σ l.
-                let c = k.comes w r u σ l in
-                by w (reason_at w 0 u σ) c (step.stepped w (ready_on k.keeps r) c.term c.type c.lacks);
-          }
-        where
-          by : (w : World) (r : Reason) (c : ComesTo w r at wanted) → ((i ≡ at) × (reason_at w at c.term c.type ≡ record { place = at; wanted = c.type })) ⊎ ((at < i) × ComesTo w (reason_at w at c.term c.type) i g') → ComesTo w r i g'
-          by w r c (inl (e, f)) = absurd (omega arith)
-          by w r c (inr (b, d)) = record { term = d.term; type = d.type; lacks = d.lacks; same_reason = c.same_reason ∙ d.same_reason }
+    -- the search goes on from the next node and goal
+    pub come_on : (memo'' users'' : List ℕ) (next : Declared.Reason) → Steps x memo' users' at wanted memo'' users'' (Some next) → Come memo'' users'' next.node next.goal
+    come_on memo'' users'' next step =
+        record {
+          keeps = keeps_on k.keeps step.keeps;
+          comes = λ w r u σ l.
+              let c = k.comes w r u σ l in
+              let (behind, d) = step.stepped w (ready_on k.keeps r) c.term c.type c.lacks in
+              record { term = d.term; type = d.type; lacks = d.lacks; same_reason = c.same_reason ∙ d.same_reason };
+        }
 
-      pub come_end : i ≤ at → Searches x memo users g memo'' users'' at wanted
-      come_end h =
-          record {
-            keeps = keeps_on k.keeps step.keeps;
-            found = λ w r u σ l.
-                let c = k.comes w r u σ l in
-                by w r.setting (reason_at w 0 u σ) c (step.stepped w (ready_on k.keeps r) c.term c.type c.lacks);
-          }
-        where
-          by : (w : World) → Setting x w → (r : Reason) (c : ComesTo w r at wanted) → ((i ≡ at) × (reason_at w at c.term c.type ≡ record { place = at; wanted = c.type })) ⊎ ((at < i) × ComesTo w (reason_at w at c.term c.type) i g') → IsReason w r at wanted
-          by w s r c (inr (b, d)) = absurd (omega arith)
-          by w s r c (inl (e, f)) =
-              let is = c.same_reason ∙ f in
-              let below = goal_below s.types c.lacks.goal in
-              record {
-                is_node = ap (λ (z : Reason). z.place) is;
-                is_goal = ap (λ (z : Reason). goal_number (wanted_in (types_of w.rs) z.wanted)) is ∙ goal_printed s.types (types_long w.rs) wanted c.type c.lacks.goal;
-                node_small = inside s at c.term c.lacks.here;
-                goal_small = omega arith;
-              }
+    -- it ends where there is no next one behind
+    pub come_end : (memo'' users'' : List ℕ) (next : Option Declared.Reason) → Steps x memo' users' at wanted memo'' users'' next → MatchOption next ⊤ (λ n. n.node ≤ at) → Searches x memo users g memo'' users'' at wanted
+    come_end memo'' users'' next step h =
+        record {
+          keeps = keeps_on k.keeps step.keeps;
+          found = λ w r u σ l.
+              let c = k.comes w r u σ l in
+              by w r.setting (reason_at w 0 u σ) c next h (step.stepped w (ready_on k.keeps r) c.term c.type c.lacks);
+        }
+      where
+        by : (w : World) → Setting x w → (r : Reason) (c : ComesTo w r at wanted) (next : Option Declared.Reason) → MatchOption next ⊤ (λ n. n.node ≤ at)
+            → MatchOption next (reason_at w at c.term c.type ≡ record { place = at; wanted = c.type }) (λ n. (at < n.node) × ComesTo w (reason_at w at c.term c.type) n.node n.goal) → IsReason w r at wanted
+        by w s r c (Some n) h (b, d) = absurd (omega arith)
+        by w s r c None h f =
+            let is = c.same_reason ∙ f in
+            let below = goal_below s.types c.lacks.goal in
+            record {
+              is_node = ap (λ (z : Reason). z.place) is;
+              is_goal = ap (λ (z : Reason). goal_number (wanted_in (types_of w.rs) z.wanted)) is ∙ goal_printed s.types (types_long w.rs) wanted c.type c.lacks.goal;
+              node_small = inside s at c.term c.lacks.here;
+              goal_small = omega arith;
+            }

@@ -3,11 +3,8 @@
 use Prim.Native.Nat.{ℕ, zero, suc, ◌<◌, ◌≤◌}
 use native.Mathlib.Omega.{arith}
 use mathlib.Core.Path.{◌≡◌, refl, sym, ap, subst, ◌∙◌}
-use mathlib.Core.Logic.{◌⊎◌, inl, inr}
-use mathlib.Core.Bool.{true}
-use mathlib.Core.List.{List, [], ◌∷◌, Memᴰ}
+use mathlib.Core.List.{List, Memᴰ}
 use mathlib.Core.Option.{Option, none, some}
-use lib.Dec.{T}
 use Rattle.scheme.specs.Lists.{first_of, found_or}
 use Rattle.scheme.specs.Terms.{Head, con, Term, node, Terms, countᵗ}
 use Rattle.scheme.specs.Types.{Ty, state, arrow, same, takes, off, final}
@@ -19,17 +16,21 @@ use Rattle.scheme.proofs.Reasons.{first_some, first_true}
 use Rattle.scheme.proofs.Safety.{final_takes}
 use Rattle.scheme.proofs.Substitution.{has_in}
 use Rattle.casefile.specs.Tables.{automaton_of, state_count_spec, transitions_of, targets_at}
-use Rattle.index.specs.layout.Layout.{max_nodes, no_number, no_targets_spec}
+use Rattle.index.specs.layout.Layout.{max_nodes}
 use Rattle.tables.specs.reading.Cells.{node_at}
 use Rattle.tables.specs.declared.reading.Node.{Node}
-use Rattle.tables.specs.Facts.{Goal, At, AllAt, head_by}
+use Rattle.tables.specs.Facts.{At, AllAt, head_by}
 use Rattle.term_check.specs.notes.Notes.{base_in}
 use Rattle.term_check.specs.heads.Heads.{IsTargets}
-use Rattle.term_check.specs.Worlds.{Args, Case, World, Has, Setting, Ready}
+use Rattle.term_check.specs.Worlds.{Args, Case, World, Has, Setting, Ready, Targets}
 use Rattle.term_check.proofs.Rules.{leads_back}
 use Rattle.term_check.proofs.check.Keeping.{keeps_all}
 use Rattle.term_check.proofs.check.Bound.{Split, split, split_term, symbol_known}
 use Rattle.term_check.proofs.check.Terms.{head_built}
+use Rattle.std.specs.Prelude as Prelude
+use Rattle.std.specs.Prelude.{Some, None, MatchOption}
+use Rattle.std.proofs.lemmas.Option.{none-some, same_Some}
+use Rattle.reasons.specs.declared.Reason as Declared
 use Rattle.reasons.specs.Searching.{heads_of, reason_at, Lacks, ComesTo, Steps}
 use Rattle.reasons.specs.leading.Leading.{LeadsFirst}
 use Rattle.reasons.specs.missing.Missing.{LacksArgument, LacksTarget}
@@ -69,49 +70,55 @@ module _ (w : World) (n : ℕ) (h : Head) (ts : Terms) (σ : Ty) where
     args_lack : (Has w w.kept (node h ts) σ → ⊥) → Args (Has w w.kept) ts τ → ⊥
     args_lack lack args = let (o, m) = leads_there in lack (has_in same (heads_of w) {h = h} m ts σ (leads_back (heads_of w) ts τ σ o args))
 
+-- where the arguments behind a node lack what is asked of them, the search comes to one of them
+come_behind : (w : World) (r r' : Reason) (at from : ℕ) → from ≡ suc at → r ≡ r' → (P : Type 0) (next : Prelude.Option Declared.Reason) → MatchOption next ⊥ (λ n. (from ≤ n.node) × ComesTo w r' n.node n.goal)
+    → MatchOption next P (λ n. (at < n.node) × ComesTo w r n.node n.goal)
+come_behind w r r' at from e same_there P None nowhere = absurd nowhere
+come_behind w r r' at from e same_there P (Some n) (behind, comes) = (omega arith, record { term = comes.term; type = comes.type; lacks = comes.lacks; same_reason = same_there ∙ comes.same_reason })
+
 module _ (x : Case) (memo users : List ℕ) (at goal : ℕ) where
   -- no body has that many nodes
-  pub step_past : max_nodes ≤ at → Steps x memo users at goal memo users at goal
+  pub step_past : max_nodes ≤ at → Steps x memo users at goal memo users None
   step_past h = record { keeps = keeps_all x memo users; stepped = λ w r u σ l. absurd (past w r.setting u l.here) }
     where
       past : (w : World) → Setting x w → (u : Term) → At w.ns at u → ⊥
       past w s (node k ts) here = let n = (s.nodes at k ts here).inside in omega arith
 
   module _ (a : Node) (ea : a ≡ node_at x.t (base_in x.test) at) where
-    module _ (not-con : a.tag ≡ 0 → ⊥) (ty : ℕ) (first : LeadsFirst x a goal ty) where
+    module _ (not-con : a.tag ≡ 0 → ⊥) where
       -- no type leads to the goal
-      pub step_none : ty ≡ no_number → Steps x memo users at goal memo users at goal
-      step_none e = record { keeps = keeps_all x memo users; stepped = λ w r u σ l. inl (refl, by w r u σ l (split_term x w r.setting a at ea u l.here)) }
+      pub step_none : LeadsFirst x a goal None → Steps x memo users at goal memo users None
+      step_none first = record { keeps = keeps_all x memo users; stepped = λ w r u σ l. by w r u σ l (split_term x w r.setting a at ea u l.here) }
         where
           by : (w : World) → Ready x w memo users → (u : Term) (σ : Ty) → Lacks w at goal u σ → Split x w a at u → reason_at w at u σ ≡ record { place = at; wanted = σ }
           by w r u σ l (split ts eu al count few) =
-              let none_leads = first.none_leads e w r.setting σ l.goal (λ et. symbol_known x w r.setting a at ea et u l.here) few in
+              let none_leads = first w r.setting σ l.goal (λ et. symbol_known x w r.setting a at ea et u l.here) few in
               ap (λ z. reason_at w at z σ) eu ∙ reason_here w at (head_by a.tag a.number) ts σ (ap (λ k. first_of (leads_to same k σ) (heads_of w (head_by a.tag a.number))) count ∙ none_leads)
 
       -- the arguments lack what the first type that does asks for
-      module _ (ne : ty ≡ no_number → ⊥) (from : ℕ) (is-from : from ≡ suc at) (memo' users' : List ℕ) (i g : ℕ) (told : LacksArgument x memo users from a.count ty memo' users' i g) where
-        pub step_argument : Steps x memo users at goal memo' users' i g
-        step_argument = record { keeps = told.keeps; stepped = λ w r u σ l. inr (by w r u σ l (split_term x w r.setting a at ea u l.here)) }
+      module _ (ty : ℕ) (first : LeadsFirst x a goal (Some ty)) (from : ℕ) (is-from : from ≡ suc at) (memo' users' : List ℕ) (next : Prelude.Option Declared.Reason) (told : LacksArgument x memo users from a.count ty memo' users' next) where
+        pub step_argument : Steps x memo users at goal memo' users' next
+        step_argument = record { keeps = told.keeps; stepped = λ w r u σ l. by w r u σ l (split_term x w r.setting a at ea u l.here) }
           where
-            by : (w : World) → Ready x w memo users → (u : Term) (σ : Ty) → Lacks w at goal u σ → Split x w a at u → (at < i) × ComesTo w (reason_at w at u σ) i g
+            by : (w : World) → Ready x w memo users → (u : Term) (σ : Ty) → Lacks w at goal u σ → Split x w a at u → MatchOption next (reason_at w at u σ ≡ record { place = at; wanted = σ }) (λ n. (at < n.node) × ComesTo w (reason_at w at u σ) n.node n.goal)
             by w r u σ l (split ts eu al count few) =
                 let h = head_by a.tag a.number in
-                let (τ, gτ, leads) = first.leads ne w r.setting σ l.goal (λ et. symbol_known x w r.setting a at ea et u l.here) few in
+                let (τ, gτ, leads) = first w r.setting σ l.goal (λ et. symbol_known x w r.setting a at ea et u l.here) few in
                 let e : first_of (leads_to same (countᵗ ts) σ) (heads_of w h) ≡ some τ = ap (λ k. first_of (leads_to same k σ) (heads_of w h)) count ∙ leads in
                 let lack = args_lack w at h ts σ τ e (subst (λ z. Has w w.kept z σ → ⊥) eu l.lacked) in
                 let o = (leads_there w at h ts σ τ e).0 in
-                let (behind, comes) = told.comes w ts τ σ (record { ready = r; all = subst (λ k. AllAt w.ns k ts) (sym is-from) al; count = count; goal = gτ; rest = subst (λ k. off k τ ≡ some σ) count o; lack = lack }) in
+                let comes = told.comes w ts τ σ (record { ready = r; all = subst (λ k. AllAt w.ns k ts) (sym is-from) al; count = count; goal = gτ; rest = subst (λ k. off k τ ≡ some σ) count o; lack = lack }) in
                 let same_there : reason_at w at u σ ≡ lacking same (heads_of w) from ts τ = ap (λ z. reason_at w at z σ) eu ∙ reason_below w at h ts σ τ e ∙ ap (λ k. lacking same (heads_of w) k ts τ) (sym is-from) in
-                (omega arith, record { term = comes.term; type = comes.type; lacks = comes.lacks; same_reason = same_there ∙ comes.same_reason })
+                come_behind w (reason_at w at u σ) (lacking same (heads_of w) from ts τ) at from is-from same_there _ next comes
 
     -- a constructor
-    module _ (et : a.tag ≡ 0) (r : ℕ) (is : IsTargets x.t a.number a.count goal r) where
+    module _ (et : a.tag ≡ 0) where
       built : (w : World) → heads_of w (head_by a.tag a.number) ≡ heads_of w (con a.number)
       built w = ap (heads_of w) (head_built a.tag a.number et)
 
-      pub step_no_targets : r ≡ no_targets_spec → Steps x memo users at goal memo users at goal
+      pub step_no_targets : IsTargets x.t a.number a.count goal None → Steps x memo users at goal memo users None
       unfolding head_types automaton_of
-      step_no_targets e = record { keeps = keeps_all x memo users; stepped = λ w rd u σ l. inl (refl, by w rd u σ l (split_term x w rd.setting a at ea u l.here)) }
+      step_no_targets is = record { keeps = keeps_all x memo users; stepped = λ w rd u σ l. by w rd u σ l (split_term x w rd.setting a at ea u l.here) }
         where
           by : (w : World) → Ready x w memo users → (u : Term) (σ : Ty) → Lacks w at goal u σ → Split x w a at u → reason_at w at u σ ≡ record { place = at; wanted = σ }
           by w rd u σ l (split ts eu al count few) =
@@ -121,18 +128,19 @@ module _ (x : Case) (memo users : List ℕ) (at goal : ℕ) where
               ∙ first_nobody (leads_to same (countᵗ ts) σ) (heads_of w (con a.number)) (λ υ m p.
               let (q, qs, h, there, eυ) = con_types_out (targets_at (transitions_of w.rs)) (state_count_spec w.rs) a.number m in
               let o : off a.count (takes qs q) ≡ some σ = ap (λ k. off k (takes qs q)) (sym count) ∙ ap (off (countᵗ ts)) (sym eυ) ∙ leads_off (countᵗ ts) σ υ p in
-              (is.all x w refl rd.setting σ l.goal q qs there o).0 e))
+              let (found, e, are) = is.all x w refl rd.setting σ l.goal q qs there o in
+              none-some found e))
 
-      module _ (ne : r ≡ no_targets_spec → ⊥) (from : ℕ) (is-from : from ≡ suc at) (memo' users' : List ℕ) (i g : ℕ) (told : LacksTarget x memo users from a.count r memo' users' i g) where
-        pub step_target : Steps x memo users at goal memo' users' i g
+      module _ (targets : ℕ) (is : IsTargets x.t a.number a.count goal (Some targets)) (from : ℕ) (is-from : from ≡ suc at) (memo' users' : List ℕ) (next : Prelude.Option Declared.Reason) (told : LacksTarget x memo users from a.count targets memo' users' next) where
+        pub step_target : Steps x memo users at goal memo' users' next
         unfolding head_types automaton_of
-        step_target = record { keeps = told.keeps; stepped = λ w rd u σ l. inr (by w rd u σ l (split_term x w rd.setting a at ea u l.here)) }
+        step_target = record { keeps = told.keeps; stepped = λ w rd u σ l. by w rd u σ l (split_term x w rd.setting a at ea u l.here) }
           where
-            by : (w : World) → Ready x w memo users → (u : Term) (σ : Ty) → Lacks w at goal u σ → Split x w a at u → (at < i) × ComesTo w (reason_at w at u σ) i g
+            by : (w : World) → Ready x w memo users → (u : Term) (σ : Ty) → Lacks w at goal u σ → Split x w a at u → MatchOption next (reason_at w at u σ ≡ record { place = at; wanted = σ }) (λ n. (at < n.node) × ComesTo w (reason_at w at u σ) n.node n.goal)
             by w rd u σ l (split ts eu al count few) =
                 let h = head_by a.tag a.number in
-                let (q, qs, there, o) = is.found ne x w refl rd.setting σ l.goal in
-                let are = (is.all x w refl rd.setting σ l.goal q qs there o).1 in
+                let (q, qs, there, o) = is.found targets refl x w refl rd.setting σ l.goal in
+                let (found, ef, are) = is.all x w refl rd.setting σ l.goal q qs there o in
                 let o' : off (countᵗ ts) (takes qs q) ≡ some σ = ap (λ k. off k (takes qs q)) count ∙ o in
                 let e : first_of (leads_to same (countᵗ ts) σ) (heads_of w h) ≡ some (takes qs q) =
                 ap (first_of (leads_to same (countᵗ ts) σ)) (built w)
@@ -143,6 +151,6 @@ module _ (x : Case) (memo users : List ℕ) (at goal : ℕ) where
                 let (q', qs', k, there', eυ) = con_types_out (targets_at (transitions_of w.rs)) (state_count_spec w.rs) a.number m in
                 one_type (targets_at (transitions_of w.rs)) a.number (countᵗ ts) σ q qs there o' q' qs' there' υ eυ (leads_off (countᵗ ts) σ υ p)) in
                 let lack = args_lack w at h ts σ (takes qs q) e (subst (λ z. Has w w.kept z σ → ⊥) eu l.lacked) in
-                let (behind, comes) = told.comes w ts qs q (record { ready = rd; all = subst (λ k. AllAt w.ns k ts) (sym is-from) al; count = count; are = are; lack = lack }) in
+                let comes = told.comes w ts qs q (record { ready = rd; all = subst (λ k. AllAt w.ns k ts) (sym is-from) al; count = count; are = subst (λ k. Targets a.count k qs) (sym (same_Some targets found ef)) are; lack = lack }) in
                 let same_there : reason_at w at u σ ≡ lacking same (heads_of w) from ts (takes qs q) = ap (λ z. reason_at w at z σ) eu ∙ reason_below w at h ts σ (takes qs q) e ∙ ap (λ k. lacking same (heads_of w) k ts (takes qs q)) (sym is-from) in
-                (omega arith, record { term = comes.term; type = comes.type; lacks = comes.lacks; same_reason = same_there ∙ comes.same_reason })
+                come_behind w (reason_at w at u σ) (lacking same (heads_of w) from ts (takes qs q)) at from is-from same_there _ next comes

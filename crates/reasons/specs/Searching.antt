@@ -1,6 +1,6 @@
 -- What our own crates promise each other; nothing here has to be believed.
 -- The search for the reason why a body lacks a goal. Note 2 of the change requests.
-use Rattle.std.specs.Prelude.{ℕ, ◌<◌, ◌≡◌, ◌⊎◌, List}
+use Rattle.std.specs.Prelude.{ℕ, ◌<◌, ◌≡◌, List, Option, MatchOption}
 use Rattle.scheme.specs.Terms.{Head, Term}
 use Rattle.scheme.specs.Types.{Ty, same, domains}
 use Rattle.scheme.specs.Typing.{head_types}
@@ -11,6 +11,7 @@ use Rattle.casefile.specs.Explanations.{wanted_in, goal_number}
 use Rattle.index.specs.layout.Layout.{max_nodes, entry_limit}
 use Rattle.tables.specs.Facts.{Goal, At}
 use Rattle.term_check.specs.Worlds.{Case, World, Has, Ready, Keeps}
+use Rattle.reasons.specs.declared.Reason as Declared
 
 -- the types of each head where the bindings with a flag are kept
 abbrev pub heads_of : World → Head → List Ty
@@ -33,10 +34,10 @@ pub record ComesTo (w : World) (r : Reason) (i g : ℕ) : Type 0 where
   pub lacks : Lacks w i g term type
   pub same_reason : r ≡ reason_at w i term type
 
--- one step of the search at node i for goal g: no type leads to the goal, or the search comes to a node behind, i', and a goal g'
-pub record Steps (x : Case) (memo users : List ℕ) (i g : ℕ) (memo' users' : List ℕ) (i' g' : ℕ) : Type 0 where
+-- one step of the search at node i for goal g: no type leads to the goal, or the search comes to a node behind, and a goal
+pub record Steps (x : Case) (memo users : List ℕ) (i g : ℕ) (memo' users' : List ℕ) (r : Option Declared.Reason) : Type 0 where
   pub keeps : Keeps x memo users memo' users'
-  pub stepped : (w : World) → Ready x w memo users → (u : Term) (σ : Ty) → Lacks w i g u σ → ((i' ≡ i) × (reason_at w i u σ ≡ record { place = i; wanted = σ })) ⊎ ((i < i') × ComesTo w (reason_at w i u σ) i' g')
+  pub stepped : (w : World) → Ready x w memo users → (u : Term) (σ : Ty) → Lacks w i g u σ → MatchOption r (reason_at w i u σ ≡ record { place = i; wanted = σ }) (λ next. (i < next.node) × ComesTo w (reason_at w i u σ) next.node next.goal)
 
 -- node and goal are a reason, as numbers
 pub record IsReason (w : World) (r : Reason) (node goal : ℕ) : Type 0 where

@@ -10,7 +10,7 @@ ghost use Rattle.reasons.specs.Searching.{Steps, Searches};
 
 use crate::leading::leading_type;
 use crate::missing::{missing_argument, missing_target};
-use index::layout::{MAX_NODES, NO_TARGETS, NONE, TEST_BASE};
+use index::layout::{MAX_NODES, TEST_BASE};
 use tables::reading::node_of;
 use term_check::heads::targets_for;
 use term_check::notes::number_in;
@@ -23,25 +23,19 @@ pub struct Reason {
 }
 
 // The next node and goal of a search: the first argument that lacks a member of the first type of the head that leads to the goal, and its
-// first missing member. The node itself where no type leads to the goal.
-fn step(t: &[u16], r: &[u32], w: &mut [u32], at: usize, goal: usize) -> Reason
-    ensures { (length w.new ≡ length w.old) × Steps (case_of t.now r.now) (answers_of r.now w.old) (users_of r.now w.old) at goal (answers_of r.now w.new) (users_of r.now w.new) result.node result.goal }
+// first missing member. None where no type leads to the goal: the search ends there.
+fn step(t: &[u16], r: &[u32], w: &mut [u32], at: usize, goal: usize) -> Option<Reason>
+    ensures { (length w.new ≡ length w.old) × Steps (case_of t.now r.now) (answers_of r.now w.old) (users_of r.now w.old) at goal (answers_of r.now w.new) (users_of r.now w.new) result }
 {
     if MAX_NODES <= at {
-        return Reason { node: at, goal };
+        return None;
     }
     let node = node_of(t, number_in(r, TEST_BASE), at);
     if node.tag == 0 {
-        let targets = targets_for(t, node.number, node.count, goal);
-        if targets == NO_TARGETS {
-            return Reason { node: at, goal };
-        }
+        let targets = targets_for(t, node.number, node.count, goal)?;
         return missing_target(t, r, w, at + 1, node.count, targets);
     }
-    let ty = leading_type(t, r, node, goal);
-    if ty == NONE {
-        return Reason { node: at, goal };
-    }
+    let ty = leading_type(t, r, node, goal)?;
     missing_argument(t, r, w, at + 1, node.count, ty)
 }
 
@@ -49,21 +43,12 @@ fn step(t: &[u16], r: &[u32], w: &mut [u32], at: usize, goal: usize) -> Reason
 pub fn search(t: &[u16], r: &[u32], w: &mut [u32], goal: usize) -> Reason
     ensures { (length w.new ≡ length w.old) × Searches (case_of t.now r.now) (answers_of r.now w.old) (users_of r.now w.old) goal (answers_of r.now w.new) (users_of r.now w.new) result.node result.goal }
 {
-    let mut at: usize = 0;
-    let mut wanted = goal;
-    while at < MAX_NODES {
-        let next = step(t, r, w, at, wanted);
-        if next.node <= at {
-            return Reason {
-                node: at,
-                goal: wanted,
-            };
+    let mut reason = Reason { node: 0, goal };
+    while reason.node < MAX_NODES {
+        match step(t, r, w, reason.node, reason.goal) {
+            Some(next) if reason.node < next.node => reason = next,
+            _ => return reason,
         }
-        at = next.node;
-        wanted = next.goal;
     }
-    Reason {
-        node: at,
-        goal: wanted,
-    }
+    reason
 }

@@ -4,7 +4,7 @@ ghost use Rattle.term_check.specs.Worlds.{case_of, answers_of, users_of, ChecksT
 ghost use Rattle.reasons.specs.missing.Missing.{LacksMember, LacksArgument, LacksTarget};
 
 use crate::Reason;
-use index::layout::{NONE, TEST_BASE, WORD};
+use index::layout::{TEST_BASE, WORD};
 use tables::bits::with_bit;
 use tables::reading::{many_of, member_of, node_of, result_of};
 use term_check::check::check_term;
@@ -32,23 +32,21 @@ fn has_goal(t: &[u16], r: &[u32], w: &mut [u32], at: usize, goal: usize) -> bool
     true
 }
 
-// The first member of an arrow that the term at a node lacks; NONE where it has all.
-fn missing_member(t: &[u16], r: &[u32], w: &mut [u32], at: usize, ty: usize) -> usize
+// The first member of an arrow that the term at a node lacks; None where it has all.
+fn missing_member(t: &[u16], r: &[u32], w: &mut [u32], at: usize, ty: usize) -> Option<usize>
     ensures { (length w.new ≡ length w.old) × LacksMember (case_of t.now r.now) (answers_of r.now w.old) (users_of r.now w.old) at ty (answers_of r.now w.new) (users_of r.now w.new) result }
 {
     let many = many_of(t, ty);
-    let mut j: usize = 0;
-    while j < many {
+    for j in 0..many {
         let goal = member_of(t, ty, j);
         if !has_goal(t, r, w, at, goal) {
-            return goal;
+            return Some(goal);
         }
-        j = j + 1;
     }
-    NONE
+    None
 }
 
-// The first of the `count` arguments from node `at` on that lacks a member that a type asks for, and its first missing member; node 0 where
+// The first of the `count` arguments from node `at` on that lacks a member that a type asks for, and its first missing member; None where
 // none does.
 pub(crate) fn missing_argument(
     t: &[u16],
@@ -57,30 +55,24 @@ pub(crate) fn missing_argument(
     at: usize,
     count: usize,
     ty: usize,
-) -> Reason
-    ensures { (length w.new ≡ length w.old) × LacksArgument (case_of t.now r.now) (answers_of r.now w.old) (users_of r.now w.old) at count ty (answers_of r.now w.new) (users_of r.now w.new) result.node result.goal }
+) -> Option<Reason>
+    ensures { (length w.new ≡ length w.old) × LacksArgument (case_of t.now r.now) (answers_of r.now w.old) (users_of r.now w.old) at count ty (answers_of r.now w.new) (users_of r.now w.new) result }
 {
     let base = number_in(r, TEST_BASE);
     let mut here = at;
     let mut rest = ty;
-    let mut left = count;
-    while 0 < left {
-        let goal = missing_member(t, r, w, here, rest);
-        if goal != NONE {
-            return Reason { node: here, goal };
+    for _ in 0..count {
+        if let Some(goal) = missing_member(t, r, w, here, rest) {
+            return Some(Reason { node: here, goal });
         }
         let node = node_of(t, base, here);
         here = node.next;
         rest = result_of(t, rest);
-        left = left - 1;
     }
-    Reason {
-        node: 0,
-        goal: NONE,
-    }
+    None
 }
 
-// The first of the `count` arguments from node `at` on that lacks its target, four bits each; node 0 where none does.
+// The first of the `count` arguments from node `at` on that lacks its target, four bits each; None where none does.
 pub(crate) fn missing_target(
     t: &[u16],
     r: &[u32],
@@ -88,28 +80,20 @@ pub(crate) fn missing_target(
     at: usize,
     count: usize,
     targets: usize,
-) -> Reason
-    ensures { (length w.new ≡ length w.old) × LacksTarget (case_of t.now r.now) (answers_of r.now w.old) (users_of r.now w.old) at count targets (answers_of r.now w.new) (users_of r.now w.new) result.node result.goal }
+) -> Option<Reason>
+    ensures { (length w.new ≡ length w.old) × LacksTarget (case_of t.now r.now) (answers_of r.now w.old) (users_of r.now w.old) at count targets (answers_of r.now w.new) (users_of r.now w.new) result }
 {
     let base = number_in(r, TEST_BASE);
     let mut here = at;
     let mut rest = targets;
-    let mut left = count;
-    while 0 < left {
-        let state = rest % 16;
-        if !has_goal(t, r, w, here, state) {
-            return Reason {
-                node: here,
-                goal: state,
-            };
+    for _ in 0..count {
+        let goal = rest % 16;
+        if !has_goal(t, r, w, here, goal) {
+            return Some(Reason { node: here, goal });
         }
         let node = node_of(t, base, here);
         here = node.next;
         rest = rest / 16;
-        left = left - 1;
     }
-    Reason {
-        node: 0,
-        goal: NONE,
-    }
+    None
 }

@@ -1,7 +1,7 @@
 -- What our own crates promise each other; nothing here has to be believed.
 -- The check of a term by the nodes of a body and the numbers of goals, and what its answers rest on. Section "Types and shrinking" of
 -- the scope: "Checking a term calls for its arguments, and each argument is again a term".
-use Rattle.std.specs.Prelude.{ℕ, ◌+◌, ◌*◌, ◌/◌, ◌%◌, ◌^◌, ◌<◌, ◌≤◌, min, ◌≡◌, ◌⊎◌, Bool, true, false, T, length, get_or, take, drop}
+use Rattle.std.specs.Prelude.{ℕ, ◌+◌, ◌*◌, ◌/◌, ◌%◌, ◌^◌, ◌<◌, ◌≤◌, min, ◌≡◌, ◌⊎◌, Bool, true, false, Option, Some, T, length, get_or, take, drop}
 use mathlib.Core.List.{List, Memᴰ}
 use Rattle.std.proofs.Math.Option.{some}
 use Rattle.scheme.specs.Terms.{Term, Terms, []ᵗ, ◌∷ᵗ◌, countᵗ}
@@ -161,9 +161,9 @@ pub record Settles (x : Case) (memo users : List ℕ) (i asked : ℕ) (memo' use
   pub within : (q : ℕ) → bit_of q m.lacked ≡ 1 → bit_of q asked ≡ 1
   pub lacks : (w : World) → Ready x w memo users → (q : ℕ) → bit_of q m.lacked ≡ 1 → No x w i q
 
--- r is what was known of the goals of a word, where the goal is one of them, or else what is remembered
-abbrev pub LooksOn : List ℕ → ℕ → ℕ → ℕ → ℕ → ℕ → Outlook → Outlook → Type 0
-LooksOn memo wide stamp at goal word known r = ((goal / word_bits ≡ word) × (r ≡ known)) ⊎ Looks memo wide stamp at goal r
+-- r is what was known last of the goals of a word, where the goal is one of them, or else what is remembered
+abbrev pub LooksOn : List ℕ → ℕ → ℕ → ℕ → ℕ → Option (ℕ × Outlook) → Outlook → Type 0
+LooksOn memo wide stamp at goal last r = (last ≡ Some (goal / word_bits, r)) ⊎ Looks memo wide stamp at goal r
 
 -- the question for the arguments from a node on, and a type that has an arrow for each
 abbrev pub ArgsYes : Case → World → List ℕ → ℕ → ℕ → ℕ → Type 0

@@ -7,8 +7,8 @@ ghost use Rattle.term_check.specs.heads.Heads.{Tries};
 ghost use Rattle.term_check.specs.Worlds.{case_of, answers_of, users_of, ChecksTerm, ChecksMembers, ChecksAll, Finds, Settles, ChecksArgs, ChecksTargets};
 
 use crate::heads::{
-    all_had, alone, args_known, candidate, goes_down, leading, leaf_states, look, state_targets,
-    targets_for, wanted,
+    all_had, alone, args_known, candidate, given_for, goes_down, leading, leaf_states, look,
+    state_targets, targets_for, wanted,
 };
 use crate::hints::{bound_hint, hint_in, node_hint};
 use crate::masks::{has_bit, left_of, lowest, without_bit};
@@ -16,8 +16,8 @@ use crate::notes::number_in;
 use crate::parts::{learn_in, note_in, outlook_on};
 use answers::Outlook;
 use index::layout::{
-    FEW_HINTS, MAX_NODES, NO_TARGETS, NONE, ROW_LIMIT, TEST_BASE, TEST_CELLS, TEST_OWN, TEST_USERS,
-    TEST_WORDS, WORD, WORDS_LIMIT,
+    FEW_HINTS, MAX_NODES, ROW_LIMIT, TEST_BASE, TEST_CELLS, TEST_USERS, TEST_WORDS, WORD,
+    WORDS_LIMIT,
 };
 use marks::next_in;
 use tables::bits::with_bit;
@@ -35,23 +35,18 @@ pub fn check_term(t: &[u16], r: &[u32], w: &mut [u32], at: usize, goal: usize) -
     }
     let node = node_of(t, number_in(r, TEST_BASE), at);
     if node.tag == 0 {
-        let targets = targets_for(&*t, node.number, node.count, goal);
-        if targets == NO_TARGETS {
+        let Some(targets) = targets_for(t, node.number, node.count, goal) else {
             return false;
-        }
-        return all_targets(&*t, &*r, w, at + 1, node.count, targets);
+        };
+        return all_targets(t, r, w, at + 1, node.count, targets);
     }
     if node.tag == 1 {
-        return check_bound(&*t, &*r, w, at, goal, node);
+        return check_bound(t, r, w, at, goal, node);
     }
-    let known = alone(t, r, node, goal);
-    if known == 1 {
-        return false;
+    if let Some(has) = alone(t, r, node, goal) {
+        return has;
     }
-    if known == 2 {
-        return true;
-    }
-    check_given(&*t, &*r, w, at, goal, node)
+    check_given(t, r, w, at, goal, node)
 }
 
 // Whether the `count` arguments from node `at` on have their targets, four bits each. Where the last one is a constructor, its own
@@ -70,14 +65,14 @@ fn all_targets(t: &[u16], r: &[u32], w: &mut [u32], at: usize, count: usize, tar
             return false;
         }
         if goes_down(left, node.tag) {
-            rest = state_targets(t, node.number, node.count, rest % 16);
-            if rest == NO_TARGETS {
+            let Some(targets) = state_targets(t, node.number, node.count, rest % 16) else {
                 return false;
-            }
+            };
+            rest = targets;
             here = here + 1;
             left = node.count;
         } else {
-            if !one_target(&*t, &*r, w, here, rest % 16, node) {
+            if !one_target(t, r, w, here, rest % 16, node) {
                 return false;
             }
             here = node.next;
@@ -94,15 +89,11 @@ fn one_target(t: &[u16], r: &[u32], w: &mut [u32], at: usize, goal: usize, node:
     ensures { (length w.new ≡ length w.old) × (node ≡ node_at t.now (base_in r.now) at → ChecksTerm (case_of t.now r.now) (answers_of r.now w.old) (users_of r.now w.old) at goal (answers_of r.now w.new) (users_of r.now w.new) result) }
 {
     if node.tag == 2 {
-        let known = alone(&*t, &*r, node, goal);
-        if known == 1 {
-            return false;
-        }
-        if known == 2 {
-            return true;
+        if let Some(has) = alone(t, r, node, goal) {
+            return has;
         }
     }
-    check_term(&*t, &*r, w, at, goal)
+    check_term(t, r, w, at, goal)
 }
 
 // Whether a nonterminal's term has a goal: one of its kept bindings leads to it, and the arguments have what its type asks for. The
@@ -112,11 +103,12 @@ fn check_bound(t: &[u16], r: &[u32], w: &mut [u32], at: usize, goal: usize, node
     requires { at < max_nodes }
     ensures { (length w.new ≡ length w.old) × (node ≡ node_at t.now (base_in r.now) at → node.tag ≡ 1 → ChecksTerm (case_of t.now r.now) (answers_of r.now w.old) (users_of r.now w.old) at goal (answers_of r.now w.new) (users_of r.now w.new) result) }
 {
-    let c = bound_hint(r, w, node, goal);
-    if try_one(&*t, &*r, w, at, goal, node, c) {
-        return true;
+    if let Some(c) = bound_hint(r, w, node, goal) {
+        if try_one(t, r, w, at, goal, node, c) {
+            return true;
+        }
     }
-    check_listed(&*t, &*r, w, at, goal, node)
+    check_listed(t, r, w, at, goal, node)
 }
 
 // Whether binding c serves: it is kept, it leads to the goal, and the arguments have what its type asks for. That it serves is noted.
@@ -133,11 +125,10 @@ fn try_one(
     requires { at < max_nodes }
     ensures { (length w.new ≡ length w.old) × Tries (case_of t.now r.now) (answers_of r.now w.old) (users_of r.now w.old) at goal node c (answers_of r.now w.new) (users_of r.now w.new) result }
 {
-    let ty = candidate(t, r, node.number, node.count, goal, c);
-    if ty == NONE {
+    let Some(ty) = candidate(t, r, node.number, node.count, goal, c) else {
         return false;
-    }
-    if !check_args(&*t, &*r, w, at + 1, node.count, ty) {
+    };
+    if !check_args(t, r, w, at + 1, node.count, ty) {
         return false;
     }
     note_in(r, w, c);
@@ -159,9 +150,8 @@ fn check_listed(t: &[u16], r: &[u32], w: &mut [u32], at: usize, goal: usize, nod
         if high <= c {
             return false;
         }
-        let ty = leading(t, node.count, goal, c);
-        if ty != NONE {
-            if check_args(&*t, &*r, w, at + 1, node.count, ty) {
+        if let Some(ty) = leading(t, node.count, goal, c) {
+            if check_args(t, r, w, at + 1, node.count, ty) {
                 note_in(r, w, c);
                 hint_in(r, w, at, node.number, goal, c);
                 return true;
@@ -177,17 +167,14 @@ fn check_given(t: &[u16], r: &[u32], w: &mut [u32], at: usize, goal: usize, node
     requires { at < max_nodes }
     ensures { (length w.new ≡ length w.old) × (node ≡ node_at t.now (base_in r.now) at → (node.tag ≡ 0 → ⊥) → (node.tag ≡ 1 → ⊥) → ChecksTerm (case_of t.now r.now) (answers_of r.now w.old) (users_of r.now w.old) at goal (answers_of r.now w.new) (users_of r.now w.new) result) }
 {
-    let given = off(t, number_in(r, TEST_OWN), node.number);
-    if given == NONE {
+    let Some(given) = given_for(t, r, node.number) else {
         return false;
-    }
+    };
     let many = many_of(t, given);
-    let mut j: usize = 0;
-    while j < many {
+    for j in 0..many {
         let ty = member_of(t, given, j);
-        j = j + 1;
         if off(t, ty, node.count) == goal {
-            if check_args(&*t, &*r, w, at + 1, node.count, ty) {
+            if check_args(t, r, w, at + 1, node.count, ty) {
                 return true;
             }
         }
@@ -203,7 +190,7 @@ fn check_args(t: &[u16], r: &[u32], w: &mut [u32], at: usize, count: usize, ty: 
     if count == 0 {
         return true;
     }
-    all_args(&*t, &*r, w, at, count, ty)
+    all_args(t, r, w, at, count, ty)
 }
 
 // The same, one argument after another.
@@ -214,18 +201,16 @@ fn all_args(t: &[u16], r: &[u32], w: &mut [u32], at: usize, count: usize, ty: us
     let base = number_in(r, TEST_BASE);
     let mut here = at;
     let mut rest = ty;
-    let mut left = count;
-    while 0 < left {
+    for _ in 0..count {
         let node = node_of(t, base, here);
         if node.next <= here {
             return false;
         }
-        if !all_members(&*t, &*r, w, here, rest, node) {
+        if !all_members(t, r, w, here, rest, node) {
             return false;
         }
         here = node.next;
         rest = result_of(t, rest);
-        left = left - 1;
     }
     true
 }
@@ -246,15 +231,15 @@ fn all_members(t: &[u16], r: &[u32], w: &mut [u32], at: usize, ty: usize, node: 
         if arrows == 0 {
             return true;
         }
-        return check_each(&*t, &*r, w, at, ty);
+        return check_each(t, r, w, at, ty);
     }
-    if !check_states(&*t, &*r, w, at, missing, node) {
+    if !check_states(t, r, w, at, missing, node) {
         return false;
     }
     if arrows == 0 {
         return true;
     }
-    check_each(&*t, &*r, w, at, ty)
+    check_each(t, r, w, at, ty)
 }
 
 // Whether the term at a node has all goals of a set of states: first what is found at once, then the others, one by one. What is found
@@ -263,7 +248,7 @@ fn all_members(t: &[u16], r: &[u32], w: &mut [u32], at: usize, ty: usize, node: 
 fn check_states(t: &[u16], r: &[u32], w: &mut [u32], at: usize, asked: u32, node: Node) -> bool
     ensures { (length w.new ≡ length w.old) × (node ≡ node_at t.now (base_in r.now) at → ChecksAll (case_of t.now r.now) (answers_of r.now w.old) (users_of r.now w.old) at asked (answers_of r.now w.new) (users_of r.now w.new) result) }
 {
-    let found = find_states(&*t, &*r, w, at, asked, node);
+    let found = find_states(t, r, w, at, asked, node);
     if found.lacked != 0 {
         let known = with_bit(found.had, lowest(found.lacked));
         learn_in(r, w, at, 0, known, found.had);
@@ -273,7 +258,7 @@ fn check_states(t: &[u16], r: &[u32], w: &mut [u32], at: usize, asked: u32, node
     let mut left = left_of(asked, found.had);
     while left != 0 {
         let q = lowest(left);
-        if !check_term(&*t, &*r, w, at, q) {
+        if !check_term(t, r, w, at, q) {
             learn_in(r, w, at, 0, with_bit(had, q), had);
             return false;
         }
@@ -297,13 +282,13 @@ fn find_states(t: &[u16], r: &[u32], w: &mut [u32], at: usize, asked: u32, node:
         if number_in(r, TEST_USERS) < FEW_HINTS {
             return Outlook { had: 0, lacked: 0 };
         }
-        let had = find_bound(&*t, &*r, w, at, asked, node);
+        let had = find_bound(t, r, w, at, asked, node);
         return Outlook { had, lacked: 0 };
     }
     if node.tag == 0 {
         return leaf_states(t, node, asked);
     }
-    find_given(&*t, &*r, w, at, asked, node)
+    find_given(t, r, w, at, asked, node)
 }
 
 // States of a set that a nonterminal's term has by the bindings that served last for this node.
@@ -316,12 +301,13 @@ fn find_bound(t: &[u16], r: &[u32], w: &mut [u32], at: usize, asked: u32, node: 
     let mut left = asked;
     while left != 0 {
         let q = lowest(left);
-        let c = node_hint(r, w, at, q);
-        let ty = candidate(t, r, node.number, node.count, q, c);
-        if ty == NONE {
+        let Some(c) = node_hint(r, w, at, q) else {
             return had;
-        }
-        if !args_again(&*t, &*r, w, at + 1, node.count, ty) {
+        };
+        let Some(ty) = candidate(t, r, node.number, node.count, q, c) else {
+            return had;
+        };
+        if !args_again(t, r, w, at + 1, node.count, ty) {
             return had;
         }
         note_in(r, w, c);
@@ -338,20 +324,16 @@ fn find_given(t: &[u16], r: &[u32], w: &mut [u32], at: usize, asked: u32, node: 
     requires { at < max_nodes }
     ensures { (length w.new ≡ length w.old) × (node ≡ node_at t.now (base_in r.now) at → (node.tag ≡ 0 → ⊥) → (node.tag ≡ 1 → ⊥) → Settles (case_of t.now r.now) (answers_of r.now w.old) (users_of r.now w.old) at asked (answers_of r.now w.new) (users_of r.now w.new) result) }
 {
-    let given = off(t, number_in(r, TEST_OWN), node.number);
-    if given == NONE {
+    let Some(given) = given_for(t, r, node.number) else {
         return Outlook { had: 0, lacked: 0 };
-    }
+    };
     let many = many_of(t, given);
     let mut had: u32 = 0;
     let mut left = asked;
-    let mut j: usize = 0;
-    while j < many {
+    for j in 0..many {
         let ty = member_of(t, given, j);
-        j = j + 1;
-        let q = wanted(t, left, ty, node.count);
-        if q != NONE {
-            if args_again(&*t, &*r, w, at + 1, node.count, ty) {
+        if let Some(q) = wanted(t, left, ty, node.count) {
+            if args_again(t, r, w, at + 1, node.count, ty) {
                 had = with_bit(had, q);
                 left = without_bit(left, q);
             } else {
@@ -370,7 +352,7 @@ fn args_again(t: &[u16], r: &[u32], w: &mut [u32], at: usize, count: usize, ty: 
     if args_known(t, r, w, at, count, ty) {
         return true;
     }
-    check_args(&*t, &*r, w, at, count, ty)
+    check_args(t, r, w, at, count, ty)
 }
 
 // Whether the term at a node has each member of an arrow. What is found is remembered.
@@ -382,25 +364,22 @@ fn check_each(t: &[u16], r: &[u32], w: &mut [u32], at: usize, ty: usize) -> bool
         return true;
     }
     let many = many_of(t, ty);
-    let mut known = Outlook { had: 0, lacked: 0 };
-    let mut word = NONE;
-    let mut j: usize = 0;
-    while j < many {
+    let mut last = None;
+    for j in 0..many {
         let goal = member_of(t, ty, j);
-        j = j + 1;
-        known = outlook_on(r, w, at, goal, word, known);
-        word = goal / WORD;
+        let known = outlook_on(r, w, at, goal, last);
         if has_bit(known.lacked, goal) {
             return false;
         }
         if !has_bit(known.had, goal) {
             let bit = with_bit(0, goal % WORD);
-            if !check_term(&*t, &*r, w, at, goal) {
+            if !check_term(t, r, w, at, goal) {
                 learn_in(r, w, at, goal, bit, 0);
                 return false;
             }
             learn_in(r, w, at, goal, bit, bit);
         }
+        last = Some((goal / WORD, known));
     }
     true
 }

@@ -4,15 +4,15 @@ ghost use Rattle.index.specs.layout.Layout.{max_states};
 ghost use Rattle.tables.specs.reading.Cells.{node_at};
 ghost use Rattle.term_check.specs.notes.Notes.{base_in};
 ghost use Rattle.term_check.specs.Worlds.{case_of, answers_of};
-ghost use Rattle.term_check.specs.heads.Heads.{IsCandidate, IsLeading, Matches, IsTargets, Leaf, Alone, Seen, AllHad, ArgsKnown, Wanted};
+ghost use Rattle.term_check.specs.heads.Heads.{IsGiven, IsCandidate, IsLeading, Matches, IsTargets, Leaf, Alone, Seen, AllHad, ArgsKnown, Wanted};
 
 use crate::masks::{has_bit, left_of};
 use crate::notes::number_in;
 use crate::parts::outlook_in;
 use answers::Outlook;
 use index::layout::{
-    MAX_CONSTRUCTORS, MAX_STATES, NO_TARGETS, NONE, ROW_LIMIT, TEST_BINDINGS, TEST_CELLS, TEST_OWN,
-    TEST_WORDS, WORD, WORDS_LIMIT,
+    MAX_CONSTRUCTORS, MAX_STATES, NONE, ROW_LIMIT, TEST_BINDINGS, TEST_CELLS, TEST_OWN, TEST_WORDS,
+    WORD, WORDS_LIMIT,
 };
 use marks::is_in;
 use tables::reading::{
@@ -20,30 +20,43 @@ use tables::reading::{
     present_of, result_of, states_of, symbol_of, targets_of,
 };
 
-// The type of binding c where it is the goal with arrows off; else NONE.
-pub fn leading(t: &[u16], count: usize, goal: usize, c: usize) -> usize
+// The type of a parameter of the binding under test, as a goal: the members that are given for it are those of this type. None where the
+// binding has no such parameter.
+pub fn given_for(t: &[u16], r: &[u32], number: usize) -> Option<usize>
+    ensures { IsGiven (case_of t.now r.now) number result }
+{
+    let given = off(t, number_in(r, TEST_OWN), number);
+    (given != NONE).then_some(given)
+}
+
+// The type of binding c where it is the goal with arrows off.
+pub fn leading(t: &[u16], count: usize, goal: usize, c: usize) -> Option<usize>
     ensures { IsLeading t.now count goal c result }
 {
     let ty = own_of(t, c);
-    if off(t, ty, count) != goal {
-        return NONE;
-    }
-    ty
+    (off(t, ty, count) == goal).then_some(ty)
 }
 
-// The type of binding c, where it is a kept one of a nonterminal whose type with arrows off is the goal; else NONE.
-pub fn candidate(t: &[u16], r: &[u32], number: usize, count: usize, goal: usize, c: usize) -> usize
+// The type of binding c, where it is a kept one of a nonterminal whose type with arrows off is the goal.
+pub fn candidate(
+    t: &[u16],
+    r: &[u32],
+    number: usize,
+    count: usize,
+    goal: usize,
+    c: usize,
+) -> Option<usize>
     ensures { IsCandidate (case_of t.now r.now) number count goal c result }
 {
     if number_in(r, TEST_BINDINGS) <= c {
-        return NONE;
+        return None;
     }
     let words = number_in(r, TEST_WORDS) % WORDS_LIMIT;
     if !is_in(r, TEST_CELLS + goal % ROW_LIMIT * words, c) {
-        return NONE;
+        return None;
     }
     if symbol_of(t, c) != number {
-        return NONE;
+        return None;
     }
     leading(t, count, goal, c)
 }
@@ -54,101 +67,78 @@ fn matches(t: &[u16], goal: usize, targets: usize, left: usize) -> bool
 {
     let mut g = goal;
     let mut rest = targets;
-    let mut i = left;
-    while 0 < i {
-        if many_of(t, g) != 1 {
-            return false;
-        }
-        if member_of(t, g, 0) != rest % 16 {
+    for _ in 0..left {
+        if many_of(t, g) != 1 || member_of(t, g, 0) != rest % 16 {
             return false;
         }
         g = result_of(t, g);
         rest = rest / 16;
-        i = i - 1;
     }
     g < MAX_STATES
 }
 
-// The targets behind so many.
+// The targets behind so many, of which there are at most four.
 fn behind(targets: usize, count: usize) -> usize
     ensures { count ≤ 4 → result ≡ targets / 16 ^ count }
 {
-    if count == 0 {
-        return targets;
-    }
-    if count == 1 {
-        return targets / 16;
-    }
-    if count == 2 {
-        return targets / 256;
-    }
-    if count == 3 {
-        return targets / 4096;
-    }
-    targets / 65536
+    targets >> (4 * count.min(4))
 }
 
-// The targets of the transition of a constructor whose type, with so many arrows off, is a state; NO_TARGETS where there is none.
-pub(crate) fn state_targets(t: &[u16], c: usize, count: usize, q: usize) -> usize
+// The targets of the transition of a constructor whose type, with so many arrows off, is a state; None where there is none.
+pub(crate) fn state_targets(t: &[u16], c: usize, count: usize, q: usize) -> Option<usize>
     requires { q < max_states }
     ensures { IsTargets t.now c count q result }
 {
     if MAX_CONSTRUCTORS <= c {
-        return NO_TARGETS;
+        return None;
     }
     let present = present_of(t, c);
     if (present >> q) % 2 == 0 {
-        return NO_TARGETS;
+        return None;
     }
     if arity_of(t, c) != count {
-        return NO_TARGETS;
+        return None;
     }
-    targets_of(t, c, q)
+    Some(targets_of(t, c, q))
 }
 
-// The targets of the transition of a constructor whose type, with so many arrows off, is a goal; NO_TARGETS where there is none. It is
-// the one at the state in which the goal ends.
-pub fn targets_for(t: &[u16], c: usize, count: usize, goal: usize) -> usize
+// The targets of the transition of a constructor whose type, with so many arrows off, is a goal; None where there is none. It is the one
+// at the state in which the goal ends.
+pub fn targets_for(t: &[u16], c: usize, count: usize, goal: usize) -> Option<usize>
     ensures { IsTargets t.now c count goal result }
 {
     if goal < MAX_STATES {
         return state_targets(t, c, count, goal);
     }
     if MAX_CONSTRUCTORS <= c {
-        return NO_TARGETS;
+        return None;
     }
     let q = end_of(t, goal) % MAX_STATES;
     let present = present_of(t, c);
     if (present >> q) % 2 == 0 {
-        return NO_TARGETS;
+        return None;
     }
     let arity = arity_of(t, c);
     if arity < count {
-        return NO_TARGETS;
+        return None;
     }
     let targets = targets_of(t, c, q);
     if !matches(t, goal, behind(targets, count), arity - count) {
-        return NO_TARGETS;
+        return None;
     }
-    targets
+    Some(targets)
 }
 
 // Of the states of a set those that a constructor without arguments has, and those that it lacks; nothing of another term.
 pub fn leaf_states(t: &[u16], node: Node, asked: u32) -> Outlook
     ensures { Leaf t.now node asked result }
 {
-    let nothing = Outlook { had: 0, lacked: 0 };
-    if node.count != 0 {
-        return nothing;
-    }
-    if MAX_CONSTRUCTORS <= node.number {
-        return nothing;
-    }
-    if arity_of(t, node.number) != 0 {
-        return nothing;
-    }
-    if 65535 < asked {
-        return nothing;
+    if node.count != 0
+        || MAX_CONSTRUCTORS <= node.number
+        || arity_of(t, node.number) != 0
+        || 65535 < asked
+    {
+        return Outlook { had: 0, lacked: 0 };
     }
     let present = present_of(t, node.number) as u32;
     let had = asked & present;
@@ -158,52 +148,39 @@ pub fn leaf_states(t: &[u16], node: Node, asked: u32) -> Outlook
     }
 }
 
-// What is known of a parameter that stands alone and a state: 2 that it has it, 1 that it lacks it; 0 of another term or goal. The node
-// has no constructor and no nonterminal in front.
-pub fn alone(t: &[u16], r: &[u32], node: Node, goal: usize) -> usize
+// Whether a parameter that stands alone has a state; not known of another term or goal. The node has no constructor and no nonterminal in
+// front.
+pub fn alone(t: &[u16], r: &[u32], node: Node, goal: usize) -> Option<bool>
     ensures { Alone (case_of t.now r.now) node goal result }
 {
-    if node.count != 0 {
-        return 0;
+    if node.count != 0 || MAX_STATES <= goal {
+        return None;
     }
-    if MAX_STATES <= goal {
-        return 0;
-    }
-    let given = off(t, number_in(r, TEST_OWN), node.number);
-    if given == NONE {
-        return 0;
-    }
+    let given = given_for(t, r, node.number)?;
     if given < MAX_STATES {
-        return 0;
+        return None;
     }
     let had = states_of(t, given);
-    if (had >> goal) % 2 == 0 {
-        return 1;
-    }
-    2
+    Some((had >> goal) % 2 == 1)
 }
 
 // The states that the term at a node is known to have, and those that it is known to lack: of a parameter that stands alone all are known.
 pub fn look(t: &[u16], r: &[u32], w: &[u32], at: usize, node: Node) -> Outlook
     ensures { node ≡ node_at t.now (base_in r.now) at → Seen (case_of t.now r.now) (answers_of r.now w.now) at result }
 {
-    if node.tag == 2 {
-        if node.count == 0 {
-            let given = off(t, number_in(r, TEST_OWN), node.number);
-            if given == NONE {
-                return Outlook { had: 0, lacked: 0 };
-            }
-            if given < MAX_STATES {
-                return Outlook { had: 0, lacked: 0 };
-            }
+    if node.tag != 2 || node.count != 0 {
+        return outlook_in(r, w, at, 0);
+    }
+    match given_for(t, r, node.number) {
+        Some(given) if MAX_STATES <= given => {
             let had = states_of(t, given) as u32;
-            return Outlook {
+            Outlook {
                 had,
                 lacked: 65535 - had,
-            };
+            }
         }
+        _ => Outlook { had: 0, lacked: 0 },
     }
-    outlook_in(r, w, at, 0)
 }
 
 // Whether the term at a node is known to have all members of an arrow; that is not seen where the table has no word in which they stand.
@@ -222,10 +199,7 @@ pub fn all_had(t: &[u16], r: &[u32], w: &[u32], at: usize, ty: usize) -> bool
 pub fn args_known(t: &[u16], r: &[u32], w: &[u32], at: usize, count: usize, ty: usize) -> bool
     ensures { ArgsKnown (case_of t.now r.now) (answers_of r.now w.now) at count ty result }
 {
-    if count != 1 {
-        return false;
-    }
-    if arrows_of(t, ty) != 0 {
+    if count != 1 || arrows_of(t, ty) != 0 {
         return false;
     }
     let states = states_of(t, ty) as u32;
@@ -233,26 +207,17 @@ pub fn args_known(t: &[u16], r: &[u32], w: &[u32], at: usize, count: usize, ty: 
     left_of(states, known.had) == 0
 }
 
-// The goal that a type becomes with so many arrows off, where it is one of a set; else NONE.
-pub fn wanted(t: &[u16], goals: u32, ty: usize, count: usize) -> usize
+// The goal that a type becomes with so many arrows off, where it is one of a set.
+pub fn wanted(t: &[u16], goals: u32, ty: usize, count: usize) -> Option<usize>
     ensures { Wanted t.now goals ty count result }
 {
     let g = off(t, ty, count);
-    if WORD <= g {
-        return NONE;
-    }
-    if !has_bit(goals, g) {
-        return NONE;
-    }
-    g
+    (g < WORD && has_bit(goals, g)).then_some(g)
 }
 
 // Whether there is one argument left, and it has a constructor in front.
 pub fn goes_down(left: usize, tag: usize) -> bool
     ensures { result ≡ true → (left ≡ 1) × (tag ≡ 0) }
 {
-    if left != 1 {
-        return false;
-    }
-    tag == 0
+    left == 1 && tag == 0
 }

@@ -7,7 +7,7 @@ use crate::notes::number_in;
 use crate::parts::from_of;
 use index::layout::{
     FEW_HEAD_HINTS_AT, FEW_HINTS, HEAD_HINTS_AT, HINT_STRIDE, HINTS, MAX_BINDINGS, MAX_NODES,
-    MAX_STATES, NONE, PLACE_LIMIT, ROW_LIMIT, TEST_BASE, TEST_USERS,
+    MAX_STATES, PLACE_LIMIT, ROW_LIMIT, TEST_BASE, TEST_USERS,
 };
 use tables::reading::Node;
 
@@ -34,28 +34,23 @@ fn head_place(hints: usize, number: usize, goal: usize) -> usize
     HEAD_HINTS_AT + k % HEAD_HINTS_AT
 }
 
-// The binding that served last for a node and a goal; NONE where there is no table of hints.
-pub fn node_hint(r: &[u32], w: &[u32], at: usize, goal: usize) -> usize {
+// The binding that served last for a node and a goal, where there is a table of hints.
+pub fn node_hint(r: &[u32], w: &[u32], at: usize, goal: usize) -> Option<usize> {
     let hints = number_in(r, TEST_USERS);
     if hints < FEW_HINTS {
-        return NONE;
+        return None;
     }
-    number_in(w, node_place(r, hints, at, goal))
+    Some(number_in(w, node_place(r, hints, at, goal)))
 }
 
-// The binding that served last for the nonterminal of a node and a goal, at any node; NONE for a state where it stands alone, which is
+// The binding that served last for the nonterminal of a node and a goal, at any node; None for a state where it stands alone, which is
 // looked up as fast without a hint.
-pub fn bound_hint(r: &[u32], w: &[u32], node: Node, goal: usize) -> usize {
+pub fn bound_hint(r: &[u32], w: &[u32], node: Node, goal: usize) -> Option<usize> {
     let hints = number_in(r, TEST_USERS);
-    if hints < FEW_HINTS {
-        return NONE;
+    if hints < FEW_HINTS || goal < MAX_STATES && node.count == 0 {
+        return None;
     }
-    if goal < MAX_STATES {
-        if node.count == 0 {
-            return NONE;
-        }
-    }
-    number_in(w, head_place(hints, node.number, goal))
+    Some(number_in(w, head_place(hints, node.number, goal)))
 }
 
 // Enters the binding that served, where there is a table of hints.

@@ -9,10 +9,7 @@ use marks::word_in;
 pub fn number_in(test: &[u32], k: usize) -> usize
     ensures { (result ≡ get_or test.now k 0) × (result < 4294967296) }
 {
-    if k < test.len() {
-        return test[k] as usize;
-    }
-    0
+    test.get(k).copied().unwrap_or(0) as usize
 }
 
 // The number under which answers are remembered.

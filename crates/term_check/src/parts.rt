@@ -10,28 +10,22 @@ use index::layout::{
     MAX_BINDINGS, TEST_ANSWERS, TEST_BINDING, TEST_BINDINGS, TEST_USERS, TEST_WIDE, TEST_WORDS,
     WORD, WORDS_LIMIT,
 };
+use tables::bits::with_bit;
 
 // Where the answers begin.
+#[tactic(auto, unfolding(crate::specs::Worlds::split_at))]
 pub fn split_of(r: &[u32], w: &[u32]) -> usize
     ensures { (result ≡ split_at r.now w.now) × (result ≤ length w.now) }
 {
-    let split = number_in(r, TEST_ANSWERS);
-    if w.len() < split {
-        return w.len();
-    }
-    split
+    number_in(r, TEST_ANSWERS).min(w.len())
 }
 
 // Where the users begin.
+#[tactic(auto, unfolding(crate::specs::Worlds::from_in))]
 pub fn from_of(r: &[u32], w: &[u32]) -> usize
     ensures { (result ≡ from_in r.now w.now) × (result ≤ length w.now) }
 {
-    let split = split_of(r, w);
-    let from = number_in(r, TEST_USERS);
-    if split < from {
-        return split;
-    }
-    from
+    number_in(r, TEST_USERS).min(split_of(r, w))
 }
 
 // What is remembered of a node and the goals that stand in one cell with a goal.
@@ -44,21 +38,20 @@ pub fn outlook_in(r: &[u32], w: &[u32], at: usize, goal: usize) -> Outlook
     outlook_of(&w[split..], wide, stamp, at, goal)
 }
 
-// The same, where it was looked up last for the goals of a word: once for each word.
+// The same, where it was looked up last for the goals of a word, the word and what was found: once for each word.
 pub fn outlook_on(
     r: &[u32],
     w: &[u32],
     at: usize,
     goal: usize,
-    word: usize,
-    known: Outlook,
+    last: Option<(usize, Outlook)>,
 ) -> Outlook
-    ensures { LooksOn (answers_of r.now w.now) (wide_in r.now) (stamp_in r.now) at goal word known result }
+    ensures { LooksOn (answers_of r.now w.now) (wide_in r.now) (stamp_in r.now) at goal last result }
 {
-    if goal / WORD == word {
-        return known;
+    match last {
+        Some((word, known)) if word == goal / WORD => known,
+        _ => outlook_in(r, w, at, goal),
     }
-    outlook_in(r, w, at, goal)
 }
 
 // Remembers answers for goals that stand in one cell with a goal: those that are known, and which of these are had.
@@ -76,10 +69,9 @@ fn put_below(w: &mut [u32], end: usize, i: usize, k: usize)
     requires { end ≤ length w.old }
     ensures { PutsBelow w.old end i k w.new }
 {
-    if end <= i {
-        return;
+    if i < end {
+        w[i] = with_bit(w[i], k);
     }
-    w[i] = w[i] | (1u32 << ((k % WORD) as u32));
 }
 
 // Notes for the binding under test that a kept binding served: in the column of that binding, and in its brief.

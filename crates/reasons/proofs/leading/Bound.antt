@@ -2,19 +2,17 @@
 use Prim.Native.Nat.{ℕ, suc, ◌+◌, ◌*◌, ◌%◌, ◌<◌, ◌≤◌}
 use native.Mathlib.Omega.{arith}
 use native.Mathlib.Decide.{dec_lt, ℕ_discrete}
-use mathlib.Core.Path.{◌≡◌, refl, sym, ap, subst, ◌∙◌}
-use mathlib.Core.Bool.{false}
-use mathlib.Core.List.{List}
-use mathlib.Core.Option.{none, some}
-use lib.ListN.{length, get_or}
+use mathlib.Core.Path.{◌≡◌, sym, ap, subst, ◌∙◌}
+use lib.ListN.{get_or}
+use Rattle.std.specs.Prelude.{Option, Some, None}
 use Rattle.scheme.specs.Lists.{first_of}
 use Rattle.scheme.specs.Terms.{nt}
-use Rattle.scheme.specs.Types.{Ty, same, off}
+use Rattle.scheme.specs.Types.{Ty, same}
 use Rattle.scheme.specs.Typing.{head_types}
 use Rattle.scheme.specs.Reasons.{leads_to}
 use Rattle.casefile.specs.Tables.{bindings_of}
 use Rattle.casefile.proofs.Plans.{bindings_many}
-use Rattle.index.specs.layout.Layout.{row_limit, words_limit, no_number, test_words}
+use Rattle.index.specs.layout.Layout.{row_limit, words_limit, test_words}
 use Rattle.marks.specs.Marks.{In, FindsNext}
 use Rattle.tables.specs.reading.Cells.{group_of}
 use Rattle.tables.specs.declared.reading.Node.{Node}
@@ -54,20 +52,16 @@ module _ (x : Case) (a : Node) (goal : ℕ) where
 
   module _ {from : ℕ} (p : Passed from) where
     -- none of them is left
-    pub passed_end : a.tag ≡ 1 → (high : ℕ) → high ≡ group_of x.t (a.number % row_limit + 1) → high ≤ from → LeadsFirst x a goal no_number
+    pub passed_end : a.tag ≡ 1 → (high : ℕ) → high ≡ group_of x.t (a.number % row_limit + 1) → high ≤ from → LeadsFirst x a goal None
     unfolding head_types
-    passed_end et high eh l =
-        record {
-          none_leads = λ e w s σ g known few.
-              ap (first_of (leads_to same a.count σ)) (head_is et w s σ)
-              ∙ bound_none (leads_to same a.count σ) a.number no_binding w.kept (bindings_of w.rs)
-              (λ c h k symbol. leads_not a.count σ (binding_at w.rs c).type (λ o.
-              let many = bindings_many w.rs in
-              let inside : c < total w = omega arith in
-              let (low, below) = grouped et w s σ high eh c inside symbol in
-              p.misses c low (omega arith) w s σ g (known et) few (record { inside = inside; is_kept_law = k; symbol = symbol; rest = o })));
-          leads = λ ne. absurd (ne refl);
-        }
+    passed_end et high eh l w s σ g known few =
+        ap (first_of (leads_to same a.count σ)) (head_is et w s σ)
+        ∙ bound_none (leads_to same a.count σ) a.number no_binding w.kept (bindings_of w.rs)
+        (λ c h k symbol. leads_not a.count σ (binding_at w.rs c).type (λ o.
+        let many = bindings_many w.rs in
+        let inside : c < total w = omega arith in
+        let (low, below) = grouped et w s σ high eh c inside symbol in
+        p.misses c low (omega arith) w s σ g (known et) few (record { inside = inside; is_kept_law = k; symbol = symbol; rest = o })))
 
     module _ (c high row : ℕ) (er : row ≡ goal % row_limit * words_in x.test) (next : FindsNext x.sets row from high c) where
       -- those before the next one in the set of the goal do not lead to it
@@ -82,37 +76,33 @@ module _ (x : Case) (a : Node) (goal : ℕ) where
               next.passed d (omega arith) h (subst (λ k. In x.sets k d) (sym e) (s.candidates.all_in d leads.inside leads.is_kept_law a.count goal σ few leads.rest g))
 
   -- the next one
-  module _ {from : ℕ} (p : Passed from) (low : group_of x.t a.number ≤ from) (k c high ty : ℕ) (e : k ≡ get_or x.test test_words 0) (next : FindsNext x.sets (goal % row_limit * (k % words_limit)) from high c)
-      (inside : c < high) (eh : high ≡ group_of x.t (a.number % row_limit + 1)) (leading : IsLeading x.t a.count goal c ty) where
+  module _ {from : ℕ} (p : Passed from) (low : group_of x.t a.number ≤ from) (k c high : ℕ) (r : Option ℕ) (e : k ≡ get_or x.test test_words 0) (next : FindsNext x.sets (goal % row_limit * (k % words_limit)) from high c)
+      (inside : c < high) (eh : high ≡ group_of x.t (a.number % row_limit + 1)) (leading : IsLeading x.t a.count goal c r) where
     row_is : goal % row_limit * (k % words_limit) ≡ goal % row_limit * words_in x.test
     row_is = ap (λ n. goal % row_limit * (n % words_limit)) e
 
     -- does not lead to it either
-    pub passed_more : ty ≡ no_number → (from' : ℕ) → from' ≡ suc c → Passed from'
+    pub passed_more : r ≡ None → (from' : ℕ) → from' ≡ suc c → Passed from'
     passed_more z from' ef = record { misses = λ d l h. by d l h (ℕ_discrete d c) }
       where
         by : (d : ℕ) → group_of x.t a.number ≤ d → d < from' → Dec (d ≡ c) → Misses d
-        by d l h (yes i) = λ w s σ g known few leads. (listed_is x a.number a.count goal k from high c ty e next inside low eh leading).misses z w s σ g few (subst (Leads w a.number a.count σ) i leads)
+        by d l h (yes i) = λ w s σ g known few leads. (listed_is x a.number a.count goal k from high c r e next inside low eh leading).misses z w s σ g few (subst (Leads w a.number a.count σ) i leads)
         by d l h (no i) = (passed_to p c high _ row_is next).misses d l (omega arith)
 
     -- leads to it
-    pub passed_leads : a.tag ≡ 1 → (ty ≡ no_number → ⊥) → LeadsFirst x a goal ty
+    pub passed_leads : a.tag ≡ 1 → (ty : ℕ) → r ≡ Some ty → LeadsFirst x a goal (Some ty)
     unfolding head_types
-    passed_leads et ne =
-        record {
-          none_leads = λ z. absurd (ne z);
-          leads = λ ne w s σ g known few.
-              let is = listed_is x a.number a.count goal k from high c ty e next inside low eh leading in
-              let there = is.leads ne w s (known et) σ g in
-              let many = bindings_many w.rs in
-              let τ = (binding_at w.rs c).type in (
-                τ,
-                is.owns ne w s there.inside,
-                ap (first_of (leads_to same a.count σ)) (head_is et w s σ)
-                    ∙ bound_first (leads_to same a.count σ) a.number no_binding w.kept (bindings_of w.rs) c (let i = there.inside in omega arith) there.is_kept_law there.symbol (off_leads a.count σ τ there.rest)
-                    (λ d h kept symbol. leads_not a.count σ (binding_at w.rs d).type (λ o.
-                    let i = there.inside in
-                    let (low', below) = grouped et w s σ high eh d (omega arith) symbol in
-                    (passed_to p c high _ row_is next).misses d low' h w s σ g (known et) few (record { inside = omega arith; is_kept_law = kept; symbol = symbol; rest = o }))),
-              );
-        }
+    passed_leads et ty z w s σ g known few =
+        let is = listed_is x a.number a.count goal k from high c r e next inside low eh leading in
+        let there = is.leads ty z w s (known et) σ g in
+        let many = bindings_many w.rs in
+        let τ = (binding_at w.rs c).type in (
+          τ,
+          is.owns ty z w s there.inside,
+          ap (first_of (leads_to same a.count σ)) (head_is et w s σ)
+              ∙ bound_first (leads_to same a.count σ) a.number no_binding w.kept (bindings_of w.rs) c (let i = there.inside in omega arith) there.is_kept_law there.symbol (off_leads a.count σ τ there.rest)
+              (λ d h kept symbol. leads_not a.count σ (binding_at w.rs d).type (λ o.
+              let i = there.inside in
+              let (low', below) = grouped et w s σ high eh d (omega arith) symbol in
+              (passed_to p c high _ row_is next).misses d low' h w s σ g (known et) few (record { inside = omega arith; is_kept_law = kept; symbol = symbol; rest = o }))),
+        )

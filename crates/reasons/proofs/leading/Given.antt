@@ -3,10 +3,9 @@ use Prim.Native.Nat.{ℕ, suc, ◌<◌, ◌≤◌}
 use native.Mathlib.Omega.{arith}
 use native.Mathlib.Decide.{dec_lt}
 use mathlib.Core.Path.{◌≡◌, refl, sym, ap, subst, ◌∙◌}
-use mathlib.Core.Bool.{true}
-use mathlib.Core.List.{List, Memᴰ}
-use mathlib.Core.Option.{none, some}
+use mathlib.Core.Option.{some}
 use lib.ListN.{length, get_or}
+use Rattle.std.specs.Prelude.{Some, None}
 use Rattle.scheme.specs.Lists.{first_of}
 use Rattle.scheme.specs.Terms.{par}
 use Rattle.scheme.specs.Types.{Ty, state, arrow, Tys, members, same, domains, off}
@@ -76,55 +75,35 @@ module _ (x : Case) (a : Node) (goal given : ℕ) where
     given_goal w s b r o = subst (λ k. Goal w.rs k (arrow b r)) (sym is-given) (off_goal s.types a.number (own_in_spec x.test) w.τ (arrow b r) s.own o)
 
     -- nothing is given
-    pub given_nothing : given ≡ no_number → LeadsFirst x a goal no_number
+    pub given_nothing : given ≡ no_number → LeadsFirst x a goal None
     unfolding head_types
-    given_nothing z =
-        record {
-          none_leads = λ e w s σ g known few.
-              ap (first_of (leads_to same a.count σ)) (head_is w)
-              ∙ first_nobody (leads_to same a.count σ) (get_or (domains w.τ) a.number _) (λ υ m l.
-              let (b, r, o, k) = domains_out a.number w.τ υ m in
-              goal_there s.types (given_goal w s b r o) z);
-          leads = λ ne. absurd (ne refl);
-        }
+    given_nothing z w s σ g known few =
+        ap (first_of (leads_to same a.count σ)) (head_is w)
+        ∙ first_nobody (leads_to same a.count σ) (get_or (domains w.τ) a.number _) (λ υ m l.
+        let (b, r, o, k) = domains_out a.number w.τ υ m in
+        goal_there s.types (given_goal w s b r o) z)
 
     module _ {j : ℕ} (t : Tried j) (many : ℕ) (is-many : many ≡ many_of_spec x.t given) where
       -- no member is left
-      pub given_none : many ≤ j → LeadsFirst x a goal no_number
+      pub given_none : many ≤ j → LeadsFirst x a goal None
       unfolding head_types
-      given_none h =
-          record {
-            none_leads = λ e w s σ g known few.
-                ap (first_of (leads_to same a.count σ)) (head_is w)
-                ∙ first_nobody (leads_to same a.count σ) (get_or (domains w.τ) a.number _) (λ υ m l.
-                let (b, r, o, mem) = domains_out a.number w.τ υ m in
-                let gb = given_goal w s b r o in
-                let n = (s.types.arrow_row given b r gb).many in
-                let (k, inside, ek) = mem_index (state 0) (members b) υ mem in
-                t.misses k (omega arith) w s b r σ gb inside g (ap (off a.count) ek ∙ leads_off a.count σ υ l));
-            leads = λ ne. absurd (ne refl);
-          }
+      given_none h w s σ g known few =
+          ap (first_of (leads_to same a.count σ)) (head_is w)
+          ∙ first_nobody (leads_to same a.count σ) (get_or (domains w.τ) a.number _) (λ υ m l.
+          let (b, r, o, mem) = domains_out a.number w.τ υ m in
+          let gb = given_goal w s b r o in
+          let n = (s.types.arrow_row given b r gb).many in
+          let (k, inside, ek) = mem_index (state 0) (members b) υ mem in
+          t.misses k (omega arith) w s b r σ gb inside g (ap (off a.count) ek ∙ leads_off a.count σ υ l))
 
       module _ (l : j < many) (there : given ≡ no_number → ⊥) (ty : ℕ) (is-ty : ty ≡ member_of_spec x.t given j) (rest : ℕ) (is-rest : rest ≡ off_of x.t a.count ty) where
         -- it leads to it
-        pub given_first : rest ≡ goal → LeadsFirst x a goal ty
+        pub given_first : rest ≡ goal → LeadsFirst x a goal (Some ty)
         unfolding head_types
-        given_first e =
-            record {
-              none_leads = λ z w s σ g known few. absurd (by_none z w s);
-              leads = λ ne w s σ g known few.
-                  let (υ, o, gυ) = off_some s.types a.number (own_in_spec x.test) w.τ s.own (λ k. there (is-given ∙ k)) in
-                  first_by w s σ g υ o (members_there x w s given j υ (subst (λ k. Goal w.rs k υ) (sym is-given) gυ) (let m = is-many in omega arith));
-            }
+        given_first e w s σ g known few =
+            let (υ, o, gυ) = off_some s.types a.number (own_in_spec x.test) w.τ s.own (λ k. there (is-given ∙ k)) in
+            first_by w s σ g υ o (members_there x w s given j υ (subst (λ k. Goal w.rs k υ) (sym is-given) gυ) (let m = is-many in omega arith))
           where
-            by_none : ty ≡ no_number → (w : World) → Setting x w → ⊥
-            by_none z w s =
-                let (υ, o, gυ) = off_some s.types a.number (own_in_spec x.test) w.τ s.own (λ k. there (is-given ∙ k)) in
-                go υ (members_there x w s given j υ (subst (λ k. Goal w.rs k υ) (sym is-given) gυ) (let m = is-many in omega arith))
-              where
-                go : (υ : Ty) → HasMembers w given j υ → ⊥
-                go υ (has_members b r eυ gb inside) = goal_there s.types (member_goal j ty is-ty w s b r gb inside) z
-
             first_by : (w : World) → Setting x w → (σ : Ty) → Goal w.rs goal σ → (υ : Ty) → off a.number w.τ ≡ some υ → HasMembers w given j υ
                 → (τ : Ty) × Goal w.rs ty τ × (first_of (leads_to same a.count σ) (heads_of w (head_by a.tag a.number)) ≡ some τ)
             first_by w s σ g υ o (has_members b r eυ gb inside) =

@@ -1,26 +1,26 @@
 -- The search among arguments, one after another: while all have what is asked for it comes to the same behind them; the first that lacks
 -- a member is where it goes on.
-use Prim.Native.Nat.{ℕ, suc, ◌+◌, ◌-◌, ◌/◌, ◌%◌, ◌<◌, ◌≤◌}
+use Prim.Native.Nat.{ℕ, ◌+◌, ◌-◌, ◌/◌, ◌%◌, ◌<◌, ◌≤◌}
 use native.Mathlib.Omega.{arith}
 use mathlib.Core.Path.{◌≡◌, refl, sym, ap, subst, ◌∙◌}
 use mathlib.Core.Bool.{Bool, true, false, not}
-use mathlib.Core.List.{List, [], ◌∷◌, Memᴰ}
-use mathlib.Core.Option.{Option, none, some}
-use lib.Dec.{T}
+use mathlib.Core.List.{List}
+use mathlib.Core.Option.{none, some}
+use Rattle.std.specs.Prelude.{Some, None}
 use Rattle.scheme.specs.Lists.{first_of, found_or}
-use Rattle.scheme.specs.Terms.{Term, Terms, []ᵗ, ◌∷ᵗ◌, countᵗ, nodes}
+use Rattle.scheme.specs.Terms.{Term, Terms, ◌∷ᵗ◌, countᵗ, nodes}
 use Rattle.scheme.specs.Types.{Ty, state, arrow, Tys, []ʸ, ◌∷ʸ◌, members, same, takes, off}
 use Rattle.scheme.specs.Typing.{has}
 use Rattle.scheme.specs.Reasons.{Reason, lacking}
 use Rattle.scheme.proofs.Lists.{not_out}
 use Rattle.scheme.proofs.Reasons.{first_none, first_some, first_true}
-use Rattle.index.specs.layout.Layout.{max_states, no_number}
+use Rattle.index.specs.layout.Layout.{max_states}
 use Rattle.tables.specs.reading.Cells.{result_of, node_at}
 use Rattle.tables.specs.Facts.{Goal, of_state_law, AllAt}
 use Rattle.tables.proofs.nodes.Places.{first_at}
 use Rattle.term_check.specs.notes.Notes.{base_in}
-use Rattle.term_check.specs.Worlds.{Args, Case, World, Has, Setting, Ready, Keeps, Targets, ChecksTerm}
-use Rattle.term_check.proofs.Places.{no_terms, nodes_some}
+use Rattle.term_check.specs.Worlds.{Args, Case, World, Has, Keeps, Targets, ChecksTerm}
+use Rattle.term_check.proofs.Places.{no_terms}
 use Rattle.term_check.proofs.check.Keeping.{keeps_all, keeps_on, ready_on}
 use Rattle.term_check.proofs.check.Arguments.{Several, several, some_terms, next_at, next_on, Arrow, an_arrow, arrow_there}
 use Rattle.term_check.proofs.check.Targets.{Split, split, targets_split}
@@ -109,12 +109,12 @@ module _ (x : Case) (memo users : List ℕ) (first n ty : ℕ) where
       }
 
   module _ {memo' users' : List ℕ} {here rest left : ℕ} (k : Seeking memo' users' here rest left) where
-    pub seek_end : left ≤ 0 → (i g : ℕ) → LacksArgument x memo users first n ty memo' users' i g
-    seek_end l i g = record { keeps = k.keeps; comes = λ w ts τ σ a. absurd (sought_none (k.still w ts τ σ a).sought l) }
+    pub seek_end : left ≤ 0 → LacksArgument x memo users first n ty memo' users' None
+    seek_end l = record { keeps = k.keeps; comes = λ w ts τ σ a. sought_none (k.still w ts τ σ a).sought l }
 
-    module _ (some_left : 0 < left) (memo'' users'' : List ℕ) (g : ℕ) (member : LacksMember x memo' users' here rest memo'' users'' g) where
-      pub seek_found : (g ≡ no_number → ⊥) → LacksArgument x memo users first n ty memo'' users'' here g
-      seek_found ne =
+    module _ (some_left : 0 < left) (memo'' users'' : List ℕ) where
+      pub seek_found : (g : ℕ) → LacksMember x memo' users' here rest memo'' users'' (Some g) → LacksArgument x memo users first n ty memo'' users'' (Some (record { node = here; goal = g }))
+      seek_found g member =
           record {
             keeps = keeps_on k.keeps member.keeps;
             comes = λ w ts τ σ a.
@@ -125,15 +125,15 @@ module _ (x : Case) (memo users : List ℕ) (first n ty : ℕ) where
           by : (w : World) (ts : Terms) (τ σ : Ty) → ArgsLack x memo users first n ty w ts τ σ → (s : Still w (lacking same (heads_of w) first ts τ) σ here rest left) → Several left s.terms → Arrow left s.type σ
               → ComesTo w (lacking same (heads_of w) first ts τ) here g
           by w ts τ σ a s (several t us et c) (an_arrow b ρ eτ o) =
-              let (m, gm, e) = member.lacks ne w (ready_on k.keeps a.ready) b ρ (subst (Goal w.rs rest) eτ s.goal) t (first_at w.ns here t us (subst (AllAt w.ns here) et s.sought.all)) in
+              let (m, gm, e) = member.lacks w (ready_on k.keeps a.ready) b ρ (subst (Goal w.rs rest) eτ s.goal) t (first_at w.ns here t us (subst (AllAt w.ns here) et s.sought.all)) in
               sought_comes s.sought t us et b ρ eτ m e g gm
 
-      pub seek_next : g ≡ no_number → (next : ℕ) → next ≡ (node_at x.t (base_in x.test) here).next → (rest' : ℕ) → rest' ≡ result_of x.t rest → Seeking memo'' users'' next rest' (left - 1)
-      seek_next e next en rest' er =
-          record {
+      pub seek_next : LacksMember x memo' users' here rest memo'' users'' None → (next : ℕ) → next ≡ (node_at x.t (base_in x.test) here).next → (rest' : ℕ) → rest' ≡ result_of x.t rest → (left' : ℕ) → left' ≡ left - 1 → Seeking memo'' users'' next rest' left'
+      seek_next member next en rest' er left' el = subst (Seeking memo'' users'' next rest') (sym el)
+          (record {
             keeps = keeps_on k.keeps member.keeps;
             still = λ w ts τ σ a. let s = k.still w ts τ σ a in by w ts τ σ a s (some_terms left s.terms s.sought.count some_left) (arrow_there left s.type σ s.off_left some_left);
-          }
+          })
         where
           by : (w : World) (ts : Terms) (τ σ : Ty) → ArgsLack x memo users first n ty w ts τ σ → (s : Still w (lacking same (heads_of w) first ts τ) σ here rest left) → Several left s.terms → Arrow left s.type σ
               → Still w (lacking same (heads_of w) first ts τ) σ next rest' (left - 1)
@@ -141,7 +141,7 @@ module _ (x : Case) (memo users : List ℕ) (first n ty : ℕ) where
               let ready = ready_on k.keeps a.ready in
               let gb : Goal w.rs rest (arrow b ρ) = subst (Goal w.rs rest) eτ s.goal in
               let al = subst (AllAt w.ns here) et s.sought.all in
-              let none-lacked = member.has_all e w ready b ρ gb t (first_at w.ns here t us al) in
+              let none-lacked = member.lacks w ready b ρ gb t (first_at w.ns here t us al) in
               record {
                 terms = us;
                 type = ρ;
@@ -170,15 +170,15 @@ module _ (x : Case) (memo users : List ℕ) (first n targets : ℕ) where
       }
 
   module _ {memo' users' : List ℕ} {here rest left : ℕ} (k : SeekingTargets memo' users' here rest left) where
-    pub targets_end : left ≤ 0 → (i g : ℕ) → LacksTarget x memo users first n targets memo' users' i g
-    targets_end l i g = record { keeps = k.keeps; comes = λ w ts qs q a. absurd (sought_none (k.still w ts qs q a).sought l) }
+    pub targets_end : left ≤ 0 → LacksTarget x memo users first n targets memo' users' None
+    targets_end l = record { keeps = k.keeps; comes = λ w ts qs q a. sought_none (k.still w ts qs q a).sought l }
 
     module _ (some_left : 0 < left) (memo'' users'' : List ℕ) (b : Bool) (told : ChecksTerm x memo' users' here (rest % 16) memo'' users'' b) where
       -- the first argument and its target
       goal_is : (w : World) (p : ℕ) → rest % 16 ≡ p → p < max_states → Goal w.rs (rest % 16) (state p)
       goal_is w p e h = of_state_law p h e refl
 
-      pub targets_found : b ≡ false → LacksTarget x memo users first n targets memo'' users'' here (rest % 16)
+      pub targets_found : b ≡ false → LacksTarget x memo users first n targets memo'' users'' (Some (record { node = here; goal = rest % 16 }))
       unfolding takes
       targets_found e =
           record {
@@ -195,13 +195,13 @@ module _ (x : Case) (memo users : List ℕ) (first n targets : ℕ) where
               let no-p = told.no e w (ready_on k.keeps a.ready) t (first_at w.ns here t us al) (state p) (goal_is w p is small) in
               sought_comes s.sought t us et (state p ∷ʸ []ʸ) (takes ps q) (ap (λ z. takes z q) ep) (state p) (one_lacked w t p no-p) (rest % 16) (goal_is w p is small)
 
-      pub targets_next : b ≡ true → (next : ℕ) → next ≡ (node_at x.t (base_in x.test) here).next → SeekingTargets memo'' users'' next (rest / 16) (left - 1)
+      pub targets_next : b ≡ true → (next : ℕ) → next ≡ (node_at x.t (base_in x.test) here).next → (left' : ℕ) → left' ≡ left - 1 → SeekingTargets memo'' users'' next (rest / 16) left'
       unfolding takes
-      targets_next e next en =
-          record {
+      targets_next e next en left' el = subst (SeekingTargets memo'' users'' next (rest / 16)) (sym el)
+          (record {
             keeps = keeps_on k.keeps told.keeps;
             still = λ w ts qs q a. let s = k.still w ts qs q a in by w ts qs q a s (some_terms left s.terms s.sought.count some_left) (targets_split left rest s.states some_left s.are);
-          }
+          })
         where
           by : (w : World) (ts : Terms) (qs : List ℕ) (q : ℕ) → TargetsLack x memo users first n targets w ts qs q → (s : StillTargets w (lacking same (heads_of w) first ts (takes qs q)) q here rest left) → Several left s.terms → Split left rest s.states
               → StillTargets w (lacking same (heads_of w) first ts (takes qs q)) q next (rest / 16) (left - 1)

@@ -1,31 +1,21 @@
--- `search` meets its contract. The invariant: the search comes to the same from the node and the goal on that it has come to.
-use Prim.Native.Nat.{◌-◌, ◌≤◌}
-use native.Mathlib.Omega.{arith}
-use mathlib.Core.Path.{◌≡◌, refl, ◌∙◌}
-use lib.ListN.{length}
-use Rattle.index.specs.layout.Layout.{max_nodes}
-use Rattle.term_check.specs.Worlds.{case_of, answers_of, users_of}
-use Rattle.reasons.proofs.Searching.{Come, come_start, come_past, come_on, come_end}
-use borrow.Author.Rules.{rules}
+-- `search` meets its contract.
+use mathlib.Core.Path.{refl, subst, ◌∙◌}
+use Rattle.std.specs.Prelude.{Some, None}
+use Rattle.reasons.specs.Searching.{Steps}
+use Rattle.reasons.proofs.Searching.{come_start, come_past, come_on, come_end}
 use Rattle.reasons.proofs.search.Goals as goal
 
-pub loop-at-init : goal.loop-at-init
-loop-at-init c = (refl, come_start _ _ _ _)
+pub loop-reason-init : goal.loop-reason-init
+loop-reason-init c = (refl, come_start _ _ _ _)
 
-pub shape_of-w-then-next-at : goal.shape_of-w-then-next-at
-shape_of-w-then-next-at c = c.step-next.ensures.0 ∙ c.loop-at.invariant.0
+pub returns-in_default : goal.returns-in_default
+returns-in_default c = (c.step.ensures.0 ∙ c.loop-reason.invariant.0, come_end _ _ _ _ c.loop-reason.invariant.1 _ _ (Some c.in-Some.next) c.in-Some.ensures.1 c.if-reason-step.false)
 
-pub returns-then-next-at : goal.returns-then-next-at
-returns-then-next-at c = (c.step-next.ensures.0 ∙ c.loop-at.invariant.0, come_end _ _ _ _ c.loop-at.invariant.1 _ _ _ _ c.step-next.ensures.1 c.if-next-at.true)
+pub returns-in_default-2 : goal.returns-in_default-2
+returns-in_default-2 c = (c.step.ensures.0 ∙ c.loop-reason.invariant.0, come_end _ _ _ _ c.loop-reason.invariant.1 _ _ None (subst (Steps _ _ _ _ _ _ _) c.in_default.is c.step.ensures.1) tt)
 
-pub loop-at-smaller : goal.loop-at-smaller
-loop-at-smaller c = let h = c.loop-at-test.true in let n = c.if-next-at.false in omega arith
-
-pub loop-at-preserved : goal.loop-at-preserved
-loop-at-preserved c = (c.step-next.ensures.0 ∙ c.loop-at.invariant.0, come_on _ _ _ _ c.loop-at.invariant.1 _ _ _ _ c.step-next.ensures.1 (let n = c.if-next-at.false in omega arith))
-
-pub shape_of-w : goal.shape_of-w
-shape_of-w c = c.loop-at.invariant.0
+pub loop-reason-preserved : goal.loop-reason-preserved
+loop-reason-preserved c = (c.step.ensures.0 ∙ c.loop-reason.invariant.0, come_on _ _ _ _ c.loop-reason.invariant.1 _ _ c.in-Some.next c.in-Some.ensures.1)
 
 pub returns : goal.returns
-returns c = (c.loop-at.invariant.0, come_past _ _ _ _ c.loop-at.invariant.1 c.loop-at-test.false)
+returns c = (c.loop-reason.invariant.0, come_past _ _ _ _ c.loop-reason.invariant.1 c.loop-reason-test.false)

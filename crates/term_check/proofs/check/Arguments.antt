@@ -86,7 +86,10 @@ module _ (x : Case) (memo users : List ℕ) (at n g : ℕ) where
               let k : Args (Has w w.kept) (t ∷ᵗ rest) (arrow a s) = subst (Args (Has w w.kept) (t ∷ᵗ rest)) i (subst (λ z. Args (Has w w.kept) z υ) e h) in
               told.no eb w r a s (subst (Goal w.rs g) i go) t (first_at w.ns at t rest (subst (AllAt w.ns at) e al)) k.0
 
-      module _ (eb : b ≡ true) (g' : ℕ) (is-g : g' ≡ result_of x.t g) (memo'' users'' : List ℕ) (d : Bool) (rest-told : ChecksArgs x memo' users' next (n - 1) g' memo'' users'' d) where
+      module _ (eb : b ≡ true) (g' : ℕ) (is-g : g' ≡ result_of x.t g) (m : ℕ) (is-m : m ≡ n - 1) (memo'' users'' : List ℕ) (d : Bool) (told-behind : ChecksArgs x memo' users' next m g' memo'' users'' d) where
+        rest-told : ChecksArgs x memo' users' next (n - 1) g' memo'' users'' d
+        rest-told = subst (λ k. ChecksArgs x memo' users' next k g' memo'' users'' d) is-m told-behind
+
         pub args_rest : ChecksArgs x memo users at n g memo'' users'' d
         unfolding Args
         args_rest =

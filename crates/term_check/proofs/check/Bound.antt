@@ -1,5 +1,5 @@
 -- A nonterminal in front: its kept bindings are tried, first by a hint, then all that lead to the goal.
-use Prim.Native.Nat.{ℕ, suc, ◌+◌, ◌-◌, ◌*◌, ◌%◌, ◌<◌, ◌≤◌}
+use Prim.Native.Nat.{ℕ, suc, ◌+◌, ◌*◌, ◌%◌, ◌<◌, ◌≤◌}
 use native.Mathlib.Omega.{arith}
 use native.Mathlib.Decide.{dec_lt, ℕ_discrete}
 use mathlib.Core.Path.{◌≡◌, refl, sym, ap, subst, ◌∙◌}
@@ -9,7 +9,8 @@ use mathlib.Core.Option.{some}
 use Rattle.scheme.specs.Terms.{nt, Term, node, Terms, countᵗ}
 use Rattle.scheme.specs.Types.{Ty, off}
 use lib.ListN.{get_or}
-use Rattle.index.specs.layout.Layout.{no_number, row_limit, words_limit, test_words}
+use Rattle.std.specs.Prelude.{Option, Some, None}
+use Rattle.index.specs.layout.Layout.{row_limit, words_limit, test_words}
 use Rattle.marks.specs.Marks.{In, FindsNext}
 use Rattle.tables.specs.reading.Cells.{group_of, node_at}
 use Rattle.tables.specs.declared.reading.Node.{Node}
@@ -43,18 +44,18 @@ symbol_known x w s a at e et (node h ts) here =
     n.known a.number (sym n.head ∙ ap (λ (b : Node). head_by b.tag b.number) (sym e) ∙ head_bound a.tag a.number et)
 
 -- One binding, tried.
-module _ (x : Case) (memo users : List ℕ) (at goal : ℕ) (a : Node) (c ty : ℕ) (is : IsCandidate x a.number a.count goal c ty) where
-  pub try_misses : ty ≡ no_number → Tries x memo users at goal a c memo users false
-  try_misses e ea et =
-      record { keeps = keeps_all x memo users; yes = λ y. absurd (true≢false (sym y)); no = λ y w r σ g ts al n few leads args. is.misses e w r.setting σ g few leads }
+module _ (x : Case) (memo users : List ℕ) (at goal : ℕ) (a : Node) (c : ℕ) where
+  pub try_misses : IsCandidate x a.number a.count goal c None → Tries x memo users at goal a c memo users false
+  try_misses is ea et =
+      record { keeps = keeps_all x memo users; yes = λ y. absurd (true≢false (sym y)); no = λ y w r σ g ts al n few leads args. is.misses refl w r.setting σ g few leads }
 
-  module _ (ne : ty ≡ no_number → ⊥) (first : ℕ) (is-first : first ≡ suc at) (memo'' users'' : List ℕ) (b : Bool) (told : ChecksArgs x memo users first a.count ty memo'' users'' b) where
+  module _ (ty : ℕ) (is : IsCandidate x a.number a.count goal c (Some ty)) (first : ℕ) (is-first : first ≡ suc at) (memo'' users'' : List ℕ) (b : Bool) (told : ChecksArgs x memo users first a.count ty memo'' users'' b) where
     pub try_lacks : b ≡ false → Tries x memo users at goal a c memo'' users'' false
     try_lacks e ea et =
         record {
           keeps = told.keeps;
           yes = λ y. absurd (true≢false (sym y));
-          no = λ y w r σ g ts al n few leads args. told.no e w r ts (subst (λ k. AllAt w.ns k ts) (sym is-first) al) n (binding_at w.rs c).type σ (is.owns ne w r.setting leads.inside) leads.rest args;
+          no = λ y w r σ g ts al n few leads args. told.no e w r ts (subst (λ k. AllAt w.ns k ts) (sym is-first) al) n (binding_at w.rs c).type σ (is.owns ty refl w r.setting leads.inside) leads.rest args;
         }
 
     -- it serves, and that is noted
@@ -68,8 +69,8 @@ module _ (x : Case) (memo users : List ℕ) (at goal : ℕ) (a : Node) (c ty : �
       where
         serves : (w : World) → Ready x w memo users → a.number < symbols w → (flags : List ℕ) → Includes x w users''' flags → (u : Term) (σ : Ty) → Goal w.rs goal σ → Split x w a at u → Has w flags u σ
         serves w r known flags inc u σ g (split ts eu al count few) =
-            let leads = is.leads ne w r.setting known σ g in
-            let own = is.owns ne w r.setting leads.inside in
+            let leads = is.leads ty refl w r.setting known σ g in
+            let own = is.owns ty refl w r.setting leads.inside in
             let eh : u ≡ node (nt a.number) ts = eu ∙ ap (λ h. node h ts) (head_bound a.tag a.number et) in
             let less = includes_less x w users'' users''' n.grows flags inc in
             let args = told.yes e w r flags less ts (subst (λ k. AllAt w.ns k ts) (sym is-first) al) count (binding_at w.rs c).type σ own leads.rest in
@@ -160,7 +161,7 @@ pub served : {x : Case} {memo users memo' users' : List ℕ} (at : ℕ) {goal : 
 served at ea et told e = record { keeps = (told ea et).keeps; yes = λ y. (told ea et).yes e; no = λ y. absurd (true≢false y) }
 
 -- what is found below the end is in the set of the goal, and one of the nonterminal
-pub listed_is : (x : Case) (number n goal k from high c r : ℕ) → k ≡ get_or x.test test_words 0 → FindsNext x.sets (goal % row_limit * (k % words_limit)) from high c → c < high → group_of x.t number ≤ from → high ≡ group_of x.t (number % row_limit + 1)
+pub listed_is : (x : Case) (number n goal k from high c : ℕ) (r : Option ℕ) → k ≡ get_or x.test test_words 0 → FindsNext x.sets (goal % row_limit * (k % words_limit)) from high c → c < high → group_of x.t number ≤ from → high ≡ group_of x.t (number % row_limit + 1)
     → IsLeading x.t n goal c r → IsCandidate x number n goal c r
 listed_is x number n goal k from high c r e next h low eh leading =
     let (behind, is-in) = next.found h in

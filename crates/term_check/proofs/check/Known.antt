@@ -35,7 +35,7 @@ module _ (x : Case) (memo : List ℕ) (at n g : ℕ) where
 
       args : (users : List ℕ) → left ≡ 0 → ChecksArgs x memo users at n g memo users true
       args users z =
-          args_rest x memo users at n g (omega arith) behind refl memo users true (states_had x memo users at g states is small known (seen_memo x memo at known _ _ refl refl looks) left leaves z none) refl result refl memo users true
+          args_rest x memo users at n g (omega arith) behind refl memo users true (states_had x memo users at g states is small known (seen_memo x memo at known _ _ refl refl looks) left leaves z none) refl result refl (n - 1) refl memo users true
           (args_none x memo users behind (n - 1) result (omega arith))
 
   -- what is known is an answer

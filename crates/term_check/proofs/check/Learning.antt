@@ -11,7 +11,7 @@ use Rattle.marks.proofs.Bits.{zero_bit}
 use Rattle.answers.specs.Answers.{Learns}
 use Rattle.tables.specs.Frames.{Adds}
 use Rattle.term_check.specs.notes.Notes.{stamp_in, wide_in}
-use Rattle.term_check.specs.Worlds.{Case, World, Yes, No, ChecksTerm}
+use Rattle.term_check.specs.Worlds.{Case, Yes, No, ChecksTerm}
 use Rattle.term_check.proofs.check.Keeping.{keeps_learn}
 
 module _ (x : Case) (memo users : List ℕ) (at goal bit : ℕ) (puts : Adds 0 (goal % word_bits) bit) (memo' users' : List ℕ) (b : Bool) (told : ChecksTerm x memo users at goal memo' users' b) (memo'' : List ℕ) where

@@ -9,6 +9,8 @@ use mathlib.Core.List.Memᴰ
 use mathlib.Core.List.{List, [], ◌∷◌, Memᴰ}
 use lib.Bits.{bit_and, and_le_l}
 use lib.ListN.{length, get_or}
+use Rattle.std.specs.Prelude.{Option, Some, None}
+use Rattle.std.proofs.lemmas.Option.{none-some, some_pair_parts}
 use Rattle.scheme.specs.Terms.{Term}
 use Rattle.scheme.specs.Types.{Ty, state, arrow, Tys, members}
 use Rattle.casefile.proofs.Repeats.{get_d_mem}
@@ -131,32 +133,24 @@ module _ (x : Case) (memo users : List ℕ) (at g : ℕ) where
   pub asked_start : Asked memo users 0
   asked_start = record { keeps = keeps_all x memo users; had = λ w r k h. absurd (omega arith) }
 
-  -- what is known of the goals of a word
-  pub record Recalled (users' : List ℕ) (word : ℕ) (known : Outlook) : Type 0 where
-    pub yes : (w : World) → Ready x w memo users → (h : ℕ) → h / word_bits ≡ word → bit_of (h % word_bits) known.had ≡ 1 → Yes x w users' at h
-    pub no : (w : World) → Ready x w memo users → (h : ℕ) → h / word_bits ≡ word → bit_of (h % word_bits) known.lacked ≡ 1 → No x w at h
+  -- what was known last of the goals of a word
+  pub record Recalled (users' : List ℕ) (last : Option (ℕ × Outlook)) : Type 0 where
+    pub yes : (w : World) → Ready x w memo users → (h : ℕ) (known : Outlook) → last ≡ Some (h / word_bits, known) → bit_of (h % word_bits) known.had ≡ 1 → Yes x w users' at h
+    pub no : (w : World) → Ready x w memo users → (h : ℕ) (known : Outlook) → last ≡ Some (h / word_bits, known) → bit_of (h % word_bits) known.lacked ≡ 1 → No x w at h
 
-  pub recalled_none : (word : ℕ) (known : Outlook) → known.had ≡ 0 → known.lacked ≡ 0 → Recalled users word known
-  recalled_none word known a b =
-      record {
-        yes = λ w r h e o. let y = ap (bit_of (h % word_bits)) a in let n = zero_bit (h % word_bits) in absurd (omega arith);
-        no = λ w r h e o. let y = ap (bit_of (h % word_bits)) b in let n = zero_bit (h % word_bits) in absurd (omega arith);
-      }
+  pub recalled_none : Recalled users None
+  recalled_none = record { yes = λ w r h known e. absurd (none-some _ e); no = λ w r h known e. absurd (none-some _ e) }
 
-  pub recalled_more : {users' users'' : List ℕ} {word : ℕ} {known : Outlook} → Grows users' users'' → Recalled users' word known → Recalled users'' word known
-  recalled_more {users'} {users''} more is = record { yes = λ w r h e o. yes_more x w users' users'' more at h (is.yes w r h e o); no = is.no }
+  pub recalled_more : {users' users'' : List ℕ} {last : Option (ℕ × Outlook)} → Grows users' users'' → Recalled users' last → Recalled users'' last
+  recalled_more {users'} {users''} more is = record { yes = λ w r h known e o. yes_more x w users' users'' more at h (is.yes w r h known e o); no = is.no }
 
-  pub recalled_on : {memo' users' : List ℕ} → Keeps x memo users memo' users' → (goal word word' : ℕ) (known s : Outlook) → word' ≡ goal / word_bits → Recalled users' word known
-      → LooksOn memo' (wide_in x.test) (stamp_in x.test) at goal word known s → Recalled users' word' s
-  recalled_on {memo'} {users'} k goal word word' known s ew is (inl (e, same)) =
+  pub recalled_on : {memo' users' : List ℕ} → Keeps x memo users memo' users' → (goal : ℕ) (last : Option (ℕ × Outlook)) (s : Outlook) → Recalled users' last
+      → LooksOn memo' (wide_in x.test) (stamp_in x.test) at goal last s → Recalled users' (Some (goal / word_bits, s))
+  recalled_on {memo'} {users'} k goal last s is (inl e) = subst (Recalled users') e is
+  recalled_on {memo'} {users'} k goal last s is (inr looks) =
       record {
-        yes = λ w r h f o. is.yes w r h (f ∙ ew ∙ e) (ap (λ (z : Outlook). bit_of (h % word_bits) z.had) (sym same) ∙ o);
-        no = λ w r h f o. is.no w r h (f ∙ ew ∙ e) (ap (λ (z : Outlook). bit_of (h % word_bits) z.lacked) (sym same) ∙ o);
-      }
-  recalled_on {memo'} {users'} k goal word word' known s ew is (inr looks) =
-      record {
-        yes = λ w r h f o. (k.right w r).yes at h (looks.yes h (f ∙ ew) o);
-        no = λ w r h f o. (k.right w r).no at h (looks.no h (f ∙ ew) o);
+        yes = λ w r h known e o. let (word, same) = some_pair_parts (goal / word_bits) (h / word_bits) s known e in (k.right w r).yes at h (looks.yes h (sym word) (subst (λ (z : Outlook). bit_of (h % word_bits) z.had ≡ 1) (sym same) o));
+        no = λ w r h known e o. let (word, same) = some_pair_parts (goal / word_bits) (h / word_bits) s known e in (k.right w r).no at h (looks.no h (sym word) (subst (λ (z : Outlook). bit_of (h % word_bits) z.lacked ≡ 1) (sym same) o));
       }
 
   module _ {memo' users' : List ℕ} {j : ℕ} (a : Asked memo' users' j) (many : ℕ) (is-many : many ≡ many_of_spec x.t g) where
@@ -203,12 +197,12 @@ module _ (x : Case) (memo users : List ℕ) (at g : ℕ) where
               by (no l) = let e : j ≡ i = omega arith in subst (Yes x w users'' at) (is_goal ∙ ap (member_of_spec x.t g) e) (yes_there w r)
 
       -- it is known
-      module _ (word : ℕ) (known : Outlook) (is : Recalled users' word known) (ew : word ≡ goal / word_bits) (b : Bool) where
+      module _ (known : Outlook) (is : Recalled users' (Some (goal / word_bits, known))) (b : Bool) where
         pub recalled_no : HasBit known.lacked goal b → b ≡ true → ChecksMembers x memo users at g memo' users' false
-        recalled_no d e = lacked memo' users' a.keeps (λ w r. is.no w r goal (sym ew) (d.yes e))
+        recalled_no d e = lacked memo' users' a.keeps (λ w r. is.no w r goal known refl (d.yes e))
 
         pub recalled_yes : HasBit known.had goal b → b ≡ true → (j' : ℕ) → j' ≡ suc j → Asked memo' users' j'
-        recalled_yes d e j' ej = had_more memo' users' (keeps_all x memo' users') (λ w r. is.yes w r goal (sym ew) (d.yes e)) j' ej
+        recalled_yes d e j' ej = had_more memo' users' (keeps_all x memo' users') (λ w r. is.yes w r goal known refl (d.yes e)) j' ej
 
       -- it is checked, and what was found is remembered
       module _ (bit : ℕ) (puts : Adds 0 (goal % word_bits) bit) (memo'' users'' : List ℕ) (b : Bool) (told : ChecksTerm x memo' users' at goal memo'' users'' b) (memo''' : List ℕ) where

@@ -3,6 +3,7 @@ use Prim.Native.Nat.{ℕ}
 use mathlib.Core.Path.{◌≡◌, sym, subst}
 use mathlib.Core.Bool.{Bool}
 use mathlib.Core.List.{List}
+use Rattle.std.specs.Prelude.{Option}
 use Rattle.answers.specs.declared.Outlook.{Outlook}
 use Rattle.tables.specs.declared.reading.Node.{Node}
 use Rattle.term_check.specs.heads.Heads.{Tries}
@@ -16,8 +17,8 @@ module _ (x : Case) (memo users : List ℕ) (at g : ℕ) where
   pub asked_moved : (memo' users' users'' : List ℕ) (j : ℕ) → users'' ≡ users' → Asked x memo users at g memo' users' j → Asked x memo users at g memo' users'' j
   asked_moved memo' users' users'' j e = subst (λ u. Asked x memo users at g memo' u j) (sym e)
 
-  pub recalled_moved : (users' users'' : List ℕ) (word : ℕ) (known : Outlook) → users'' ≡ users' → Recalled x memo users at g users' word known → Recalled x memo users at g users'' word known
-  recalled_moved users' users'' word known e = subst (λ u. Recalled x memo users at g u word known) (sym e)
+  pub recalled_moved : (users' users'' : List ℕ) (last : Option (ℕ × Outlook)) → users'' ≡ users' → Recalled x memo users at g users' last → Recalled x memo users at g users'' last
+  recalled_moved users' users'' last e = subst (λ u. Recalled x memo users at g u last) (sym e)
 
   pub all_moved : (memo' users' users'' : List ℕ) (b : Bool) → users'' ≡ users' → ChecksAll x memo users at g memo' users' b → ChecksAll x memo users at g memo' users'' b
   all_moved memo' users' users'' b e = subst (λ u. ChecksAll x memo users at g memo' u b) (sym e)

@@ -6,6 +6,7 @@ use mathlib.Core.Logic.{◌⊎◌, inl, inr}
 use mathlib.Core.Bool.{Bool, true, false}
 use mathlib.Core.List.{List}
 use Rattle.index.specs.layout.Layout.{no_number}
+use Rattle.std.specs.Prelude.{Some, None}
 use Rattle.marks.specs.Marks.{bit_of}
 use Rattle.marks.proofs.Bits.{zero_bit}
 use Rattle.tables.specs.reading.Cells.{many_of_spec, member_of_spec, off_of, node_at}
@@ -29,20 +30,20 @@ module _ (x : Case) (memo users : List ℕ) (at asked : ℕ) (a : Node) (given :
   sought_start = record { finds = finds_none x memo users at; within = λ q b. b; tried = λ q b. given_start x memo users at q a given }
 
   module _ {memo' users' : List ℕ} {had left j : ℕ} (s : Sought memo' users' had left j) where
-    module _ (ty : ℕ) (is-ty : ty ≡ member_of_spec x.t given j) (j' : ℕ) (ej : j' ≡ suc j) (q : ℕ) (wanted : Wanted x.t left ty a.count q) where
+    module _ (ty : ℕ) (is-ty : ty ≡ member_of_spec x.t given j) (j' : ℕ) (ej : j' ≡ suc j) where
       -- member j leads to none of them
-      pub sought_misses : q ≡ no_number → Sought memo' users' had left j'
-      sought_misses e = record { finds = s.finds; within = s.within; tried = λ p b. member_misses x memo users at p a given (s.tried p b) ty is-ty j' ej (off_of x.t a.count ty) refl (wanted.misses e p b) }
+      pub sought_misses : Wanted x.t left ty a.count None → Sought memo' users' had left j'
+      sought_misses wanted = record { finds = s.finds; within = s.within; tried = λ p b. member_misses x memo users at p a given (s.tried p b) ty is-ty j' ej (off_of x.t a.count ty) refl (wanted.misses refl p b) }
 
-      module _ (d : q ≡ no_number → ⊥) (first : ℕ) (is-first : first ≡ suc at) (memo'' users'' : List ℕ) (b : Bool) (told : ChecksArgs x memo' users' first a.count ty memo'' users'' b) where
+      module _ (q : ℕ) (wanted : Wanted x.t left ty a.count (Some q)) (first : ℕ) (is-first : first ≡ suc at) (memo'' users'' : List ℕ) (b : Bool) (told : ChecksArgs x memo' users' first a.count ty memo'' users'' b) where
         low : q < 32
-        low = (wanted.leads d).0
+        low = (wanted.leads q refl).0
 
         is_left : bit_of q left ≡ 1
-        is_left = (wanted.leads d).1
+        is_left = (wanted.leads q refl).1
 
         leads : q ≡ off_of x.t a.count ty
-        leads = (wanted.leads d).2
+        leads = (wanted.leads q refl).2
 
         -- it leads to q, and fails
         pub sought_fails : b ≡ false → (left' : ℕ) → Adds 0 q left' → Sought memo'' users'' had left' j'

@@ -6,9 +6,10 @@ use mathlib.Core.Path.{◌≡◌, refl, sym, ap, subst, ◌∙◌}
 use mathlib.Core.Bool.{Bool, true, false, true≢false}
 use mathlib.Core.List.Memᴰ
 use mathlib.Core.List.{List, [], ◌∷◌}
+use Rattle.std.specs.Prelude.{Some, None}
 use Rattle.scheme.specs.Terms.{Terms, ◌∷ᵗ◌, countᵗ}
 use Rattle.scheme.specs.Types.{state, members, takes}
-use Rattle.index.specs.layout.Layout.{max_states, no_targets_spec}
+use Rattle.index.specs.layout.Layout.{max_states}
 use Rattle.answers.specs.declared.Outlook.{Outlook}
 use Rattle.tables.specs.reading.Cells.{node_at}
 use Rattle.tables.specs.declared.reading.Node.{Node}
@@ -102,15 +103,15 @@ module _ (x : Case) (memo users : List ℕ) (at n targets : ℕ) where
                 rest-told.no y w (ready_on told.keeps r) rest (next_on x w s at next is_next t rest al') f ps q are k.1
 
 -- one target is left, and the argument has a constructor in front: its own arguments decide
-module _ (x : Case) (memo users : List ℕ) (at n targets : ℕ) (a : Node) (ea : a ≡ node_at x.t (base_in x.test) at) (one : n ≡ 1) (et : a.tag ≡ 0) (r : ℕ) (is : IsTargets x.t a.number a.count (targets % 16) r) where
+module _ (x : Case) (memo users : List ℕ) (at n targets : ℕ) (a : Node) (ea : a ≡ node_at x.t (base_in x.test) at) (one : n ≡ 1) (et : a.tag ≡ 0) where
   is_next : a.next ≡ (node_at x.t (base_in x.test) at).next
   is_next = ap (λ (z : Node). z.next) ea
 
-  pub down_none : r ≡ no_targets_spec → ChecksTargets x memo users at n targets memo users false
-  down_none e = targets_lack x memo users at n targets (omega arith) a.next is_next memo users false (no_targets x memo users at (targets % 16) a ea et r is e) refl
+  pub down_none : IsTargets x.t a.number a.count (targets % 16) None → ChecksTargets x memo users at n targets memo users false
+  down_none is = targets_lack x memo users at n targets (omega arith) a.next is_next memo users false (no_targets x memo users at (targets % 16) a ea et is) refl
 
-  pub down : (r ≡ no_targets_spec → ⊥) → (first : ℕ) → first ≡ suc at → (memo' users' : List ℕ) (b : Bool) → ChecksTargets x memo users first a.count r memo' users' b → ChecksTargets x memo users at n targets memo' users' b
-  down ne first is-first memo' users' b told = go b (built_checked x memo users at (targets % 16) a ea et r is ne first is-first memo' users' b told)
+  pub down : (own : ℕ) → IsTargets x.t a.number a.count (targets % 16) (Some own) → (first : ℕ) → first ≡ suc at → (memo' users' : List ℕ) (b : Bool) → ChecksTargets x memo users first a.count own memo' users' b → ChecksTargets x memo users at n targets memo' users' b
+  down own is first is-first memo' users' b told = go b (built_checked x memo users at (targets % 16) a ea et own is first is-first memo' users' b told)
     where
       go : (d : Bool) → ChecksTerm x memo users at (targets % 16) memo' users' d → ChecksTargets x memo users at n targets memo' users' d
       go false term = targets_lack x memo users at n targets (omega arith) a.next is_next memo' users' false term refl
@@ -120,7 +121,7 @@ module _ (x : Case) (memo users : List ℕ) (at n targets : ℕ) (a : Node) (ea 
 pub leaf_settles : (x : Case) (memo users : List ℕ) (at asked : ℕ) (a : Node) (r : Outlook) → Leaf x.t a asked r → a ≡ node_at x.t (base_in x.test) at → a.tag ≡ 0 → Settles x memo users at asked memo users r
 leaf_settles x memo users at asked a r leaf ea et =
     record {
-      finds = record { keeps = keeps_all x memo users; found = λ w ready q b. let (none, is) = leaf.had q b in (built_checked x memo users at q a ea et 0 (subst (λ k. IsTargets x.t a.number k q 0) (sym none) is) (λ e. omega arith) (suc at) refl memo users true (targets_none x memo users (suc at) a.count 0 (omega arith))).yes refl w ready };
+      finds = record { keeps = keeps_all x memo users; found = λ w ready q b. let (none, is) = leaf.had q b in (built_checked x memo users at q a ea et 0 (subst (λ k. IsTargets x.t a.number k q (Some 0)) (sym none) is) (suc at) refl memo users true (targets_none x memo users (suc at) a.count 0 (omega arith))).yes refl w ready };
       within = λ q b. (leaf.lacked q b).0;
-      lacks = λ w ready q b. (no_targets x memo users at q a ea et no_targets_spec (leaf.lacked q b).1 refl).no refl w ready;
+      lacks = λ w ready q b. (no_targets x memo users at q a ea et (leaf.lacked q b).1).no refl w ready;
     }

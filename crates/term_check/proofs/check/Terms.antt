@@ -5,15 +5,18 @@ use mathlib.Core.Path.{◌≡◌, refl, sym, ap, subst, ◌∙◌}
 use mathlib.Core.Bool.{Bool, true, false, true≢false}
 use mathlib.Core.List.{List}
 use mathlib.Core.Option.{some}
+use Rattle.std.specs.Prelude.{Some, None}
+use Rattle.std.proofs.lemmas.Option.{none-some, same_Some}
 use Rattle.scheme.specs.Terms.{con, Term, node, Terms}
 use Rattle.scheme.specs.Types.{Ty, takes, off}
-use Rattle.index.specs.layout.Layout.{max_nodes, no_targets_spec}
+use Rattle.casefile.specs.Tables.{transitions_of, targets_at}
+use Rattle.index.specs.layout.Layout.{max_nodes}
 use Rattle.tables.specs.reading.Cells.{node_at}
 use Rattle.tables.specs.declared.reading.Node.{Node}
 use Rattle.tables.specs.Facts.{Goal, At, AllAt, head_by}
 use Rattle.term_check.specs.notes.Notes.{base_in}
 use Rattle.term_check.specs.heads.Heads.{IsTargets, Alone}
-use Rattle.term_check.specs.Worlds.{Case, World, Has, Setting, Ready, Includes, ChecksTerm, ChecksTargets}
+use Rattle.term_check.specs.Worlds.{Case, World, Has, Setting, Ready, Includes, Targets, ChecksTerm, ChecksTargets}
 use Rattle.term_check.proofs.Rules.{built_has, built_had}
 use Rattle.term_check.proofs.check.Keeping.{keeps_all}
 use Rattle.term_check.proofs.check.Bound.{Split, split, split_term}
@@ -30,33 +33,37 @@ module _ (x : Case) (memo users : List ℕ) (at goal : ℕ) where
       past : (w : World) → Setting x w → (u : Term) → At w.ns at u → ⊥
       past w s (node k ts) here = let n = (s.nodes at k ts here).inside in omega arith
 
-  module _ (a : Node) (ea : a ≡ node_at x.t (base_in x.test) at) (et : a.tag ≡ 0) (r : ℕ) (is : IsTargets x.t a.number a.count goal r) where
+  module _ (a : Node) (ea : a ≡ node_at x.t (base_in x.test) at) (et : a.tag ≡ 0) where
     to_con : (u : Term) (ts : Terms) → u ≡ node (head_by a.tag a.number) ts → u ≡ node (con a.number) ts
     to_con u ts e = e ∙ ap (λ h. node h ts) (head_built a.tag a.number et)
 
     -- no transition leads to the goal
-    pub no_targets : r ≡ no_targets_spec → ChecksTerm x memo users at goal memo users false
-    no_targets e = record { keeps = keeps_all x memo users; yes = λ y. absurd (true≢false (sym y)); no = λ y w rd u here σ g has. none w rd u σ g has (split_term x w rd.setting a at ea u here) }
+    pub no_targets : IsTargets x.t a.number a.count goal None → ChecksTerm x memo users at goal memo users false
+    no_targets is = record { keeps = keeps_all x memo users; yes = λ y. absurd (true≢false (sym y)); no = λ y w rd u here σ g has. none w rd u σ g has (split_term x w rd.setting a at ea u here) }
       where
         none : (w : World) → Ready x w memo users → (u : Term) (σ : Ty) → Goal w.rs goal σ → Has w w.kept u σ → Split x w a at u → ⊥
         none w rd u σ g has (split ts eu al count few) =
             let (q, qs, there, o, args) = built_had w w.kept ts σ a.number (subst (λ z. Has w w.kept z σ) (to_con u ts eu) has) in
-            (is.all x w refl rd.setting σ g q qs there (subst (λ k. off k (takes qs q) ≡ some σ) count o)).0 e
+            let (found, e, are) = is.all x w refl rd.setting σ g q qs there (subst (λ k. off k (takes qs q) ≡ some σ) count o) in
+            none-some found e
 
     -- the arguments decide
-    pub built_checked : (r ≡ no_targets_spec → ⊥) → (first : ℕ) → first ≡ suc at → (memo' users' : List ℕ) (b : Bool) → ChecksTargets x memo users first a.count r memo' users' b → ChecksTerm x memo users at goal memo' users' b
-    built_checked ne first is-first memo' users' b told =
+    pub built_checked : (targets : ℕ) → IsTargets x.t a.number a.count goal (Some targets) → (first : ℕ) → first ≡ suc at → (memo' users' : List ℕ) (b : Bool) → ChecksTargets x memo users first a.count targets memo' users' b → ChecksTerm x memo users at goal memo' users' b
+    built_checked targets is first is-first memo' users' b told =
         record {
           keeps = told.keeps;
           yes = λ y w rd flags inc u here σ g. serves y w rd flags inc u σ g (split_term x w rd.setting a at ea u here);
           no = λ y w rd u here σ g has. none y w rd u σ g has (split_term x w rd.setting a at ea u here);
         }
       where
+        targets_are : (w : World) → Setting x w → (σ : Ty) → Goal w.rs goal σ → (q : ℕ) (qs : List ℕ) → targets_at (transitions_of w.rs) q a.number ≡ some qs → off a.count (takes qs q) ≡ some σ → Targets a.count targets qs
+        targets_are w s σ g q qs there o = let (found, e, are) = is.all x w refl s σ g q qs there o in subst (λ k. Targets a.count k qs) (sym (same_Some targets found e)) are
+
         serves : b ≡ true → (w : World) → Ready x w memo users → (flags : List ℕ) → Includes x w users' flags → (u : Term) (σ : Ty) → Goal w.rs goal σ → Split x w a at u → Has w flags u σ
         serves y w rd flags inc u σ g (split ts eu al count few) =
             let s = rd.setting in
-            let (q, qs, there, o) = is.found ne x w refl s σ g in
-            let are = (is.all x w refl s σ g q qs there o).1 in
+            let (q, qs, there, o) = is.found targets refl x w refl s σ g in
+            let are = targets_are w s σ g q qs there o in
             let eh = to_con u ts eu in
             let args = told.yes y w rd flags inc ts (subst (λ k. AllAt w.ns k ts) (sym is-first) al) count qs q are in
             subst (λ z. Has w flags z σ) (sym eh) (built_has w flags ts σ a.number q qs (s.automaton.within q a.number qs there).0 there (subst (λ k. off k (takes qs q) ≡ some σ) (sym count) o) args)
@@ -64,13 +71,15 @@ module _ (x : Case) (memo users : List ℕ) (at goal : ℕ) where
         none : b ≡ false → (w : World) → Ready x w memo users → (u : Term) (σ : Ty) → Goal w.rs goal σ → Has w w.kept u σ → Split x w a at u → ⊥
         none y w rd u σ g has (split ts eu al count few) =
             let (q, qs, there, o, args) = built_had w w.kept ts σ a.number (subst (λ z. Has w w.kept z σ) (to_con u ts eu) has) in
-            let are = (is.all x w refl rd.setting σ g q qs there (subst (λ k. off k (takes qs q) ≡ some σ) count o)).1 in
+            let are = targets_are w rd.setting σ g q qs there (subst (λ k. off k (takes qs q) ≡ some σ) count o) in
             told.no y w rd ts (subst (λ k. AllAt w.ns k ts) (sym is-first) al) count qs q are args
 
 -- a parameter that stands alone, and a state
-module _ (x : Case) (memo users : List ℕ) (at goal : ℕ) (a : Node) (r : ℕ) (known : Alone x a goal r) (ea : a ≡ node_at x.t (base_in x.test) at) (not-con : a.tag ≡ 0 → ⊥) (not-nt : a.tag ≡ 1 → ⊥) where
-  pub alone_no : r ≡ 1 → ChecksTerm x memo users at goal memo users false
-  alone_no e = record { keeps = keeps_all x memo users; yes = λ y. absurd (true≢false (sym y)); no = λ y w ready. known.no e w at ready.setting ea not-con not-nt }
-
-  pub alone_yes : r ≡ 2 → ChecksTerm x memo users at goal memo users true
-  alone_yes e = record { keeps = keeps_all x memo users; yes = λ y w ready. known.yes e w users at ready.setting ea not-con not-nt; no = λ y. absurd (true≢false y) }
+module _ (x : Case) (memo users : List ℕ) (at goal : ℕ) (a : Node) (b : Bool) (known : Alone x a goal (Some b)) (ea : a ≡ node_at x.t (base_in x.test) at) (not-con : a.tag ≡ 0 → ⊥) (not-nt : a.tag ≡ 1 → ⊥) where
+  pub alone_checked : ChecksTerm x memo users at goal memo users b
+  alone_checked =
+      record {
+        keeps = keeps_all x memo users;
+        yes = λ y w ready. known.yes (ap Some y) w users at ready.setting ea not-con not-nt;
+        no = λ y w ready. known.no (ap Some y) w at ready.setting ea not-con not-nt;
+      }

@@ -1,14 +1,16 @@
 -- The transition of a constructor whose type with arrows off is a goal: it is the one at the state in which the goal ends.
-use Prim.Native.Nat.{ℕ, zero, suc, ◌+◌, ◌-◌, ◌/◌, ◌%◌, ◌^◌, ◌<◌, ◌≤◌}
+use Prim.Native.Nat.{ℕ, zero, suc, ◌+◌, ◌-◌, ◌*◌, ◌/◌, ◌%◌, ◌^◌, ◌<◌, ◌≤◌, min}
 use native.Mathlib.Omega.{arith}
 use native.Mathlib.Decide.{dec_lt}
-use native.Mathlib.Nat.{not-suc-le-zero, div-one, div-div-eq-div-mul, le_of_suc-le-suc}
+use native.Mathlib.Nat.{not-suc-le-zero, div-div-eq-div-mul, le_of_suc-le-suc}
 use mathlib.Core.Path.{◌≡◌, refl, sym, ap, subst, ◌∙◌}
 use mathlib.Core.Logic.{◌⊎◌, inl, inr}
 use mathlib.Core.Bool.{Bool, true, false}
 use mathlib.Core.List.{List, [], ◌∷◌}
 use mathlib.Core.Option.{some}
 use lib.Bits.{bit_and}
+use Rattle.std.specs.Prelude.{Some, None}
+use Rattle.std.proofs.lemmas.Option.{none-some}
 use lib.ListN.{length, get_or, drop, length-drop}
 use lib.Pow.{pow-add}
 use lib.Seq.{get_or-drop}
@@ -16,7 +18,7 @@ use Rattle.scheme.specs.Types.{Ty, state, arrow, takes, final, off}
 use Rattle.scheme.proofs.Safety.{final_takes}
 use Rattle.casefile.specs.Records.{Record}
 use Rattle.casefile.specs.Tables.{transitions_of, targets_at}
-use Rattle.index.specs.layout.Layout.{max_states, max_constructors, no_targets_spec}
+use Rattle.index.specs.layout.Layout.{max_states, max_constructors}
 use Rattle.marks.specs.Marks.{bit_of}
 use Rattle.marks.proofs.Bits.{bit_two, bit_small, zero_bit, high_bit, and_bit, minus_bit}
 use Rattle.tables.specs.reading.Cells.{end_of, present_of_spec, arity_of_spec, targets_of_spec}
@@ -27,12 +29,17 @@ use Rattle.term_check.specs.heads.Heads.{Matches, IsTargets, Leaf}
 use Rattle.term_check.proofs.Goals.{goal_type, state_below}
 use Rattle.term_check.proofs.heads.Matching.{match_state, match_short}
 
--- the targets behind so many, and behind none
-pub behind_so : (n j k : ℕ) → k ≡ j → n / 16 ^ j ≡ n / 16 ^ k
-behind_so n j k e = ap (λ i. n / 16 ^ i) (sym e)
+-- the targets behind so many
+power_of : (k : ℕ) → k ≤ 4 → 2 ^ (4 * k) ≡ 16 ^ k
+power_of zero h = refl
+power_of (suc zero) h = refl
+power_of (suc (suc zero)) h = refl
+power_of (suc (suc (suc zero))) h = refl
+power_of (suc (suc (suc (suc zero)))) h = refl
+power_of (suc (suc (suc (suc (suc k))))) h = absurd (omega arith)
 
-pub behind_none : (n k : ℕ) → k ≡ 0 → n ≡ n / 16 ^ k
-behind_none n k e = sym (div-one n) ∙ behind_so n 0 k e
+pub behind_so : (n k m : ℕ) → m ≡ min k 4 → k ≤ 4 → n / 2 ^ (4 * m) ≡ n / 16 ^ k
+behind_so n k m e h = ap (λ i. n / 2 ^ (4 * i)) (let f : m ≡ k = omega arith in f) ∙ ap (λ i. n / i) (power_of k h)
 
 -- the type of a constructor with arrows off, in and out
 takes_off : (k : ℕ) (qs : List ℕ) (q : ℕ) → k ≤ length qs → off k (takes qs q) ≡ some (takes (drop k qs) q)
@@ -103,27 +110,27 @@ module _ {rs : List Record} {t : List ℕ} {c q : ℕ} {qs : List ℕ} (is : Tra
       ∙ ap (λ d. d / 16 ^ k % 16) (sym e)
 
 module _ (t : List ℕ) (c n goal : ℕ) where
-  none_built : ((rs : List Record) (σ : Ty) (q : ℕ) (qs : List ℕ) → AutomatonIs rs t → TypesAre rs t → Goal rs goal σ → Built rs t c n goal σ q qs → ⊥) → IsTargets t c n goal no_targets_spec
+  none_built : ((rs : List Record) (σ : Ty) (q : ℕ) (qs : List ℕ) → AutomatonIs rs t → TypesAre rs t → Goal rs goal σ → Built rs t c n goal σ q qs → ⊥) → IsTargets t c n goal None
   none_built h =
       record {
-        found = λ ne. absurd (ne refl);
+        found = λ targets e. absurd (none-some targets e);
         all = λ x w e s σ g q qs f o.
             let are = subst (TypesAre w.rs) e s.types in
             let moves = subst (AutomatonIs w.rs) e s.automaton in
             absurd (h w.rs σ q qs moves are g (built are moves c n goal σ g q qs f o));
       }
 
-  pub no_constructor : max_constructors ≤ c → IsTargets t c n goal no_targets_spec
+  pub no_constructor : max_constructors ≤ c → IsTargets t c n goal None
   no_constructor h = none_built (λ rs σ q qs moves are g b. let l = b.con_small in omega arith)
 
-  pub no_transition : (end present : ℕ) → EndsAt t goal end → present ≡ present_of_spec t c → bit_of (end % 16) present ≡ 0 → IsTargets t c n goal no_targets_spec
+  pub no_transition : (end present : ℕ) → EndsAt t goal end → present ≡ present_of_spec t c → bit_of (end % 16) present ≡ 0 → IsTargets t c n goal None
   no_transition end present e p z =
       none_built (λ rs σ q qs moves are g b.
       let same : bit_of (end % 16) present ≡ bit_of q (present_of_spec t c) = ap (λ j. bit_of (j % 16) present) (e rs are) ∙ ap (λ j. bit_of j present) b.at_end ∙ ap (bit_of q) p in
       let o = b.bit in
       omega arith)
 
-  pub too_few : (arity : ℕ) → arity ≡ arity_of_spec t c → arity < n → IsTargets t c n goal no_targets_spec
+  pub too_few : (arity : ℕ) → arity ≡ arity_of_spec t c → arity < n → IsTargets t c n goal None
   too_few arity e h = none_built (λ rs σ q qs moves are g b. let l = b.long in let a = b.row.arity in omega arith)
 
   module _ (end arity targets rest : ℕ) (r : Bool) (e : EndsAt t goal end) (a : arity ≡ arity_of_spec t c) (m : targets ≡ targets_of_spec t c (end % 16)) (behind : n ≤ 4 → rest ≡ targets / 16 ^ n) (matches : Matches t goal rest (arity - n) r) where
@@ -134,7 +141,7 @@ module _ (t : List ℕ) (c n goal : ℕ) where
         let long = is.arity in
         behind (omega arith) ∙ ap (λ j. j / 16 ^ n) (m ∙ ap (targets_of_spec t c) at-q)
 
-    pub no_match : r ≡ false → IsTargets t c n goal no_targets_spec
+    pub no_match : r ≡ false → IsTargets t c n goal None
     no_match f =
         none_built (λ rs σ q qs moves are g b.
         let at-q = ap (λ j. j % 16) (e rs are) ∙ b.at_end in
@@ -142,18 +149,18 @@ module _ (t : List ℕ) (c n goal : ℕ) where
         let digits = digits_behind b.row n rest (behind_is q qs moves b.con_small at-q b.long b.row) b.long in
         matches.no f (record { rs = rs; kept = []; τ = σ; ns = [] }) are σ g (drop n qs) q len (λ k l. digits k (let long = b.row.arity in omega arith)) b.rest)
 
-    pub match_found : targets < no_targets_spec → c < max_constructors → (present : ℕ) → present ≡ present_of_spec t c → (bit_of (end % 16) present ≡ 0 → ⊥) → n ≤ arity → r ≡ true → IsTargets t c n goal targets
-    match_found small hc present p bit l f =
+    pub match_found : c < max_constructors → (present : ℕ) → present ≡ present_of_spec t c → (bit_of (end % 16) present ≡ 0 → ⊥) → n ≤ arity → r ≡ true → IsTargets t c n goal (Some targets)
+    match_found hc present p bit l f =
         record {
-          found = λ ne x w e' s σ g. there w (subst (TypesAre w.rs) e' s.types) (subst (AutomatonIs w.rs) e' s.automaton) σ g;
+          found = λ other same x w e' s σ g. there w (subst (TypesAre w.rs) e' s.types) (subst (AutomatonIs w.rs) e' s.automaton) σ g;
           all = λ x w e' s σ g q qs i o. all_of w (subst (TypesAre w.rs) e' s.types) (subst (AutomatonIs w.rs) e' s.automaton) σ g q qs i o;
         }
       where
-        all_of : (w : World) → TypesAre w.rs t → AutomatonIs w.rs t → (σ : Ty) → Goal w.rs goal σ → (q : ℕ) (qs : List ℕ) → targets_at (transitions_of w.rs) q c ≡ some qs → off n (takes qs q) ≡ some σ → (targets ≡ no_targets_spec → ⊥) × Targets n targets qs
+        all_of : (w : World) → TypesAre w.rs t → AutomatonIs w.rs t → (σ : Ty) → Goal w.rs goal σ → (q : ℕ) (qs : List ℕ) → targets_at (transitions_of w.rs) q c ≡ some qs → off n (takes qs q) ≡ some σ → (found : ℕ) × (◌≡◌ (Some targets) (Some found)) × Targets n found qs
         all_of w are moves σ g q qs i o =
             let b = built are moves c n goal σ g q qs i o in
             let at-q = ap (λ j. j % 16) (e w.rs are) ∙ b.at_end in
-            ((λ z. omega arith), (b.long, λ k h. b.row.target k (let long = b.long in omega arith) ∙ ap (λ j. j / 16 ^ k % 16) (sym (m ∙ ap (targets_of_spec t c) at-q))))
+            (targets, refl, (b.long, λ k h. b.row.target k (let long = b.long in omega arith) ∙ ap (λ j. j / 16 ^ k % 16) (sym (m ∙ ap (targets_of_spec t c) at-q))))
 
         there : (w : World) → TypesAre w.rs t → AutomatonIs w.rs t → (σ : Ty) → Goal w.rs goal σ → (q : ℕ) × (qs : List ℕ) × (targets_at (transitions_of w.rs) q c ≡ some qs) × (off n (takes qs q) ≡ some σ)
         there w are moves σ g =
@@ -176,23 +183,23 @@ module _ (t : List ℕ) (c n q : ℕ) (low : q < max_states) where
   small : q % 16 ≡ q
   small = omega arith
 
-  pub state_missing : (present : ℕ) → present ≡ present_of_spec t c → bit_of q present ≡ 0 → IsTargets t c n q no_targets_spec
+  pub state_missing : (present : ℕ) → present ≡ present_of_spec t c → bit_of q present ≡ 0 → IsTargets t c n q None
   state_missing present p z = no_transition t c n q q present own_end p (ap (λ j. bit_of j present) small ∙ z)
 
-  pub state_partial : (arity : ℕ) → arity ≡ arity_of_spec t c → (arity ≡ n → ⊥) → IsTargets t c n q no_targets_spec
+  pub state_partial : (arity : ℕ) → arity ≡ arity_of_spec t c → (arity ≡ n → ⊥) → IsTargets t c n q None
   state_partial arity a d = go (dec_lt arity n)
     where
       targets : ℕ
       targets = targets_of_spec t c (q % 16)
 
-      go : Dec (arity < n) → IsTargets t c n q no_targets_spec
+      go : Dec (arity < n) → IsTargets t c n q None
       go (yes h) = too_few t c n q arity a h
       go (no h) = no_match t c n q q arity targets (targets / 16 ^ n) false own_end a refl (λ l. refl) (match_short t q (targets / 16 ^ n) (arity - n) (omega arith) low) refl
 
-  pub state_found : (arity targets present : ℕ) → c < max_constructors → present ≡ present_of_spec t c → (bit_of q present ≡ 0 → ⊥) → arity ≡ arity_of_spec t c → arity ≡ n → targets ≡ targets_of_spec t c q → targets < no_targets_spec → IsTargets t c n q targets
-  state_found arity targets present hc p bit a all m few =
+  pub state_found : (arity targets present : ℕ) → c < max_constructors → present ≡ present_of_spec t c → (bit_of q present ≡ 0 → ⊥) → arity ≡ arity_of_spec t c → arity ≡ n → targets ≡ targets_of_spec t c q → IsTargets t c n q (Some targets)
+  state_found arity targets present hc p bit a all m =
       match_found t c n q q arity targets (targets / 16 ^ n) true own_end a (m ∙ ap (targets_of_spec t c) (sym small)) (λ l. refl) (match_state t q (targets / 16 ^ n) (arity - n) (omega arith) low)
-      few hc present p (λ z. bit (ap (λ j. bit_of j present) (sym small) ∙ z)) (omega arith) refl
+      hc present p (λ z. bit (ap (λ j. bit_of j present) (sym small) ∙ z)) (omega arith) refl
 
 -- a constructor without arguments, and a set of states
 takes_none : (qs : List ℕ) (q : ℕ) → length qs ≡ 0 → takes qs q ≡ state q
@@ -200,16 +207,16 @@ unfolding takes
 takes_none [] q e = refl
 takes_none (p ∷ ps) q e = absurd (omega arith)
 
-leaf_targets : (t : List ℕ) (c q present arity : ℕ) → q < max_states → c < max_constructors → present ≡ present_of_spec t c → bit_of q present ≡ 1 → arity ≡ arity_of_spec t c → arity ≡ 0 → IsTargets t c 0 q 0
+leaf_targets : (t : List ℕ) (c q present arity : ℕ) → q < max_states → c < max_constructors → present ≡ present_of_spec t c → bit_of q present ≡ 1 → arity ≡ arity_of_spec t c → arity ≡ 0 → IsTargets t c 0 q (Some 0)
 unfolding off
 leaf_targets t c q present arity low hc ep b ea z =
     record {
-      found = λ ne x w e s σ g.
+      found = λ targets same x w e s σ g.
           let moves = subst (AutomatonIs w.rs) e s.automaton in
           let (qs, is) = moves.present q c low hc (ap (bit_of q) (sym ep) ∙ b) in
           let long = is.arity in
           (q, qs, is.there, ap some (takes_none qs q (omega arith) ∙ goal_type (of_state_law q low refl refl) g));
-      all = λ x w e s σ g p qs f o. ((λ n. omega arith), (omega arith, λ k h. absurd (omega arith)));
+      all = λ x w e s σ g p qs f o. (0, refl, (omega arith, λ k h. absurd (omega arith)));
     }
 
 module _ (t : List ℕ) (a : Node) (asked : ℕ) where

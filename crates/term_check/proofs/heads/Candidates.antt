@@ -3,18 +3,23 @@ use Prim.Native.Nat.{ℕ, ◌*◌, ◌%◌, ◌<◌, ◌≤◌}
 use native.Mathlib.Omega.{arith}
 use native.Mathlib.Nat.{mul-le-mul}
 use mathlib.Core.Path.{◌≡◌, refl, sym, ap, ap₂, subst, ◌∙◌}
-use mathlib.Core.Bool.{Bool, false}
+use mathlib.Core.Bool.{Bool, true, false}
 use mathlib.Core.List.{List}
 use lib.ListN.{get_or}
+use lib.Dec.{eqb}
+use borrow.Author.Tests.{eqb-true, eqb-false}
+use Rattle.std.specs.Prelude.{Option, Some, None}
+use Rattle.std.specs.Bool.{then_some}
+use Rattle.std.proofs.lemmas.Option.{none-some, same_Some}
 use Rattle.scheme.specs.Types.{Ty}
-use Rattle.index.specs.layout.Layout.{row_limit, words_limit, test_words, no_number}
+use Rattle.index.specs.layout.Layout.{row_limit, words_limit, test_words}
 use Rattle.marks.specs.Marks.{In, Decides}
 use Rattle.tables.specs.reading.Cells.{symbol_of, own_of, off_of}
 use Rattle.tables.specs.Facts.{Goal, binding_at}
 use Rattle.term_check.specs.notes.Notes.{words_in, total_in}
 use Rattle.term_check.specs.Worlds.{Case, World, Setting, total, symbols}
 use Rattle.term_check.specs.heads.Heads.{Leads, IsLeading, IsCandidate}
-use Rattle.term_check.proofs.Goals.{goal_below, goal_there, off_is, off_number}
+use Rattle.term_check.proofs.Goals.{goal_below, off_is, off_number}
 
 pub row_fits : (g k : ℕ) → g % row_limit * (k % words_limit) ≤ 128961
 row_fits g k = mul-le-mul {n₁ = g % row_limit} {m₁ = k % words_limit} {n₂ = 2047} {m₂ = 63} (omega arith) (omega arith)
@@ -24,43 +29,43 @@ pub in_set : (sets test : List ℕ) (goal c m : ℕ) → m ≡ get_or test test_
 in_set sets test goal c m e i = subst (λ k. In sets (goal % row_limit * (k % words_limit)) c) e i
 
 module _ (x : Case) (number n goal c : ℕ) where
-  missing : ((w : World) → Setting x w → (σ : Ty) → Goal w.rs goal σ → n < 256 → Leads w number n σ c → ⊥) → IsCandidate x number n goal c no_number
-  missing h = record { leads = λ ne. absurd (ne refl); owns = λ ne. absurd (ne refl); misses = λ e. h }
+  missing : ((w : World) → Setting x w → (σ : Ty) → Goal w.rs goal σ → n < 256 → Leads w number n σ c → ⊥) → IsCandidate x number n goal c None
+  missing h = record { leads = λ ty e. absurd (none-some ty e); owns = λ ty e. absurd (none-some ty e); misses = λ e. h }
 
   -- the place of the set of a goal's candidates
   place : (m : ℕ) → m ≡ get_or x.test test_words 0 → (w : World) → Setting x w → (σ : Ty) → Goal w.rs goal σ → goal % row_limit * (m % words_limit) ≡ goal * words_in x.test
   place m e w s σ g = let h = goal_below s.types g in ap₂ (λ a b. a * (b % words_limit)) (let i : goal % row_limit ≡ goal = omega arith in i) e
 
-  pub past_all : (m : ℕ) → m ≡ total_in x.test → m ≤ c → IsCandidate x number n goal c no_number
+  pub past_all : (m : ℕ) → m ≡ total_in x.test → m ≤ c → IsCandidate x number n goal c None
   past_all m e h = missing (λ w s σ g few l. let a = s.all_bindings_law in let i = l.inside in omega arith)
 
-  pub not_in_set : (m : ℕ) (b : Bool) → m ≡ get_or x.test test_words 0 → Decides x.sets (goal % row_limit * (m % words_limit)) c b → b ≡ false → IsCandidate x number n goal c no_number
+  pub not_in_set : (m : ℕ) (b : Bool) → m ≡ get_or x.test test_words 0 → Decides x.sets (goal % row_limit * (m % words_limit)) c b → b ≡ false → IsCandidate x number n goal c None
   not_in_set m b e d f = missing (λ w s σ g few l. d.no f (subst (λ a. In x.sets a c) (sym (place m e w s σ g)) (s.candidates.all_in c l.inside l.is_kept_law n goal σ few l.rest g)))
 
-  pub other_symbol : (f : ℕ) → f ≡ symbol_of x.t c → (f ≡ number → ⊥) → IsCandidate x number n goal c no_number
+  pub other_symbol : (f : ℕ) → f ≡ symbol_of x.t c → (f ≡ number → ⊥) → IsCandidate x number n goal c None
   other_symbol f e d = missing (λ w s σ g few l. d (e ∙ s.bindings.symbol c l.inside ∙ l.symbol))
 
   -- a binding that is in the set of the goal, and of which it is known that it is one of the nonterminal
-  pub candidate_is : (r : ℕ) → In x.sets (goal % row_limit * words_in x.test) c → ((w : World) → Setting x w → number < symbols w → (c < total w) × ((binding_at w.rs c).nonterminal ≡ number))
+  pub candidate_is : (r : Option ℕ) → In x.sets (goal % row_limit * words_in x.test) c → ((w : World) → Setting x w → number < symbols w → (c < total w) × ((binding_at w.rs c).nonterminal ≡ number))
       → IsLeading x.t n goal c r → IsCandidate x number n goal c r
   candidate_is r is-in stands leading =
       record {
-        leads = λ ne w s known σ g.
+        leads = λ ty is w s known σ g.
             let (inside, symbol) = stands w s known in
             record {
               inside = inside;
               is_kept_law = s.candidates.kept_only c goal inside (goal_below s.types g) (subst (λ a. In x.sets a c) (place (get_or x.test test_words 0) refl w s σ g) is-in);
               symbol = symbol;
-              rest = off_is s.types n r goal (binding_at w.rs c).type σ (owns ne w s inside) g (leading.leads ne).1;
+              rest = off_is s.types n ty goal (binding_at w.rs c).type σ (owns ty is w s inside) g (leading.leads ty is).1;
             };
         owns = owns;
         misses = λ z w s σ g few l.
             let own = s.bindings.own c l.inside in
-            leading.misses z (goal_there s.types own) (off_number s.types n (own_of x.t c) goal (binding_at w.rs c).type σ own g l.rest);
+            leading.misses z (off_number s.types n (own_of x.t c) goal (binding_at w.rs c).type σ own g l.rest);
       }
     where
-      owns : (r ≡ no_number → ⊥) → (w : World) → Setting x w → c < total w → Goal w.rs r (binding_at w.rs c).type
-      owns ne w s inside = subst (λ j. Goal w.rs j (binding_at w.rs c).type) (sym (leading.leads ne).0) (s.bindings.own c inside)
+      owns : (ty : ℕ) → r ≡ Some ty → (w : World) → Setting x w → c < total w → Goal w.rs ty (binding_at w.rs c).type
+      owns ty is w s inside = subst (λ j. Goal w.rs j (binding_at w.rs c).type) (sym (leading.leads ty is).0) (s.bindings.own c inside)
 
 -- a binding is below all, and has the nonterminal
 pub stands_by : (x : Case) (number c m f : ℕ) → m ≡ total_in x.test → c < m → f ≡ symbol_of x.t c → f ≡ number → (w : World) → Setting x w → number < symbols w → (c < total w) × ((binding_at w.rs c).nonterminal ≡ number)
@@ -68,8 +73,15 @@ stands_by x number c m f all h fs fn w s known = let a = s.all_bindings_law in l
 
 -- the type of a binding, by the table
 module _ (t : List ℕ) (n goal c ty r : ℕ) (own : ty ≡ own_of t c) (o : r ≡ off_of t n ty) where
-  pub leading_not : (r ≡ goal → ⊥) → IsLeading t n goal c no_number
-  leading_not d = record { leads = λ ne. absurd (ne refl); misses = λ z there e. d (o ∙ ap (off_of t n) own ∙ e) }
+  leading_not : (r ≡ goal → ⊥) → IsLeading t n goal c None
+  leading_not d = record { leads = λ other e. absurd (none-some other e); misses = λ z e. d (o ∙ ap (off_of t n) own ∙ e) }
 
-  pub leading_is : r ≡ goal → IsLeading t n goal c ty
-  leading_is e = record { leads = λ ne. (own, sym o ∙ e); misses = λ z there h. there (sym own ∙ z) }
+  leading_is : r ≡ goal → IsLeading t n goal c (Some ty)
+  leading_is e = record { leads = λ other f. let same = sym (same_Some ty other f) in (same ∙ own, ap (off_of t n) same ∙ sym o ∙ e); misses = λ z. absurd (none-some ty (sym z)) }
+
+  pub leading_where : (found : Option ℕ) → found ≡ then_some (eqb r goal) ty → IsLeading t n goal c found
+  leading_where found e = subst (IsLeading t n goal c) (sym e) (go (eqb r goal) refl)
+    where
+      go : (b : Bool) → eqb r goal ≡ b → IsLeading t n goal c (then_some b ty)
+      go true f = leading_is (eqb-true r goal f)
+      go false f = leading_not (eqb-false r goal f)

@@ -6,10 +6,12 @@ use mathlib.Core.Logic.{◌⊎◌, inl, inr}
 use mathlib.Core.Bool.{Bool, true, false, true≢false}
 use mathlib.Core.List.{List, [], Memᴰ}
 use mathlib.Core.Option.{some}
-use borrow.Author.Tests.{eqb-true}
+use borrow.Author.Tests.{eqb-true, eqb-false}
 use lib.Bits.{bit_and, and_comm, and_mask}
 use lib.Dec.{eqb}
 use lib.ListN.{length}
+use Rattle.std.specs.Prelude.{Some}
+use Rattle.std.proofs.lemmas.Option.{same_Some}
 use Rattle.scheme.specs.Terms.{par, Term, node, []ᵗ, countᵗ}
 use Rattle.scheme.specs.Types.{Ty, state, arrow, Tys, members, off}
 use Rattle.index.specs.layout.Layout.{max_states, no_number}
@@ -38,13 +40,6 @@ all_bit q all n h e l o =
     omega arith
 
 module _ (x : Case) (memo : List ℕ) (i : ℕ) (r : Outlook) where
-  pub seen_nothing : r.had ≡ 0 → r.lacked ≡ 0 → Seen x memo i r
-  seen_nothing a b =
-      record {
-        yes = λ w users ready q h e. let z = ap (bit_of q) a in let n = zero_bit q in absurd (omega arith);
-        no = λ w users ready q h e. let z = ap (bit_of q) b in let n = zero_bit q in absurd (omega arith);
-      }
-
   pub seen_memo : (wide stamp : ℕ) → wide ≡ wide_in x.test → stamp ≡ stamp_in x.test → Looks memo wide stamp i 0 r → Seen x memo i r
   seen_memo wide stamp ew es l =
       record {
@@ -112,25 +107,15 @@ module _ (x : Case) (memo : List ℕ) (i : ℕ) (r : Outlook) where
 
 -- a parameter alone and a state
 module _ (x : Case) (nd : Node) (goal : ℕ) where
-  pub alone_other : (r : ℕ) → r ≡ 0 → Alone x nd goal r
-  alone_other r z = record { yes = λ e. absurd (omega arith); no = λ e. absurd (omega arith) }
-
   module _ (own given had : ℕ) (none : nd.count ≡ 0) (low : goal < max_states) (eo : own ≡ own_in_spec x.test) (eg : given ≡ off_of x.t nd.number own) (there : given ≡ no_number → ⊥) (big : max_states ≤ given) (eh : had ≡ states_of_spec x.t given) where
     nothing : Outlook
     nothing = record { had = 0; lacked = 0 }
 
-    pub alone_lacks : bit_of goal had ≡ 0 → Alone x nd goal 1
-    alone_lacks z =
+    pub alone_known : Alone x nd goal (Some (eqb (bit_of goal had) 1))
+    alone_known =
         record {
-          yes = λ e. absurd (omega arith);
-          no = λ e w i s f not-con not-nt u at_i σ g c. lacks_it x [] i nothing own given had nd f not-con not-nt none eo eg there big eh w s goal low (λ o. omega arith) u at_i σ g c;
-        }
-
-    pub alone_has : (bit_of goal had ≡ 0 → ⊥) → Alone x nd goal 2
-    alone_has d =
-        record {
-          yes = λ e w users i s f not-con not-nt flags inc u at_i σ g. has_it x [] i nothing own given had nd f not-con not-nt none eo eg there big eh w s goal low (let k = bit_small goal had in omega arith) flags u at_i σ g;
-          no = λ e. absurd (omega arith);
+          yes = λ e w users i s f not-con not-nt flags inc u at_i σ g. has_it x [] i nothing own given had nd f not-con not-nt none eo eg there big eh w s goal low (eqb-true (bit_of goal had) 1 (same_Some _ _ e)) flags u at_i σ g;
+          no = λ e w i s f not-con not-nt u at_i σ g c. lacks_it x [] i nothing own given had nd f not-con not-nt none eo eg there big eh w s goal low (eqb-false (bit_of goal had) 1 (same_Some _ _ e)) u at_i σ g c;
         }
 
 -- all members of an arrow, where they stand in one cell and are known to be had

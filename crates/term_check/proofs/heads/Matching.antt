@@ -110,9 +110,9 @@ module _ (t : List ℕ) (g rest i : ℕ) where
       }
 
   -- the first target is the member of the goal, and the others are asked of its result
-  pub match_next : (n p h : ℕ) (r : Bool) → 0 < i → n ≡ many_of_spec t g → n ≡ 1 → p ≡ member_of_spec t g 0 → p ≡ rest % 16 → h ≡ result_of t g → Matches t h (rest / 16) (i - 1) r → Matches t g rest i r
+  pub match_next : (n p h j : ℕ) (r : Bool) → j ≡ i - 1 → 0 < i → n ≡ many_of_spec t g → n ≡ 1 → p ≡ member_of_spec t g 0 → p ≡ rest % 16 → h ≡ result_of t g → Matches t h (rest / 16) j r → Matches t g rest i r
   unfolding takes final
-  match_next n p h r some en many ep member is m =
+  match_next n p h j r next some en many ep member is m =
       record {
         yes = λ e w are σ x ps q l digits f. go_yes e w are σ x ps q l digits f;
         no = λ e w are σ x ps q l digits f. go_no e w are σ x ps q l digits f;

@@ -5,40 +5,16 @@ use native.Mathlib.Decide.{dec_lt}
 use native.Mathlib.Nat.{mul-le-mul}
 use mathlib.Core.Path.{◌≡◌, refl, sym, ap, subst, ◌∙◌}
 use mathlib.Core.List.{List}
-use lib.Bits.{bit_or}
-use lib.ListN.{length, get_or, take, drop, set, length-set, get_or-eq_default}
-use lib.Seq.{get_or-drop, get_or-take, get_or-set_same, drop-set-lt}
+use lib.ListN.{length, get_or, take, drop, get_or-eq_default}
+use lib.Seq.{get_or-drop, get_or-take}
 use mir.Syntax.{w32, w64}
 use mir.Val.{Fits}
 use Rattle.index.specs.layout.Layout.{max_bindings, word_bits, words_limit, test_users, test_answers}
 use Rattle.marks.specs.Marks.{bit_of}
-use Rattle.marks.proofs.Bits.{zero_bit, shifted}
-use Rattle.marks.proofs.Sets.{put_same, put_grows, stored}
+use Rattle.marks.proofs.Bits.{zero_bit}
 use Rattle.term_check.specs.notes.Notes.{owner_in, words_in, total_in, column_of, brief_of, Noted, Notes}
 use Rattle.term_check.specs.Worlds.{split_at, from_in, answers_of, users_of, PutsBelow}
 use Rattle.term_check.proofs.parts.Parting.{from_same, answers_same, length_users, same_lengths}
-
--- a bit put into a word below an end
-pub puts_one : (w : List ℕ) (end i k : ℕ) → end ≤ length w → i < end → PutsBelow w end i k (set w i (bit_or (get_or w i 0) (shifted (k % word_bits))))
-puts_one w end i k h l =
-    record {
-      long = length-set w i v;
-      behind = drop-set-lt end w i v l;
-      grows = λ j b s. stored Grows w i v room (put_grows (get_or w i 0) (k % word_bits) small) (λ x b e. e) j b;
-      put = λ s. ap (bit_of (k % word_bits)) (get_or-set_same w i v 0 room) ∙ put_same (get_or w i 0) (k % word_bits) small;
-    }
-  where
-    v : ℕ
-    v = bit_or (get_or w i 0) (shifted (k % word_bits))
-
-    room : i < length w
-    room = omega arith
-
-    small : k % word_bits < word_bits
-    small = omega arith
-
-    Grows : ℕ → ℕ → Type 0
-    Grows j x = (b : ℕ) → bit_of b (get_or w j 0) ≡ 1 → bit_of b x ≡ 1
 
 -- a number of 32 bits has 64
 pub wider : {n : ℕ} → Fits w32 n → Fits w64 n

@@ -13,23 +13,6 @@ use Rattle.term_check.specs.Worlds.{split_at, from_in, answers_of, users_of}
 
 -- where the parts begin
 module _ (r w : List ℕ) where
-  pub split_short : (n : ℕ) → n ≡ get_or r test_answers 0 → length w < n → (length w ≡ split_at r w) × (length w ≤ length w)
-  unfolding split_at
-  split_short n e h = (omega arith, omega arith)
-
-  pub split_here : (n : ℕ) → n ≡ get_or r test_answers 0 → n ≤ length w → (n ≡ split_at r w) × (n ≤ length w)
-  unfolding split_at
-  split_here n e h = (omega arith, h)
-
-  module _ (s n : ℕ) (es : s ≡ split_at r w) (hs : s ≤ length w) (en : n ≡ get_or r test_users 0) where
-    pub from_short : s < n → (s ≡ from_in r w) × (s ≤ length w)
-    unfolding from_in
-    from_short h = (omega arith, hs)
-
-    pub from_here : n ≤ s → (n ≡ from_in r w) × (n ≤ length w)
-    unfolding from_in
-    from_here h = (omega arith, omega arith)
-
   pub from_split : from_in r w ≤ split_at r w
   unfolding from_in
   from_split = omega arith

@@ -1,18 +1,18 @@
 -- What our own crates promise each other; nothing here has to be believed.
 -- The types of a head against a goal, and what is known of an argument without a check.
-use Rattle.std.specs.Prelude.{ℕ, suc, ◌/◌, ◌%◌, ◌^◌, ◌<◌, ◌≡◌, Bool, true, false, List, length, get_or}
+use Rattle.std.specs.Prelude.{ℕ, suc, ◌/◌, ◌%◌, ◌^◌, ◌<◌, ◌≡◌, Bool, true, false, Option, Some, None, List, length, get_or}
 use Rattle.std.proofs.Math.Option.{some}
 use Rattle.scheme.specs.Terms.{Terms, countᵗ}
 use Rattle.scheme.specs.Types.{Ty, state, arrow, Tys, members, takes, final, off}
 use Rattle.scheme.specs.Flags.{is_kept}
 use Rattle.casefile.specs.Tables.{transitions_of, targets_at}
-use Rattle.index.specs.layout.Layout.{max_states, no_number, no_targets_spec, word_bits}
+use Rattle.index.specs.layout.Layout.{max_states, no_number, word_bits}
 use Rattle.marks.specs.Marks.{bit_of}
 use Rattle.tables.specs.reading.Cells.{member_of_spec, node_at, own_of, off_of}
 use Rattle.tables.specs.declared.reading.Node.{Node}
 use Rattle.tables.specs.Facts.{Goal, AllAt, TypesAre, binding_at}
 use Rattle.answers.specs.declared.Outlook.{Outlook}
-use Rattle.term_check.specs.notes.Notes.{base_in}
+use Rattle.term_check.specs.notes.Notes.{own_in_spec, base_in}
 use Rattle.term_check.specs.Worlds.{Args, Case, World, Has, Setting, Ready, Tells, Yes, No, ArgsYes, Targets, total, symbols}
 
 -- binding c is kept, it is one of a nonterminal, and its type with arrows off is σ
@@ -32,38 +32,43 @@ abbrev pub Tries : Case → List ℕ → List ℕ → ℕ → ℕ → Node → �
 Tries x memo users at goal a c memo' users' r =
     a ≡ node_at x.t (base_in x.test) at → a.tag ≡ 1 → Tells x memo users memo' users' (λ w. Yes x w users' at goal) (λ w. Fails w at goal a c) r
 
+-- r is the type of a parameter of the binding under test, as a goal, by the table: it has the types that are given for the parameter
+abbrev pub IsGiven : Case → ℕ → Option ℕ → Type 0
+IsGiven x number None = off_of x.t number (own_in_spec x.test) ≡ no_number
+IsGiven x number (Some given) = (given ≡ off_of x.t number (own_in_spec x.test)) × (given ≡ no_number → ⊥)
+
 -- r is the type of binding c where it is a goal with arrows off, by the table
-pub record IsLeading (t : List ℕ) (n goal c r : ℕ) : Type 0 where
-  pub leads : (r ≡ no_number → ⊥) → (r ≡ own_of t c) × (off_of t n r ≡ goal)
-  pub misses : r ≡ no_number → (own_of t c ≡ no_number → ⊥) → off_of t n (own_of t c) ≡ goal → ⊥
+pub record IsLeading (t : List ℕ) (n goal c : ℕ) (r : Option ℕ) : Type 0 where
+  pub leads : (ty : ℕ) → r ≡ Some ty → (ty ≡ own_of t c) × (off_of t n ty ≡ goal)
+  pub misses : r ≡ None → off_of t n (own_of t c) ≡ goal → ⊥
 
 -- r is the type of binding c where it is one of a nonterminal of the file that leads to a goal
-pub record IsCandidate (x : Case) (number n goal c r : ℕ) : Type 0 where
-  pub leads : (r ≡ no_number → ⊥) → (w : World) → Setting x w → number < symbols w → (σ : Ty) → Goal w.rs goal σ → Leads w number n σ c
-  pub owns : (r ≡ no_number → ⊥) → (w : World) → Setting x w → c < total w → Goal w.rs r (binding_at w.rs c).type
-  pub misses : r ≡ no_number → (w : World) → Setting x w → (σ : Ty) → Goal w.rs goal σ → n < 256 → Leads w number n σ c → ⊥
+pub record IsCandidate (x : Case) (number n goal c : ℕ) (r : Option ℕ) : Type 0 where
+  pub leads : (ty : ℕ) → r ≡ Some ty → (w : World) → Setting x w → number < symbols w → (σ : Ty) → Goal w.rs goal σ → Leads w number n σ c
+  pub owns : (ty : ℕ) → r ≡ Some ty → (w : World) → Setting x w → c < total w → Goal w.rs ty (binding_at w.rs c).type
+  pub misses : r ≡ None → (w : World) → Setting x w → (σ : Ty) → Goal w.rs goal σ → n < 256 → Leads w number n σ c → ⊥
 
 -- r says whether a goal takes targets, so many that are packed in a number, to a state
 pub record Matches (t : List ℕ) (goal targets left : ℕ) (r : Bool) : Type 0 where
   pub yes : r ≡ true → (w : World) → TypesAre w.rs t → (σ : Ty) → Goal w.rs goal σ → (ps : List ℕ) (q : ℕ) → length ps ≡ left → ((k : ℕ) → k < left → get_or ps k 0 ≡ targets / 16 ^ k % 16) → final σ ≡ state q → σ ≡ takes ps q
   pub no : r ≡ false → (w : World) → TypesAre w.rs t → (σ : Ty) → Goal w.rs goal σ → (ps : List ℕ) (q : ℕ) → length ps ≡ left → ((k : ℕ) → k < left → get_or ps k 0 ≡ targets / 16 ^ k % 16) → σ ≡ takes ps q → ⊥
 
--- r has the targets of the transition of constructor c whose type with arrows off is a goal; 65,536 where there is none
-pub record IsTargets (t : List ℕ) (c n goal r : ℕ) : Type 0 where
-  pub found : (r ≡ no_targets_spec → ⊥) → (x : Case) (w : World) → x.t ≡ t → Setting x w → (σ : Ty) → Goal w.rs goal σ
+-- r has the targets of the transition of constructor c whose type with arrows off is a goal; None where there is none
+pub record IsTargets (t : List ℕ) (c n goal : ℕ) (r : Option ℕ) : Type 0 where
+  pub found : (targets : ℕ) → r ≡ Some targets → (x : Case) (w : World) → x.t ≡ t → Setting x w → (σ : Ty) → Goal w.rs goal σ
       → (q : ℕ) × (qs : List ℕ) × (targets_at (transitions_of w.rs) q c ≡ some qs) × (off n (takes qs q) ≡ some σ)
-  pub all : (x : Case) (w : World) → x.t ≡ t → Setting x w → (σ : Ty) → Goal w.rs goal σ → (q : ℕ) (qs : List ℕ) → targets_at (transitions_of w.rs) q c ≡ some qs → off n (takes qs q) ≡ some σ → (r ≡ no_targets_spec → ⊥) × Targets n r qs
+  pub all : (x : Case) (w : World) → x.t ≡ t → Setting x w → (σ : Ty) → Goal w.rs goal σ → (q : ℕ) (qs : List ℕ) → targets_at (transitions_of w.rs) q c ≡ some qs → off n (takes qs q) ≡ some σ → (targets : ℕ) × (r ≡ Some targets) × Targets n targets qs
 
 -- of the states of a set, as bits, those at which a node with a constructor in front and no argument has a transition, and those at which
 -- it has none
 pub record Leaf (t : List ℕ) (a : Node) (asked : ℕ) (r : Outlook) : Type 0 where
-  pub had : (q : ℕ) → bit_of q r.had ≡ 1 → (a.count ≡ 0) × IsTargets t a.number 0 q 0
-  pub lacked : (q : ℕ) → bit_of q r.lacked ≡ 1 → (bit_of q asked ≡ 1) × IsTargets t a.number a.count q no_targets_spec
+  pub had : (q : ℕ) → bit_of q r.had ≡ 1 → (a.count ≡ 0) × IsTargets t a.number 0 q (Some 0)
+  pub lacked : (q : ℕ) → bit_of q r.lacked ≡ 1 → (bit_of q asked ≡ 1) × IsTargets t a.number a.count q None
 
--- r is 2 where a node, which has no constructor and no nonterminal in front, stands alone and has a goal, 1 where it lacks it
-pub record Alone (x : Case) (a : Node) (goal r : ℕ) : Type 0 where
-  pub yes : r ≡ 2 → (w : World) (users : List ℕ) (i : ℕ) → Setting x w → a ≡ node_at x.t (base_in x.test) i → (a.tag ≡ 0 → ⊥) → (a.tag ≡ 1 → ⊥) → Yes x w users i goal
-  pub no : r ≡ 1 → (w : World) (i : ℕ) → Setting x w → a ≡ node_at x.t (base_in x.test) i → (a.tag ≡ 0 → ⊥) → (a.tag ≡ 1 → ⊥) → No x w i goal
+-- where r is known, it says whether a node, which has no constructor and no nonterminal in front, stands alone and has a goal
+pub record Alone (x : Case) (a : Node) (goal : ℕ) (r : Option Bool) : Type 0 where
+  pub yes : r ≡ Some true → (w : World) (users : List ℕ) (i : ℕ) → Setting x w → a ≡ node_at x.t (base_in x.test) i → (a.tag ≡ 0 → ⊥) → (a.tag ≡ 1 → ⊥) → Yes x w users i goal
+  pub no : r ≡ Some false → (w : World) (i : ℕ) → Setting x w → a ≡ node_at x.t (base_in x.test) i → (a.tag ≡ 0 → ⊥) → (a.tag ≡ 1 → ⊥) → No x w i goal
 
 -- the bits of r are states that the term at a node has, and states that it lacks
 pub record Seen (x : Case) (memo : List ℕ) (i : ℕ) (r : Outlook) : Type 0 where
@@ -79,6 +84,6 @@ pub record ArgsKnown (x : Case) (memo : List ℕ) (first n g : ℕ) (r : Bool) :
   pub have : r ≡ true → (w : World) (users : List ℕ) → Ready x w memo users → ArgsYes x w users first n g
 
 -- r is the goal that a type becomes with arrows off, where it is one of a set, as bits
-pub record Wanted (t : List ℕ) (goals ty n r : ℕ) : Type 0 where
-  pub leads : (r ≡ no_number → ⊥) → (r < word_bits) × (bit_of r goals ≡ 1) × (r ≡ off_of t n ty)
-  pub misses : r ≡ no_number → (g : ℕ) → bit_of g goals ≡ 1 → off_of t n ty ≡ g → ⊥
+pub record Wanted (t : List ℕ) (goals ty n : ℕ) (r : Option ℕ) : Type 0 where
+  pub leads : (g : ℕ) → r ≡ Some g → (g < word_bits) × (bit_of g goals ≡ 1) × (g ≡ off_of t n ty)
+  pub misses : r ≡ None → (g : ℕ) → bit_of g goals ≡ 1 → off_of t n ty ≡ g → ⊥

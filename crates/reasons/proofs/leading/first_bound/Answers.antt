@@ -1,15 +1,12 @@
 -- `first_bound` meets its contract. The invariant: the bindings of the nonterminal that are passed do not lead to the goal.
-use Prim.Native.Nat.{◌-◌, ◌+◌, ◌*◌, ◌%◌, ◌≤◌}
+use Prim.Native.Nat.{◌*◌, ◌%◌}
 use native.Mathlib.Omega.{arith}
-use mathlib.Core.Path.{◌≡◌, refl, sym, ap, ◌∙◌}
+use mathlib.Core.Path.{refl, ap}
 use Rattle.index.specs.layout.Layout.{row_limit, words_limit, test_cells}
-use Rattle.tables.specs.reading.Cells.{group_of}
-use Rattle.term_check.specs.Worlds.{case_of}
 use Rattle.term_check.proofs.heads.Candidates.{row_fits}
 use Rattle.term_check.proofs.heads.Sets.{next_behind_sets}
 use Rattle.term_check.proofs.check.Bound.{next_behind}
-use Rattle.reasons.proofs.leading.Bound.{Passed, passed_start, passed_to, passed_end, passed_more, passed_leads}
-use borrow.Author.Rules.{rules}
+use Rattle.reasons.proofs.leading.Bound.{passed_start, passed_to, passed_end, passed_more, passed_leads}
 use Rattle.reasons.proofs.leading.first_bound.Goals as goal
 
 pub overflow_mul-row : goal.overflow_mul-row
@@ -27,14 +24,14 @@ overflow_add-from c = omega (arith, c.next_in-c.ensures.within, c.group_of-high.
 pub returns-then-high-c : goal.returns-then-high-c
 returns-then-high-c c = λ et. passed_end _ _ _ (passed_to _ _ _ c.loop-from.invariant.1 _ _ _ (ap (λ k. c.args.goal % row_limit * (k % words_limit)) c.number_in.ensures.0) (next_behind_sets _ test_cells _ _ _ _ c.next_in-c.ensures)) et _ c.group_of-high.ensures.0 c.if-high-c.true
 
-pub returns-then-ty-ne-NONE : goal.returns-then-ty-ne-NONE
-returns-then-ty-ne-NONE c = λ et. passed_leads _ _ _ c.loop-from.invariant.1 c.loop-from.invariant.0 _ _ _ _ c.number_in.ensures.0 (next_behind_sets _ test_cells _ _ _ _ c.next_in-c.ensures) c.if-high-c.false c.group_of-high.ensures.0 c.leading-ty.ensures et c.if-ty-ne-NONE.true
+pub returns-in-Some : goal.returns-in-Some
+returns-in-Some c = λ et. passed_leads _ _ _ c.loop-from.invariant.1 c.loop-from.invariant.0 _ _ _ _ c.number_in.ensures.0 (next_behind_sets _ test_cells _ _ _ _ c.next_in-c.ensures) c.if-high-c.false c.group_of-high.ensures.0 c.in-Some.ensures et _ refl
 
 pub loop-from-smaller : goal.loop-from-smaller
 loop-from-smaller c = let h = c.loop-from-test.true in let b = next_behind _ _ _ _ _ c.next_in-c.ensures (omega arith) in omega arith
 
 pub loop-from-preserved : goal.loop-from-preserved
-loop-from-preserved c = ((let l = c.loop-from.invariant.0 in let h = c.loop-from-test.true in let b = next_behind _ _ _ _ _ c.next_in-c.ensures (omega arith) in omega arith), passed_more _ _ _ c.loop-from.invariant.1 c.loop-from.invariant.0 _ _ _ _ c.number_in.ensures.0 (next_behind_sets _ test_cells _ _ _ _ c.next_in-c.ensures) c.if-high-c.false c.group_of-high.ensures.0 c.leading-ty.ensures c.if-ty-ne-NONE.false _ (omega arith))
+loop-from-preserved c = ((let l = c.loop-from.invariant.0 in let h = c.loop-from-test.true in let b = next_behind _ _ _ _ _ c.next_in-c.ensures (omega arith) in omega arith), passed_more _ _ _ c.loop-from.invariant.1 c.loop-from.invariant.0 _ _ _ _ c.number_in.ensures.0 (next_behind_sets _ test_cells _ _ _ _ c.next_in-c.ensures) c.if-high-c.false c.group_of-high.ensures.0 c.in_default.ensures refl _ (omega arith))
 
 pub returns : goal.returns
 returns c = λ et. passed_end _ _ _ c.loop-from.invariant.1 et _ c.group_of-high.ensures.0 c.loop-from-test.false

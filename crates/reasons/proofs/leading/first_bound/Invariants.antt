@@ -1,15 +1,8 @@
 -- `first_bound` meets its contract. The invariant: the bindings of the nonterminal that are passed do not lead to the goal.
-use Prim.Native.Nat.{◌-◌, ◌+◌, ◌*◌, ◌%◌, ◌≤◌}
-use native.Mathlib.Omega.{arith}
-use mathlib.Core.Path.{◌≡◌, refl, sym, ap, ◌∙◌}
-use Rattle.index.specs.layout.Layout.{row_limit, words_limit, test_cells}
+use Prim.Native.Nat.{◌-◌, ◌≤◌}
 use Rattle.tables.specs.reading.Cells.{group_of}
 use Rattle.term_check.specs.Worlds.{case_of}
-use Rattle.term_check.proofs.heads.Candidates.{row_fits}
-use Rattle.term_check.proofs.heads.Sets.{next_behind_sets}
-use Rattle.term_check.proofs.check.Bound.{next_behind}
-use Rattle.reasons.proofs.leading.Bound.{Passed, passed_start, passed_to, passed_end, passed_more, passed_leads}
-use borrow.Author.Rules.{rules}
+use Rattle.reasons.proofs.leading.Bound.{Passed}
 use Rattle.reasons.proofs.leading.first_bound.Given as goal
 
 abbrev pub invariant-loop-from : goal.invariant-loop-from

@@ -1,5 +1,4 @@
 -- `leading_type` meets its contract.
-use borrow.Author.Rules.{rules}
 use Rattle.reasons.proofs.leading.leading_type.Goals as goal
 
 pub returns-then-node-eq1 : goal.returns-then-node-eq1

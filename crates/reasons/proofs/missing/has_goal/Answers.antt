@@ -1,9 +1,7 @@
 -- `has_goal` meets its contract.
 use mathlib.Core.Path.{refl, ◌∙◌}
-use borrow.Author.Tests.{not-true, not-false}
 use Rattle.term_check.proofs.check.Learning.{learned_no, learned_yes}
 use Rattle.reasons.proofs.missing.Asking.{known_no, known_yes, term_moved}
-use borrow.Author.Rules.{rules}
 use Rattle.reasons.proofs.missing.has_goal.Goals as goal
 
 pub returns-then-has_bit : goal.returns-then-has_bit

@@ -1,13 +1,8 @@
 -- `missing_member` meets its contract. The invariant: the members before number j are had.
-use Prim.Native.Nat.{◌-◌, ◌≤◌}
 use native.Mathlib.Omega.{arith}
-use mathlib.Core.Path.{◌≡◌, refl, ◌∙◌}
-use lib.ListN.{length}
-use borrow.Author.Tests.{not-true, not-false}
-use Rattle.term_check.specs.Worlds.{case_of, answers_of, users_of}
-use Rattle.term_check.proofs.check.Members.{Asked, asked_start}
+use mathlib.Core.Path.{refl, ◌∙◌}
+use Rattle.term_check.proofs.check.Members.{asked_start}
 use Rattle.reasons.proofs.missing.Asking.{members_had, member_had, member_lacked}
-use borrow.Author.Rules.{rules}
 use Rattle.reasons.proofs.missing.missing_member.Goals as goal
 
 pub loop-j-init : goal.loop-j-init
@@ -18,12 +13,6 @@ shape_of-w-then-not-has_goal c = c.has_goal.ensures.0 ∙ c.loop-j.invariant.0
 
 pub returns-then-not-has_goal : goal.returns-then-not-has_goal
 returns-then-not-has_goal c = (c.has_goal.ensures.0 ∙ c.loop-j.invariant.0, member_lacked _ _ _ _ _ c.loop-j.invariant.1 _ c.many_of-many.ensures.0 c.loop-j-test.true _ c.member_of-goal.ensures.0 _ _ _ c.has_goal.ensures.1 c.if-not-has_goal.true)
-
-pub overflow_add-j : goal.overflow_add-j
-overflow_add-j c = let h = c.loop-j-test.true in let m = c.many_of-many.ensures.1 in omega arith
-
-pub loop-j-smaller : goal.loop-j-smaller
-loop-j-smaller c = let h = c.loop-j-test.true in omega arith
 
 pub loop-j-preserved : goal.loop-j-preserved
 loop-j-preserved c = (c.has_goal.ensures.0 ∙ c.loop-j.invariant.0, member_had _ _ _ _ _ c.loop-j.invariant.1 _ c.many_of-many.ensures.0 c.loop-j-test.true _ c.member_of-goal.ensures.0 _ _ _ c.has_goal.ensures.1 c.if-not-has_goal.false _ (omega arith))

@@ -1,33 +1,25 @@
 -- The check of a term and of its arguments meet their contracts. The remaining nodes fall, then what is asked of a node.
-use Prim.Native.Nat.{◌-◌, ◌*◌, ◌+◌, ◌%◌, ◌≤◌}
-use mathlib.Core.Path.{◌≡◌, refl, sym, ap, ◌∙◌}
-use mathlib.Core.Bool.{Bool}
-use mathlib.Core.List.{List}
-use lib.ListN.{length}
+use Prim.Native.Nat.{◌*◌, ◌+◌, ◌%◌}
+use mathlib.Core.Path.{refl, sym, ap, ◌∙◌}
 use native.Mathlib.Omega.{arith}
-use borrow.Author.Rules.{rules}
-use borrow.Author.Tests.{not-true, not-false}
+use native.Mathlib.Numerals.{unary_clauses}
 use Rattle.index.specs.layout.Layout.{row_limit, words_limit, test_cells}
-use Rattle.tables.specs.reading.Cells.{off_of, group_of, node_at}
-use Rattle.term_check.specs.notes.Notes.{base_in}
-use Rattle.term_check.specs.Worlds.{case_of, answers_of, users_of, ChecksArgs, ChecksTargets, Finds}
+use Rattle.term_check.specs.Worlds.{case_of, answers_of, users_of, Keeps}
 use Rattle.term_check.proofs.heads.Candidates.{row_fits}
 use Rattle.term_check.proofs.heads.Sets.{next_behind_sets}
-use Rattle.term_check.proofs.check.Keeping.{node_by, next_by, tells_on}
+use Rattle.term_check.proofs.check.Keeping.{node_by, next_by, tells_on, keeps_all}
 use Rattle.term_check.proofs.check.Arguments.{args_none, args_stuck, args_lack, args_rest}
 use Rattle.term_check.proofs.check.Targets.{targets_none, targets_stuck, targets_lack, targets_rest, down_none, down, leaf_settles}
 use Rattle.term_check.proofs.check.Bound.{try_misses, try_lacks, try_serves, failed_start, tried_serves, tried_fails, tried_none, failed_end, try_next, served, next_behind, listed_is}
-use Rattle.term_check.proofs.check.Bound as Bound
 use Rattle.term_check.proofs.check.Given.{given_start, given_none, given_end, member_misses, member_fails, member_has}
-use Rattle.term_check.proofs.check.Given as Given
-use Rattle.term_check.proofs.check.Seeking.{Sought, sought_start, sought_misses, sought_fails, sought_serves, sought_end}
+use Rattle.term_check.proofs.check.Seeking.{sought_start, sought_misses, sought_fails, sought_serves, sought_end}
 use Rattle.term_check.proofs.check.Known.{known_args}
-use Rattle.term_check.proofs.check.Members.{states_lack, states_had, states_fail, states_checked, had_at_once, Asked, asked_start, asked_end, Recalled, recalled_none, recalled_more, recalled_on, recalled_no, recalled_yes, checked_no, checked_yes}
-use Rattle.term_check.proofs.check.States.{finds_none, finds_on, finds_more, settles_found, Left, left_start, left_more, left_fails, left_end, settled_fails}
+use Rattle.term_check.proofs.check.Members.{states_lack, states_had, states_fail, states_checked, had_at_once, asked_start, asked_end, recalled_none, recalled_more, recalled_on, recalled_no, recalled_yes, checked_no, checked_yes}
+use Rattle.term_check.proofs.check.States.{finds_none, finds_on, finds_more, settles_found, left_start, left_more, left_fails, left_end, settled_fails}
 use Rattle.term_check.proofs.check.Moved.{members_moved, asked_moved, recalled_moved, all_moved, tries_moved}
-use Rattle.term_check.proofs.check.Terms.{term_past, no_targets, built_checked, alone_no, alone_yes}
-use Prim.Native.Nat.{ℕ, ◌<◌}
+use Rattle.term_check.proofs.check.Terms.{term_past, no_targets, built_checked, alone_checked}
 use Rattle.term_check.proofs.check.+term.Goals as goal
+use Rattle.term_check.proofs.check.+term.Goals.{check_bound-in-Some+else-try_one, check_bound-in_default, check_each-then-not-has_bit+else-not-check_term, check_each-else-not-has_bit, check_given-then-off-goal+else-check_args, check_given-else-off-goal, find_given-in-Some-wanted+then-args_again, find_given-in-Some-wanted+else-args_again, find_given-in_default-wanted}
 
 pub args_again-shape_of-w-then-args_known : goal.args_again-shape_of-w-then-args_known
 args_again-shape_of-w-then-args_known t c = refl
@@ -41,35 +33,29 @@ args_again-shape_of-w t c = c.check_args.ensures.0
 pub args_again-returns : goal.args_again-returns
 args_again-returns t c = (c.check_args.ensures.0, c.check_args.ensures.1)
 
-pub all_args-loop-left-init : goal.all_args-loop-left-init
-all_args-loop-left-init t c = (refl, omega arith, λ _ _ _ told. told)
+pub all_args-loop-init : goal.all_args-loop-init
+all_args-loop-init t c = (refl, omega arith, λ _ _ _ told. simp unary_clauses at told)
 
 pub all_args-shape_of-w-then-node-here : goal.all_args-shape_of-w-then-node-here
-all_args-shape_of-w-then-node-here t c = c.loop-left.invariant.0
+all_args-shape_of-w-then-node-here t c = c.loop.invariant.0
 
 pub all_args-returns-then-node-here : goal.all_args-returns-then-node-here
-all_args-returns-then-node-here t c = (c.loop-left.invariant.0, c.loop-left.invariant.2 _ _ _ (args_stuck _ _ _ _ _ _ c.loop-left-test.true _ (next_by _ c.args.r.now _ _ _ c.number_in-base.ensures.0 c.node_of-node.ensures) c.if-node-here.true))
+all_args-returns-then-node-here t c = (c.loop.invariant.0, c.loop.invariant.2 _ _ _ (args_stuck _ _ _ _ _ _ (omega arith) _ (next_by _ c.args.r.now _ _ _ c.number_in-base.ensures.0 c.node_of-node.ensures) c.if-node-here.true))
 
 pub all_args-shape_of-w-then-not-all_members : goal.all_args-shape_of-w-then-not-all_members
-all_args-shape_of-w-then-not-all_members t c = c.all_members.ensures.0 ∙ c.loop-left.invariant.0
+all_args-shape_of-w-then-not-all_members t c = c.all_members.ensures.0 ∙ c.loop.invariant.0
 
 pub all_args-returns-then-not-all_members : goal.all_args-returns-then-not-all_members
-all_args-returns-then-not-all_members t c = (c.all_members.ensures.0 ∙ c.loop-left.invariant.0, c.loop-left.invariant.2 _ _ _ (args_lack _ _ _ _ _ _ c.loop-left-test.true _ (next_by _ c.args.r.now _ _ _ c.number_in-base.ensures.0 c.node_of-node.ensures) _ _ _ (c.all_members.ensures.1 (node_by _ c.args.r.now _ _ _ c.number_in-base.ensures.0 c.node_of-node.ensures)) c.if-not-all_members.true))
+all_args-returns-then-not-all_members t c = (c.all_members.ensures.0 ∙ c.loop.invariant.0, c.loop.invariant.2 _ _ _ (args_lack _ _ _ _ _ _ (omega arith) _ (next_by _ c.args.r.now _ _ _ c.number_in-base.ensures.0 c.node_of-node.ensures) _ _ _ (c.all_members.ensures.1 (node_by _ c.args.r.now _ _ _ c.number_in-base.ensures.0 c.node_of-node.ensures)) c.if-not-all_members.true))
 
-pub all_args-overflow_sub-left : goal.all_args-overflow_sub-left
-all_args-overflow_sub-left t c = let l = c.loop-left-test.true in omega arith
-
-pub all_args-loop-left-smaller : goal.all_args-loop-left-smaller
-all_args-loop-left-smaller t c = let l = c.loop-left-test.true in omega arith
-
-pub all_args-loop-left-preserved : goal.all_args-loop-left-preserved
-all_args-loop-left-preserved t c = (c.all_members.ensures.0 ∙ c.loop-left.invariant.0, let l = c.loop-left.invariant.1 in let h = c.if-node-here.false in omega arith, λ m u r told. c.loop-left.invariant.2 m u r (args_rest _ _ _ _ _ _ c.loop-left-test.true _ (next_by _ c.args.r.now _ _ _ c.number_in-base.ensures.0 c.node_of-node.ensures) _ _ _ (c.all_members.ensures.1 (node_by _ c.args.r.now _ _ _ c.number_in-base.ensures.0 c.node_of-node.ensures)) c.if-not-all_members.false _ c.result_of-rest.ensures.0 m u r told))
+pub all_args-loop-preserved : goal.all_args-loop-preserved
+all_args-loop-preserved t c = (c.all_members.ensures.0 ∙ c.loop.invariant.0, let l = c.loop.invariant.1 in let h = c.if-node-here.false in omega arith, λ m u r told. c.loop.invariant.2 m u r (args_rest _ _ _ _ _ _ (omega arith) _ (next_by _ c.args.r.now _ _ _ c.number_in-base.ensures.0 c.node_of-node.ensures) _ _ _ (c.all_members.ensures.1 (node_by _ c.args.r.now _ _ _ c.number_in-base.ensures.0 c.node_of-node.ensures)) c.if-not-all_members.false _ c.result_of-rest.ensures.0 _ (omega arith) m u r told))
 
 pub all_args-shape_of-w : goal.all_args-shape_of-w
-all_args-shape_of-w t c = c.loop-left.invariant.0
+all_args-shape_of-w t c = c.loop.invariant.0
 
 pub all_args-returns : goal.all_args-returns
-all_args-returns t c = (c.loop-left.invariant.0, c.loop-left.invariant.2 _ _ _ (args_none _ _ _ c.loop-left.here _ _ c.loop-left-test.false))
+all_args-returns t c = (c.loop.invariant.0, c.loop.invariant.2 _ _ _ (args_none _ _ _ c.loop.here _ _ (omega arith)))
 
 pub check_args-returns-then-count-eq0 : goal.check_args-returns-then-count-eq0
 check_args-returns-then-count-eq0 t c = (refl, args_none _ _ _ c.args.at _ _ (omega (arith, c.if-count-eq0.true)))
@@ -93,25 +79,28 @@ pub check_bound-check_listed-requires : goal.check_bound-check_listed-requires
 check_bound-check_listed-requires t c = let p = c.decreases in (omega arith, c.requires)
 
 pub check_bound-shape_of-w : goal.check_bound-shape_of-w
-check_bound-shape_of-w t c = c.check_listed.ensures.0 ∙ c.try_one.ensures.0
+check_bound-shape_of-w t c = c.check_listed.ensures.0 ∙ c.match-bound_hint.auto.w
 
 pub check_bound-returns : goal.check_bound-returns
-check_bound-returns t c = (c.check_listed.ensures.0 ∙ c.try_one.ensures.0, λ ea et. tells_on (c.try_one.ensures.1 ea et).keeps (c.check_listed.ensures.1 ea et))
+check_bound-returns t c = (
+  c.check_listed.ensures.0 ∙ c.match-bound_hint.auto.w,
+  λ ea et.
+      let k : Keeps (case_of c.args.t.now c.args.r.now) (answers_of c.args.r.now c.args.w.now) (users_of c.args.r.now c.args.w.now) (answers_of c.args.r.now c.match-bound_hint.w) (users_of c.args.r.now c.match-bound_hint.w) =
+      elim c.match-bound_hint.branch [ check_bound-in-Some+else-try_one w ↦ rw w.w-is (w.try_one.ensures.1 ea et).keeps | check_bound-in_default w ↦ rw w.w-is (keeps_all _ _ _) ] in
+      tells_on k (c.check_listed.ensures.1 ea et),
+)
 
 pub check_each-returns-then-all_had : goal.check_each-returns-then-all_had
 check_each-returns-then-all_had t c = (refl, had_at_once _ _ _ _ _ c.all_had.ensures c.if-all_had.true)
 
 pub check_each-loop-j-init : goal.check_each-loop-j-init
-check_each-loop-j-init t c = (refl, asked_start _ _ _ _ _, recalled_none _ _ _ _ _ _ _ refl refl)
-
-pub check_each-overflow_add-j : goal.check_each-overflow_add-j
-check_each-overflow_add-j t c = let h = c.loop-j-test.true in let m = c.many_of-many.ensures.1 in omega arith
+check_each-loop-j-init t c = (refl, asked_start _ _ _ _ _, recalled_none _ _ _ _ _)
 
 pub check_each-shape_of-w-then-has_bit : goal.check_each-shape_of-w-then-has_bit
 check_each-shape_of-w-then-has_bit t c = c.loop-j.invariant.0
 
 pub check_each-returns-then-has_bit : goal.check_each-returns-then-has_bit
-check_each-returns-then-has_bit t c = (c.loop-j.invariant.0, recalled_no _ _ _ _ _ c.loop-j.invariant.1 _ c.many_of-many.ensures.0 c.loop-j-test.true _ c.member_of-goal.ensures.0 _ _ (recalled_on _ _ _ _ _ c.loop-j.invariant.1.keeps _ _ _ _ _ refl c.loop-j.invariant.2 c.outlook_on-known.ensures) refl _ c.has_bit.ensures c.if-has_bit.true)
+check_each-returns-then-has_bit t c = (c.loop-j.invariant.0, recalled_no _ _ _ _ _ c.loop-j.invariant.1 _ c.many_of-many.ensures.0 c.loop-j-test.true _ c.member_of-goal.ensures.0 _ (recalled_on _ _ _ _ _ c.loop-j.invariant.1.keeps _ _ _ c.loop-j.invariant.2 c.outlook_on-known.ensures) _ c.has_bit.ensures c.if-has_bit.true)
 
 pub check_each-shape_of-w-then-not-check_term : goal.check_each-shape_of-w-then-not-check_term
 check_each-shape_of-w-then-not-check_term t c = c.learn_in.ensures.0 ∙ c.check_term.ensures.0 ∙ c.loop-j.invariant.0
@@ -119,17 +108,22 @@ check_each-shape_of-w-then-not-check_term t c = c.learn_in.ensures.0 ∙ c.check
 pub check_each-returns-then-not-check_term : goal.check_each-returns-then-not-check_term
 check_each-returns-then-not-check_term t c = (c.learn_in.ensures.0 ∙ c.check_term.ensures.0 ∙ c.loop-j.invariant.0, members_moved _ _ _ c.args.at _ _ _ _ _ c.learn_in.ensures.1 (checked_no _ _ _ _ _ c.loop-j.invariant.1 _ c.many_of-many.ensures.0 c.loop-j-test.true _ c.member_of-goal.ensures.0 _ c.with_bit-bit.ensures _ _ _ c.check_term.ensures.1 _ c.if-not-check_term.true c.learn_in.ensures.2))
 
-pub check_each-loop-j-smaller-then-not-has_bit : goal.check_each-loop-j-smaller-then-not-has_bit
-check_each-loop-j-smaller-then-not-has_bit t c = let h = c.loop-j-test.true in omega arith
-
-pub check_each-loop-j-preserved-then-not-has_bit : goal.check_each-loop-j-preserved-then-not-has_bit
-check_each-loop-j-preserved-then-not-has_bit t c = (c.learn_in-then-not-has_bit.ensures.0 ∙ c.check_term.ensures.0 ∙ c.loop-j.invariant.0, asked_moved _ _ _ _ _ _ _ _ _ c.learn_in-then-not-has_bit.ensures.1 (checked_yes _ _ _ _ _ c.loop-j.invariant.1 _ c.many_of-many.ensures.0 c.loop-j-test.true _ c.member_of-goal.ensures.0 _ c.with_bit-bit.ensures _ _ _ c.check_term.ensures.1 _ c.if-not-check_term.false c.learn_in-then-not-has_bit.ensures.2 _ (omega arith)), recalled_moved _ _ _ _ _ _ _ _ _ c.learn_in-then-not-has_bit.ensures.1 (recalled_more _ _ _ _ _ c.check_term.ensures.1.keeps.grows (recalled_on _ _ _ _ _ c.loop-j.invariant.1.keeps _ _ _ _ _ refl c.loop-j.invariant.2 c.outlook_on-known.ensures)))
-
-pub check_each-loop-j-smaller : goal.check_each-loop-j-smaller
-check_each-loop-j-smaller t c = let h = c.loop-j-test.true in omega arith
-
 pub check_each-loop-j-preserved : goal.check_each-loop-j-preserved
-check_each-loop-j-preserved t c = (c.loop-j.invariant.0, recalled_yes _ _ _ _ _ c.loop-j.invariant.1 _ c.many_of-many.ensures.0 c.loop-j-test.true _ c.member_of-goal.ensures.0 _ _ (recalled_on _ _ _ _ _ c.loop-j.invariant.1.keeps _ _ _ _ _ refl c.loop-j.invariant.2 c.outlook_on-known.ensures) refl _ c.has_bit-in-loop-j.ensures c.if-not-has_bit.false _ (omega arith), (recalled_on _ _ _ _ _ c.loop-j.invariant.1.keeps _ _ _ _ _ refl c.loop-j.invariant.2 c.outlook_on-known.ensures))
+check_each-loop-j-preserved t c =
+    elim c.if-not-has_bit.branch [
+      | check_each-then-not-has_bit+else-not-check_term w ↦
+          rw w.w-is (
+            w.learn_in-then-not-has_bit.ensures.0 ∙ w.check_term.ensures.0 ∙ c.loop-j.invariant.0,
+            asked_moved _ _ _ _ _ _ _ _ _ w.learn_in-then-not-has_bit.ensures.1 (checked_yes _ _ _ _ _ c.loop-j.invariant.1 _ c.many_of-many.ensures.0 c.loop-j-test.true _ c.member_of-goal.ensures.0 _ w.with_bit-bit.ensures _ _ _ w.check_term.ensures.1 _ w.if-not-check_term.false w.learn_in-then-not-has_bit.ensures.2 _ (omega arith)),
+            recalled_moved _ _ _ _ _ _ _ _ w.learn_in-then-not-has_bit.ensures.1 (recalled_more _ _ _ _ _ w.check_term.ensures.1.keeps.grows (recalled_on _ _ _ _ _ c.loop-j.invariant.1.keeps _ _ _ c.loop-j.invariant.2 c.outlook_on-known.ensures)),
+          )
+      | check_each-else-not-has_bit w ↦
+          rw w.w-is (
+            c.loop-j.invariant.0,
+            recalled_yes _ _ _ _ _ c.loop-j.invariant.1 _ c.many_of-many.ensures.0 c.loop-j-test.true _ c.member_of-goal.ensures.0 _ (recalled_on _ _ _ _ _ c.loop-j.invariant.1.keeps _ _ _ c.loop-j.invariant.2 c.outlook_on-known.ensures) _ c.has_bit-in-loop-j.ensures w.if-not-has_bit.false _ (omega arith),
+            (recalled_on _ _ _ _ _ c.loop-j.invariant.1.keeps _ _ _ c.loop-j.invariant.2 c.outlook_on-known.ensures),
+          )
+    ]
 
 pub check_each-shape_of-w : goal.check_each-shape_of-w
 check_each-shape_of-w t c = c.loop-j.invariant.0
@@ -137,14 +131,11 @@ check_each-shape_of-w t c = c.loop-j.invariant.0
 pub check_each-returns : goal.check_each-returns
 check_each-returns t c = (c.loop-j.invariant.0, asked_end _ _ _ _ _ c.loop-j.invariant.1 _ c.many_of-many.ensures.0 c.loop-j-test.false)
 
-pub check_given-returns-then-given-eq-NONE : goal.check_given-returns-then-given-eq-NONE
-check_given-returns-then-given-eq-NONE t c = (refl, λ ea nc nn. given_none _ _ _ _ _ _ _ (c.off-given.ensures ∙ ap (off_of _ _) c.number_in.ensures.0) ea nc nn c.if-given-eq-NONE.true)
+pub check_given-returns-in_default : goal.check_given-returns-in_default
+check_given-returns-in_default t c = (refl, λ ea nc nn. given_none _ _ _ _ _ _ _ refl ea nc nn c.in_default.ensures)
 
 pub check_given-loop-j-init : goal.check_given-loop-j-init
 check_given-loop-j-init t c = (refl, given_start _ _ _ _ _ _ _)
-
-pub check_given-overflow_add-j : goal.check_given-overflow_add-j
-check_given-overflow_add-j t c = let h = c.loop-j-test.true in let m = c.many_of-many.ensures.1 in omega arith
 
 pub check_given-overflow_add-at : goal.check_given-overflow_add-at
 check_given-overflow_add-at t c = let h = c.requires in omega arith
@@ -153,25 +144,21 @@ pub check_given-shape_of-w-then-check_args : goal.check_given-shape_of-w-then-ch
 check_given-shape_of-w-then-check_args t c = c.check_args.ensures.0 ∙ c.loop-j.invariant.0
 
 pub check_given-returns-then-check_args : goal.check_given-returns-then-check_args
-check_given-returns-then-check_args t c = (c.check_args.ensures.0 ∙ c.loop-j.invariant.0, λ ea nc nn. tells_on c.loop-j.invariant.1.keeps (member_has _ _ _ _ _ _ _ (c.off-given.ensures ∙ ap (off_of _ _) c.number_in.ensures.0) ea nc nn _ _ c.many_of-many.ensures.0 c.loop-j-test.true c.if-given-eq-NONE.false _ c.member_of-ty.ensures.0 _ c.off.ensures c.if-off-goal.true (c.args.at + 1) (omega arith) _ _ _ c.check_args.ensures.1 c.if-check_args.true))
-
-pub check_given-loop-j-smaller-else-check_args : goal.check_given-loop-j-smaller-else-check_args
-check_given-loop-j-smaller-else-check_args t c = let h = c.loop-j-test.true in omega arith
-
-pub check_given-loop-j-preserved-else-check_args : goal.check_given-loop-j-preserved-else-check_args
-check_given-loop-j-preserved-else-check_args t c = (c.check_args.ensures.0 ∙ c.loop-j.invariant.0, member_fails _ _ _ _ _ _ _ c.loop-j.invariant.1 _ c.member_of-ty.ensures.0 _ (omega arith) _ c.off.ensures c.if-off-goal.true (c.args.at + 1) (omega arith) _ _ _ c.check_args.ensures.1 c.if-check_args.false)
-
-pub check_given-loop-j-smaller : goal.check_given-loop-j-smaller
-check_given-loop-j-smaller t c = let h = c.loop-j-test.true in omega arith
+check_given-returns-then-check_args t c = (c.check_args.ensures.0 ∙ c.loop-j.invariant.0, λ ea nc nn. tells_on c.loop-j.invariant.1.keeps (member_has _ _ _ _ _ _ _ c.in-Some.ensures.0 ea nc nn _ _ c.many_of-many.ensures.0 c.loop-j-test.true c.in-Some.ensures.1 _ c.member_of-ty.ensures.0 _ c.off.ensures c.if-off-goal.true (c.args.at + 1) (omega arith) _ _ _ c.check_args.ensures.1 c.if-check_args.true))
 
 pub check_given-loop-j-preserved : goal.check_given-loop-j-preserved
-check_given-loop-j-preserved t c = (c.loop-j.invariant.0, member_misses _ _ _ _ _ _ _ c.loop-j.invariant.1 _ c.member_of-ty.ensures.0 _ (omega arith) _ c.off.ensures c.if-off-goal.false)
+check_given-loop-j-preserved t c =
+    elim c.if-off-goal.branch [
+      | check_given-then-off-goal+else-check_args w ↦
+          rw w.w-is (w.check_args.ensures.0 ∙ c.loop-j.invariant.0, member_fails _ _ _ _ _ _ _ c.loop-j.invariant.1 _ c.member_of-ty.ensures.0 _ (omega arith) _ c.off.ensures w.if-off-goal.true (c.args.at + 1) (omega arith) _ _ _ w.check_args.ensures.1 w.if-check_args.false)
+      | check_given-else-off-goal w ↦ rw w.w-is (c.loop-j.invariant.0, member_misses _ _ _ _ _ _ _ c.loop-j.invariant.1 _ c.member_of-ty.ensures.0 _ (omega arith) _ c.off.ensures w.if-off-goal.false)
+    ]
 
 pub check_given-shape_of-w : goal.check_given-shape_of-w
 check_given-shape_of-w t c = c.loop-j.invariant.0
 
 pub check_given-returns : goal.check_given-returns
-check_given-returns t c = (c.loop-j.invariant.0, λ ea nc nn. given_end _ _ _ _ _ _ _ (c.off-given.ensures ∙ ap (off_of _ _) c.number_in.ensures.0) ea nc nn c.loop-j.invariant.1 _ c.many_of-many.ensures.0 c.loop-j-test.false)
+check_given-returns t c = (c.loop-j.invariant.0, λ ea nc nn. given_end _ _ _ _ _ _ _ c.in-Some.ensures.0 ea nc nn c.loop-j.invariant.1 _ c.many_of-many.ensures.0 c.loop-j-test.false)
 
 pub check_listed-overflow_mul-row : goal.check_listed-overflow_mul-row
 check_listed-overflow_mul-row t c = let p = row_fits c.args.goal c.number_in.result in omega arith
@@ -198,19 +185,19 @@ pub check_listed-shape_of-w-then-check_args : goal.check_listed-shape_of-w-then-
 check_listed-shape_of-w-then-check_args t c = c.hint_in.ensures.0 ∙ c.note_in.ensures.0 ∙ c.check_args.ensures.0 ∙ c.loop-from.invariant.0
 
 pub check_listed-returns-then-check_args : goal.check_listed-returns-then-check_args
-check_listed-returns-then-check_args t c = (c.hint_in.ensures.0 ∙ c.note_in.ensures.0 ∙ c.check_args.ensures.0 ∙ c.loop-from.invariant.0, λ ea et. tried_serves _ _ _ _ _ _ (try_next _ _ _ _ _ _ (c.loop-from.invariant.2 ea et) _ _ (c.next_in-c.result + 1) _ (ap (λ k. c.args.goal % row_limit * (k % words_limit)) c.number_in.ensures.0) (next_behind_sets _ test_cells _ _ _ _ c.next_in-c.ensures) (omega arith)) _ _ _ ea et (tries_moved _ _ _ _ _ _ _ _ _ _ _ _ (c.hint_in.ensures.1 ∙ c.note_in.ensures.1) c.hint_in.ensures.2 (try_serves _ _ _ _ _ _ _ _ (listed_is _ _ _ _ _ _ _ _ _ c.number_in.ensures.0 (next_behind_sets _ test_cells _ _ _ _ c.next_in-c.ensures) c.if-high-c.false c.loop-from.invariant.1 c.group_of-high.ensures.0 c.leading-ty.ensures) c.if-ty-ne-NONE.true (c.args.at + 1) (omega arith) _ _ _ c.check_args.ensures.1 c.if-check_args.true _ c.note_in.ensures.2)) refl)
+check_listed-returns-then-check_args t c = (c.hint_in.ensures.0 ∙ c.note_in.ensures.0 ∙ c.check_args.ensures.0 ∙ c.loop-from.invariant.0, λ ea et. tried_serves _ _ _ _ _ _ (try_next _ _ _ _ _ _ (c.loop-from.invariant.2 ea et) _ _ (c.next_in-c.result + 1) _ (ap (λ k. c.args.goal % row_limit * (k % words_limit)) c.number_in.ensures.0) (next_behind_sets _ test_cells _ _ _ _ c.next_in-c.ensures) (omega arith)) _ _ _ ea et (tries_moved _ _ _ _ _ _ _ _ _ _ _ _ (c.hint_in.ensures.1 ∙ c.note_in.ensures.1) c.hint_in.ensures.2 (try_serves _ _ _ _ _ _ _ _ (listed_is _ _ _ _ _ _ _ _ _ c.number_in.ensures.0 (next_behind_sets _ test_cells _ _ _ _ c.next_in-c.ensures) c.if-high-c.false c.loop-from.invariant.1 c.group_of-high.ensures.0 c.in-Some.ensures) (c.args.at + 1) (omega arith) _ _ _ c.check_args.ensures.1 c.if-check_args.true _ c.note_in.ensures.2)) refl)
 
 pub check_listed-loop-from-smaller-else-check_args : goal.check_listed-loop-from-smaller-else-check_args
 check_listed-loop-from-smaller-else-check_args t c = let h = c.loop-from-test.true in let b = next_behind _ _ _ _ _ c.next_in-c.ensures (omega arith) in omega arith
 
 pub check_listed-loop-from-preserved-else-check_args : goal.check_listed-loop-from-preserved-else-check_args
-check_listed-loop-from-preserved-else-check_args t c = (c.check_args.ensures.0 ∙ c.loop-from.invariant.0, (let l = c.loop-from.invariant.1 in let h = c.loop-from-test.true in let b = next_behind _ _ _ _ _ c.next_in-c.ensures (omega arith) in omega arith), λ ea et. tried_fails _ _ _ _ _ _ (try_next _ _ _ _ _ _ (c.loop-from.invariant.2 ea et) _ _ (c.next_in-c.result + 1) _ (ap (λ k. c.args.goal % row_limit * (k % words_limit)) c.number_in.ensures.0) (next_behind_sets _ test_cells _ _ _ _ c.next_in-c.ensures) (omega arith)) _ _ _ ea et (try_lacks _ _ _ _ _ _ _ _ (listed_is _ _ _ _ _ _ _ _ _ c.number_in.ensures.0 (next_behind_sets _ test_cells _ _ _ _ c.next_in-c.ensures) c.if-high-c.false c.loop-from.invariant.1 c.group_of-high.ensures.0 c.leading-ty.ensures) c.if-ty-ne-NONE.true (c.args.at + 1) (omega arith) _ _ _ c.check_args.ensures.1 c.if-check_args.false) refl)
+check_listed-loop-from-preserved-else-check_args t c = (c.check_args.ensures.0 ∙ c.loop-from.invariant.0, (let l = c.loop-from.invariant.1 in let h = c.loop-from-test.true in let b = next_behind _ _ _ _ _ c.next_in-c.ensures (omega arith) in omega arith), λ ea et. tried_fails _ _ _ _ _ _ (try_next _ _ _ _ _ _ (c.loop-from.invariant.2 ea et) _ _ (c.next_in-c.result + 1) _ (ap (λ k. c.args.goal % row_limit * (k % words_limit)) c.number_in.ensures.0) (next_behind_sets _ test_cells _ _ _ _ c.next_in-c.ensures) (omega arith)) _ _ _ ea et (try_lacks _ _ _ _ _ _ _ _ (listed_is _ _ _ _ _ _ _ _ _ c.number_in.ensures.0 (next_behind_sets _ test_cells _ _ _ _ c.next_in-c.ensures) c.if-high-c.false c.loop-from.invariant.1 c.group_of-high.ensures.0 c.in-Some.ensures) (c.args.at + 1) (omega arith) _ _ _ c.check_args.ensures.1 c.if-check_args.false) refl)
 
 pub check_listed-loop-from-smaller : goal.check_listed-loop-from-smaller
 check_listed-loop-from-smaller t c = let h = c.loop-from-test.true in let b = next_behind _ _ _ _ _ c.next_in-c.ensures (omega arith) in omega arith
 
 pub check_listed-loop-from-preserved : goal.check_listed-loop-from-preserved
-check_listed-loop-from-preserved t c = (c.loop-from.invariant.0, (let l = c.loop-from.invariant.1 in let h = c.loop-from-test.true in let b = next_behind _ _ _ _ _ c.next_in-c.ensures (omega arith) in omega arith), λ ea et. tried_fails _ _ _ _ _ _ (try_next _ _ _ _ _ _ (c.loop-from.invariant.2 ea et) _ _ (c.next_in-c.result + 1) _ (ap (λ k. c.args.goal % row_limit * (k % words_limit)) c.number_in.ensures.0) (next_behind_sets _ test_cells _ _ _ _ c.next_in-c.ensures) (omega arith)) _ _ _ ea et (try_misses _ _ _ _ _ _ _ _ (listed_is _ _ _ _ _ _ _ _ _ c.number_in.ensures.0 (next_behind_sets _ test_cells _ _ _ _ c.next_in-c.ensures) c.if-high-c.false c.loop-from.invariant.1 c.group_of-high.ensures.0 c.leading-ty.ensures) c.if-ty-ne-NONE.false) refl)
+check_listed-loop-from-preserved t c = (c.loop-from.invariant.0, (let l = c.loop-from.invariant.1 in let h = c.loop-from-test.true in let b = next_behind _ _ _ _ _ c.next_in-c.ensures (omega arith) in omega arith), λ ea et. tried_fails _ _ _ _ _ _ (try_next _ _ _ _ _ _ (c.loop-from.invariant.2 ea et) _ _ (c.next_in-c.result + 1) _ (ap (λ k. c.args.goal % row_limit * (k % words_limit)) c.number_in.ensures.0) (next_behind_sets _ test_cells _ _ _ _ c.next_in-c.ensures) (omega arith)) _ _ _ ea et (try_misses _ _ _ _ _ _ _ (listed_is _ _ _ _ _ _ _ _ _ c.number_in.ensures.0 (next_behind_sets _ test_cells _ _ _ _ c.next_in-c.ensures) c.if-high-c.false c.loop-from.invariant.1 c.group_of-high.ensures.0 c.in_default.ensures)) refl)
 
 pub check_listed-shape_of-w : goal.check_listed-shape_of-w
 check_listed-shape_of-w t c = c.loop-from.invariant.0
@@ -284,17 +271,14 @@ check_states-shape_of-w t c = c.learn_in-2.ensures.0 ∙ c.loop-left.invariant.0
 pub check_states-returns : goal.check_states-returns
 check_states-returns t c = (c.learn_in-2.ensures.0 ∙ c.loop-left.invariant.0 ∙ c.find_states-found.ensures.0, λ ea. all_moved _ _ _ c.args.at _ _ _ _ _ c.learn_in-2.ensures.1 (left_end _ _ _ _ _ (c.loop-left.invariant.1 _ _ (c.find_states-found.ensures.1 ea).finds) c.loop-left-test.false _ c.learn_in-2.ensures.2))
 
-pub one_target-returns-then-known-eq1 : goal.one_target-returns-then-known-eq1
-one_target-returns-then-known-eq1 t c = (refl, λ ea. alone_no _ _ _ _ _ _ _ c.alone-known.ensures ea (λ z. let h = c.if-node-eq2.true in omega arith) (λ z. let h = c.if-node-eq2.true in omega arith) c.if-known-eq1.true)
-
-pub one_target-returns-then-known-eq2 : goal.one_target-returns-then-known-eq2
-one_target-returns-then-known-eq2 t c = (refl, λ ea. alone_yes _ _ _ _ _ _ _ c.alone-known.ensures ea (λ z. let h = c.if-node-eq2.true in omega arith) (λ z. let h = c.if-node-eq2.true in omega arith) c.if-known-eq2.true)
-
 pub one_target-shape_of-w : goal.one_target-shape_of-w
 one_target-shape_of-w t c = c.check_term.ensures.0
 
 pub one_target-returns : goal.one_target-returns
 one_target-returns t c = (c.check_term.ensures.0, λ ea. c.check_term.ensures.1)
+
+pub one_target-returns-in-Some : goal.one_target-returns-in-Some
+one_target-returns-in-Some t c = (refl, λ ea. alone_checked _ _ _ _ _ _ _ c.in-Some.ensures ea (λ z. let h = c.if-node-eq2.true in omega arith) (λ z. let h = c.if-node-eq2.true in omega arith))
 
 pub all_targets-loop-left-init : goal.all_targets-loop-left-init
 all_targets-loop-left-init t c = (refl, omega arith, λ _ _ _ told. told)
@@ -305,14 +289,11 @@ all_targets-shape_of-w-then-node-here t c = c.loop-left.invariant.0
 pub all_targets-returns-then-node-here : goal.all_targets-returns-then-node-here
 all_targets-returns-then-node-here t c = (c.loop-left.invariant.0, c.loop-left.invariant.2 _ _ _ (targets_stuck _ _ _ _ _ _ c.loop-left-test.true _ (next_by _ c.args.r.now _ _ _ c.number_in-base.ensures.0 c.node_of-node.ensures) c.if-node-here.true))
 
-pub all_targets-state_targets-rest-requires : goal.all_targets-state_targets-rest-requires
-all_targets-state_targets-rest-requires t c = omega arith
+pub all_targets-state_targets-requires : goal.all_targets-state_targets-requires
+all_targets-state_targets-requires t c = omega arith
 
-pub all_targets-shape_of-w-then-rest-eq-NO_TARGETS : goal.all_targets-shape_of-w-then-rest-eq-NO_TARGETS
-all_targets-shape_of-w-then-rest-eq-NO_TARGETS t c = c.loop-left.invariant.0
-
-pub all_targets-returns-then-rest-eq-NO_TARGETS : goal.all_targets-returns-then-rest-eq-NO_TARGETS
-all_targets-returns-then-rest-eq-NO_TARGETS t c = (c.loop-left.invariant.0, c.loop-left.invariant.2 _ _ _ (down_none _ _ _ _ _ _ _ (node_by _ c.args.r.now _ _ _ c.number_in-base.ensures.0 c.node_of-node.ensures) (c.goes_down.ensures c.if-goes_down.true).0 (c.goes_down.ensures c.if-goes_down.true).1 _ c.state_targets-rest.ensures c.if-rest-eq-NO_TARGETS.true))
+pub all_targets-returns-in_default : goal.all_targets-returns-in_default
+all_targets-returns-in_default t c = (c.loop-left.invariant.0, c.loop-left.invariant.2 _ _ _ (down_none _ _ _ _ _ _ _ (node_by _ c.args.r.now _ _ _ c.number_in-base.ensures.0 c.node_of-node.ensures) (c.goes_down.ensures c.if-goes_down.true).0 (c.goes_down.ensures c.if-goes_down.true).1 c.in_default.ensures))
 
 pub all_targets-overflow_add-here : goal.all_targets-overflow_add-here
 all_targets-overflow_add-here t c = let h = c.if-node-here.false in omega arith
@@ -321,7 +302,7 @@ pub all_targets-loop-left-smaller-then-goes_down : goal.all_targets-loop-left-sm
 all_targets-loop-left-smaller-then-goes_down t c = omega arith
 
 pub all_targets-loop-left-preserved-then-goes_down : goal.all_targets-loop-left-preserved-then-goes_down
-all_targets-loop-left-preserved-then-goes_down t c = (c.loop-left.invariant.0, let l = c.loop-left.invariant.1 in omega arith, λ m u b told. c.loop-left.invariant.2 m u b (down _ _ _ _ _ _ _ (node_by _ c.args.r.now _ _ _ c.number_in-base.ensures.0 c.node_of-node.ensures) (c.goes_down.ensures c.if-goes_down.true).0 (c.goes_down.ensures c.if-goes_down.true).1 _ c.state_targets-rest.ensures c.if-rest-eq-NO_TARGETS.false (c.loop-left.here + 1) (omega arith) m u b told))
+all_targets-loop-left-preserved-then-goes_down t c = (c.loop-left.invariant.0, let l = c.loop-left.invariant.1 in omega arith, λ m u b told. c.loop-left.invariant.2 m u b (down _ _ _ _ _ _ _ (node_by _ c.args.r.now _ _ _ c.number_in-base.ensures.0 c.node_of-node.ensures) (c.goes_down.ensures c.if-goes_down.true).0 (c.goes_down.ensures c.if-goes_down.true).1 _ c.in-Some.ensures (c.loop-left.here + 1) (omega arith) m u b told))
 
 pub all_targets-shape_of-w-then-not-one_target : goal.all_targets-shape_of-w-then-not-one_target
 all_targets-shape_of-w-then-not-one_target t c = c.one_target.ensures.0 ∙ c.loop-left.invariant.0
@@ -347,8 +328,8 @@ all_targets-returns t c = (c.loop-left.invariant.0, c.loop-left.invariant.2 _ _ 
 pub check_term-returns-then-at-ge-MAX_NODES : goal.check_term-returns-then-at-ge-MAX_NODES
 check_term-returns-then-at-ge-MAX_NODES t c = (refl, term_past _ _ _ _ _ c.if-at-ge-MAX_NODES.true)
 
-pub check_term-returns-then-targets-eq-NO_TARGETS : goal.check_term-returns-then-targets-eq-NO_TARGETS
-check_term-returns-then-targets-eq-NO_TARGETS t c = (refl, no_targets _ _ _ _ _ _ (node_by _ c.args.r.now _ _ _ c.number_in.ensures.0 c.node_of-node.ensures) c.if-node-eq0.true _ c.targets_for-targets.ensures c.if-targets-eq-NO_TARGETS.true)
+pub check_term-returns-in_default : goal.check_term-returns-in_default
+check_term-returns-in_default t c = (refl, no_targets _ _ _ _ _ _ (node_by _ c.args.r.now _ _ _ c.number_in.ensures.0 c.node_of-node.ensures) c.if-node-eq0.true c.in_default.ensures)
 
 pub check_term-overflow_add-at : goal.check_term-overflow_add-at
 check_term-overflow_add-at t c = let h = c.if-at-ge-MAX_NODES.false in omega arith
@@ -357,7 +338,7 @@ pub check_term-shape_of-w-then-node-eq0 : goal.check_term-shape_of-w-then-node-e
 check_term-shape_of-w-then-node-eq0 t c = c.all_targets.ensures.0
 
 pub check_term-returns-then-node-eq0 : goal.check_term-returns-then-node-eq0
-check_term-returns-then-node-eq0 t c = (c.all_targets.ensures.0, built_checked _ _ _ _ _ _ (node_by _ c.args.r.now _ _ _ c.number_in.ensures.0 c.node_of-node.ensures) c.if-node-eq0.true _ c.targets_for-targets.ensures c.if-targets-eq-NO_TARGETS.false (c.args.at + 1) (omega arith) _ _ _ c.all_targets.ensures.1)
+check_term-returns-then-node-eq0 t c = (c.all_targets.ensures.0, built_checked _ _ _ _ _ _ (node_by _ c.args.r.now _ _ _ c.number_in.ensures.0 c.node_of-node.ensures) c.if-node-eq0.true _ c.in-Some.ensures (c.args.at + 1) (omega arith) _ _ _ c.all_targets.ensures.1)
 
 pub check_term-check_bound-requires : goal.check_term-check_bound-requires
 check_term-check_bound-requires t c = let p = c.decreases in let h = c.if-at-ge-MAX_NODES.false in (omega arith, omega arith)
@@ -368,11 +349,8 @@ check_term-shape_of-w-then-node-eq1 t c = c.check_bound.ensures.0
 pub check_term-returns-then-node-eq1 : goal.check_term-returns-then-node-eq1
 check_term-returns-then-node-eq1 t c = (c.check_bound.ensures.0, c.check_bound.ensures.1 (node_by _ c.args.r.now _ _ _ c.number_in.ensures.0 c.node_of-node.ensures) c.if-node-eq1.true)
 
-pub check_term-returns-then-known-eq1 : goal.check_term-returns-then-known-eq1
-check_term-returns-then-known-eq1 t c = (refl, alone_no _ _ _ _ _ _ _ c.alone-known.ensures (node_by _ c.args.r.now _ _ _ c.number_in.ensures.0 c.node_of-node.ensures) c.if-node-eq0.false c.if-node-eq1.false c.if-known-eq1.true)
-
-pub check_term-returns-then-known-eq2 : goal.check_term-returns-then-known-eq2
-check_term-returns-then-known-eq2 t c = (refl, alone_yes _ _ _ _ _ _ _ c.alone-known.ensures (node_by _ c.args.r.now _ _ _ c.number_in.ensures.0 c.node_of-node.ensures) c.if-node-eq0.false c.if-node-eq1.false c.if-known-eq2.true)
+pub check_term-returns-in-Some-alone : goal.check_term-returns-in-Some-alone
+check_term-returns-in-Some-alone t c = (refl, alone_checked _ _ _ _ _ _ _ c.in-Some-alone.ensures (node_by _ c.args.r.now _ _ _ c.number_in.ensures.0 c.node_of-node.ensures) c.if-node-eq0.false c.if-node-eq1.false)
 
 pub check_term-check_given-requires : goal.check_term-check_given-requires
 check_term-check_given-requires t c = let p = c.decreases in let h = c.if-at-ge-MAX_NODES.false in (omega arith, omega arith)
@@ -386,11 +364,8 @@ check_term-returns t c = (c.check_given.ensures.0, c.check_given.ensures.1 (node
 pub find_bound-loop-left-init : goal.find_bound-loop-left-init
 find_bound-loop-left-init t c = (refl, λ ea et. finds_none _ _ _ _)
 
-pub find_bound-shape_of-w-then-ty-eq-NONE : goal.find_bound-shape_of-w-then-ty-eq-NONE
-find_bound-shape_of-w-then-ty-eq-NONE t c = c.loop-left.invariant.0
-
-pub find_bound-returns-then-ty-eq-NONE : goal.find_bound-returns-then-ty-eq-NONE
-find_bound-returns-then-ty-eq-NONE t c = c.loop-left.invariant
+pub find_bound-returns-in_default : goal.find_bound-returns-in_default
+find_bound-returns-in_default t c = c.loop-left.invariant
 
 pub find_bound-overflow_add-at : goal.find_bound-overflow_add-at
 find_bound-overflow_add-at t c = let h = c.requires in omega arith
@@ -405,7 +380,7 @@ pub find_bound-loop-left-smaller : goal.find_bound-loop-left-smaller
 find_bound-loop-left-smaller t c = c.without_bit-left.ensures.less (c.lowest-q.ensures.within c.loop-left-test.true) (c.lowest-q.ensures.has c.loop-left-test.true)
 
 pub find_bound-loop-left-preserved : goal.find_bound-loop-left-preserved
-find_bound-loop-left-preserved t c = (c.note_in.ensures.0 ∙ c.args_again.ensures.0 ∙ c.loop-left.invariant.0, λ ea et. let told = tries_moved _ _ _ _ _ _ _ _ _ _ _ _ c.note_in.ensures.1 refl (try_serves _ _ _ _ _ _ _ _ c.candidate-ty.ensures c.if-ty-eq-NONE.false (c.args.at + 1) (omega arith) _ _ _ c.args_again.ensures.1 c.if-not-args_again.false _ c.note_in.ensures.2) ea et in finds_more _ _ _ _ (c.loop-left.invariant.1 ea et) told.keeps _ _ (c.lowest-q.ensures.within c.loop-left-test.true) c.with_bit-had.ensures (told.yes refl))
+find_bound-loop-left-preserved t c = (c.note_in.ensures.0 ∙ c.args_again.ensures.0 ∙ c.loop-left.invariant.0, λ ea et. let told = tries_moved _ _ _ _ _ _ _ _ _ _ _ _ c.note_in.ensures.1 refl (try_serves _ _ _ _ _ _ _ _ c.in-Some-candidate.ensures (c.args.at + 1) (omega arith) _ _ _ c.args_again.ensures.1 c.if-not-args_again.false _ c.note_in.ensures.2) ea et in finds_more _ _ _ _ (c.loop-left.invariant.1 ea et) told.keeps _ _ (c.lowest-q.ensures.within c.loop-left-test.true) c.with_bit-had.ensures (told.yes refl))
 
 pub find_bound-shape_of-w : goal.find_bound-shape_of-w
 find_bound-shape_of-w t c = c.loop-left.invariant.0
@@ -413,41 +388,31 @@ find_bound-shape_of-w t c = c.loop-left.invariant.0
 pub find_bound-returns : goal.find_bound-returns
 find_bound-returns t c = c.loop-left.invariant
 
-pub find_given-returns-then-given-eq-NONE : goal.find_given-returns-then-given-eq-NONE
-find_given-returns-then-given-eq-NONE t c = (refl, λ ea nc nn. settles_found _ _ _ _ _ (finds_none _ _ _ _))
+pub find_given-returns-in_default : goal.find_given-returns-in_default
+find_given-returns-in_default t c = (refl, λ ea nc nn. settles_found _ _ _ _ _ (finds_none _ _ _ _))
 
 pub find_given-loop-j-init : goal.find_given-loop-j-init
 find_given-loop-j-init t c = (refl, λ ea nc nn. sought_start _ _ _ _ _ _ _)
 
-pub find_given-overflow_add-j : goal.find_given-overflow_add-j
-find_given-overflow_add-j t c = let h = c.loop-j-test.true in let m = c.many_of-many.ensures.1 in omega arith
-
 pub find_given-overflow_add-at : goal.find_given-overflow_add-at
 find_given-overflow_add-at t c = let h = c.requires in omega arith
 
-pub find_given-loop-j-smaller-then-args_again : goal.find_given-loop-j-smaller-then-args_again
-find_given-loop-j-smaller-then-args_again t c = let h = c.loop-j-test.true in omega arith
-
-pub find_given-loop-j-preserved-then-args_again : goal.find_given-loop-j-preserved-then-args_again
-find_given-loop-j-preserved-then-args_again t c = (c.args_again.ensures.0 ∙ c.loop-j.invariant.0, λ ea nc nn. sought_serves _ _ _ _ _ _ _ (c.loop-j.invariant.1 ea nc nn) _ c.member_of-ty.ensures.0 _ (omega arith) _ c.wanted-q.ensures c.if-q-ne-NONE.true (c.args.at + 1) (omega arith) _ _ _ c.args_again.ensures.1 (c.off-given.ensures ∙ ap (off_of _ _) c.number_in.ensures.0) ea nc nn _ c.many_of-many.ensures.0 c.loop-j-test.true c.if-given-eq-NONE.false c.if-args_again.true _ _ c.with_bit-had.ensures c.without_bit-left.ensures)
-
-pub find_given-loop-j-smaller-else-args_again : goal.find_given-loop-j-smaller-else-args_again
-find_given-loop-j-smaller-else-args_again t c = let h = c.loop-j-test.true in omega arith
-
-pub find_given-loop-j-preserved-else-args_again : goal.find_given-loop-j-preserved-else-args_again
-find_given-loop-j-preserved-else-args_again t c = (c.args_again.ensures.0 ∙ c.loop-j.invariant.0, λ ea nc nn. sought_fails _ _ _ _ _ _ _ (c.loop-j.invariant.1 ea nc nn) _ c.member_of-ty.ensures.0 _ (omega arith) _ c.wanted-q.ensures c.if-q-ne-NONE.true (c.args.at + 1) (omega arith) _ _ _ c.args_again.ensures.1 c.if-args_again.false _ c.with_bit-left.ensures)
-
-pub find_given-loop-j-smaller : goal.find_given-loop-j-smaller
-find_given-loop-j-smaller t c = let h = c.loop-j-test.true in omega arith
-
 pub find_given-loop-j-preserved : goal.find_given-loop-j-preserved
-find_given-loop-j-preserved t c = (c.loop-j.invariant.0, λ ea nc nn. sought_misses _ _ _ _ _ _ _ (c.loop-j.invariant.1 ea nc nn) _ c.member_of-ty.ensures.0 _ (omega arith) _ c.wanted-q.ensures c.if-q-ne-NONE.false)
+find_given-loop-j-preserved t c =
+    elim c.match-wanted.branch [
+      | find_given-in-Some-wanted+then-args_again w ↦
+          rw w.w-is (rw w.had-is (rw w.left-is (w.args_again.ensures.0 ∙ c.loop-j.invariant.0, λ ea nc nn. sought_serves _ _ _ _ _ _ _ (c.loop-j.invariant.1 ea nc nn) _ c.member_of-ty.ensures.0 _ (omega arith) _ w.in-Some-wanted.ensures (c.args.at + 1) (omega arith) _ _ _ w.args_again.ensures.1 c.in-Some.ensures.0 ea nc nn _ c.many_of-many.ensures.0 c.loop-j-test.true c.in-Some.ensures.1 w.if-args_again.true _ _ w.with_bit-had.ensures w.without_bit-left.ensures)))
+      | find_given-in-Some-wanted+else-args_again w ↦
+          rw w.w-is (rw w.had-is (rw w.left-is (w.args_again.ensures.0 ∙ c.loop-j.invariant.0, λ ea nc nn. sought_fails _ _ _ _ _ _ _ (c.loop-j.invariant.1 ea nc nn) _ c.member_of-ty.ensures.0 _ (omega arith) _ w.in-Some-wanted.ensures (c.args.at + 1) (omega arith) _ _ _ w.args_again.ensures.1 w.if-args_again.false _ w.with_bit-left.ensures)))
+      | find_given-in_default-wanted w ↦
+          rw w.w-is (rw w.had-is (rw w.left-is (c.loop-j.invariant.0, λ ea nc nn. sought_misses _ _ _ _ _ _ _ (c.loop-j.invariant.1 ea nc nn) _ c.member_of-ty.ensures.0 _ (omega arith) w.in_default-wanted.ensures)))
+    ]
 
 pub find_given-shape_of-w : goal.find_given-shape_of-w
 find_given-shape_of-w t c = c.loop-j.invariant.0
 
 pub find_given-returns : goal.find_given-returns
-find_given-returns t c = (c.loop-j.invariant.0, λ ea nc nn. sought_end _ _ _ _ _ _ _ (c.loop-j.invariant.1 ea nc nn) (c.off-given.ensures ∙ ap (off_of _ _) c.number_in.ensures.0) ea nc nn _ c.many_of-many.ensures.0 (omega arith))
+find_given-returns t c = (c.loop-j.invariant.0, λ ea nc nn. sought_end _ _ _ _ _ _ _ (c.loop-j.invariant.1 ea nc nn) c.in-Some.ensures.0 ea nc nn _ c.many_of-many.ensures.0 (omega arith))
 
 pub find_states-returns-then-at-ge-MAX_NODES : goal.find_states-returns-then-at-ge-MAX_NODES
 find_states-returns-then-at-ge-MAX_NODES t c = (refl, λ ea. settles_found _ _ _ _ _ (finds_none _ _ _ _))
@@ -476,8 +441,8 @@ find_states-shape_of-w t c = c.find_given.ensures.0
 pub find_states-returns : goal.find_states-returns
 find_states-returns t c = (c.find_given.ensures.0, λ ea. c.find_given.ensures.1 ea c.if-node-eq0.false c.if-node-eq1.false)
 
-pub try_one-returns-then-ty-eq-NONE : goal.try_one-returns-then-ty-eq-NONE
-try_one-returns-then-ty-eq-NONE t c = (refl, try_misses _ _ _ _ _ _ _ _ c.candidate-ty.ensures c.if-ty-eq-NONE.true)
+pub try_one-returns-in_default : goal.try_one-returns-in_default
+try_one-returns-in_default t c = (refl, try_misses _ _ _ _ _ _ _ c.in_default.ensures)
 
 pub try_one-overflow_add-at : goal.try_one-overflow_add-at
 try_one-overflow_add-at t c = let h = c.requires in omega arith
@@ -486,10 +451,10 @@ pub try_one-shape_of-w-then-not-check_args : goal.try_one-shape_of-w-then-not-ch
 try_one-shape_of-w-then-not-check_args t c = c.check_args.ensures.0
 
 pub try_one-returns-then-not-check_args : goal.try_one-returns-then-not-check_args
-try_one-returns-then-not-check_args t c = (c.check_args.ensures.0, try_lacks _ _ _ _ _ _ _ _ c.candidate-ty.ensures c.if-ty-eq-NONE.false (c.args.at + 1) (omega arith) _ _ _ c.check_args.ensures.1 c.if-not-check_args.true)
+try_one-returns-then-not-check_args t c = (c.check_args.ensures.0, try_lacks _ _ _ _ _ _ _ _ c.in-Some.ensures (c.args.at + 1) (omega arith) _ _ _ c.check_args.ensures.1 c.if-not-check_args.true)
 
 pub try_one-shape_of-w : goal.try_one-shape_of-w
 try_one-shape_of-w t c = c.note_in.ensures.0 ∙ c.check_args.ensures.0
 
 pub try_one-returns : goal.try_one-returns
-try_one-returns t c = (c.note_in.ensures.0 ∙ c.check_args.ensures.0, tries_moved _ _ _ _ _ _ _ _ _ _ _ _ c.note_in.ensures.1 refl (try_serves _ _ _ _ _ _ _ _ c.candidate-ty.ensures c.if-ty-eq-NONE.false (c.args.at + 1) (omega arith) _ _ _ c.check_args.ensures.1 c.if-not-check_args.false _ c.note_in.ensures.2))
+try_one-returns t c = (c.note_in.ensures.0 ∙ c.check_args.ensures.0, tries_moved _ _ _ _ _ _ _ _ _ _ _ _ c.note_in.ensures.1 refl (try_serves _ _ _ _ _ _ _ _ c.in-Some.ensures (c.args.at + 1) (omega arith) _ _ _ c.check_args.ensures.1 c.if-not-check_args.false _ c.note_in.ensures.2))

@@ -1,32 +1,20 @@
 -- The check of a term and of its arguments meet their contracts. The remaining nodes fall, then what is asked of a node.
-use Prim.Native.Nat.{◌-◌, ◌*◌, ◌+◌, ◌%◌, ◌≤◌}
-use mathlib.Core.Path.{◌≡◌, refl, sym, ap, ◌∙◌}
+use Prim.Native.Nat.{◌-◌, ◌*◌, ◌+◌, ◌≤◌}
+use mathlib.Core.Path.{◌≡◌}
 use mathlib.Core.Bool.{Bool}
 use mathlib.Core.List.{List}
 use lib.ListN.{length}
-use native.Mathlib.Omega.{arith}
-use borrow.Author.Rules.{rules}
-use borrow.Author.Tests.{not-true, not-false}
-use Rattle.index.specs.layout.Layout.{row_limit, words_limit, test_cells}
-use Rattle.tables.specs.reading.Cells.{off_of, group_of, node_at}
+use Rattle.tables.specs.reading.Cells.{group_of, node_at}
 use Rattle.term_check.specs.notes.Notes.{base_in}
 use Rattle.term_check.specs.Worlds.{case_of, answers_of, users_of, ChecksArgs, ChecksTargets, Finds}
-use Rattle.term_check.proofs.heads.Candidates.{row_fits}
-use Rattle.term_check.proofs.heads.Sets.{next_behind_sets}
-use Rattle.term_check.proofs.check.Keeping.{node_by, next_by, tells_on}
-use Rattle.term_check.proofs.check.Arguments.{args_none, args_stuck, args_lack, args_rest}
-use Rattle.term_check.proofs.check.Targets.{targets_none, targets_stuck, targets_lack, targets_rest, down_none, down, leaf_settles}
 use Rattle.term_check.proofs.check.Bound.{try_misses, try_lacks, try_serves, failed_start, tried_serves, tried_fails, tried_none, failed_end, try_next, served, next_behind, listed_is}
 use Rattle.term_check.proofs.check.Bound as Bound
 use Rattle.term_check.proofs.check.Given.{given_start, given_none, given_end, member_misses, member_fails, member_has}
 use Rattle.term_check.proofs.check.Given as Given
-use Rattle.term_check.proofs.check.Seeking.{Sought, sought_start, sought_misses, sought_fails, sought_serves, sought_end}
-use Rattle.term_check.proofs.check.Known.{known_args}
-use Rattle.term_check.proofs.check.Members.{states_lack, states_had, states_fail, states_checked, had_at_once, Asked, asked_start, asked_end, Recalled, recalled_none, recalled_more, recalled_on, recalled_no, recalled_yes, checked_no, checked_yes}
-use Rattle.term_check.proofs.check.States.{finds_none, finds_on, finds_more, settles_found, Left, left_start, left_more, left_fails, left_end, settled_fails}
-use Rattle.term_check.proofs.check.Moved.{members_moved, asked_moved, recalled_moved, all_moved, tries_moved}
-use Rattle.term_check.proofs.check.Terms.{term_past, no_targets, built_checked, alone_no, alone_yes}
-use Prim.Native.Nat.{ℕ, ◌<◌}
+use Rattle.term_check.proofs.check.Seeking.{Sought}
+use Rattle.term_check.proofs.check.Members.{Asked, Recalled}
+use Rattle.term_check.proofs.check.States.{Left}
+use Prim.Native.Nat.{ℕ}
 use Rattle.term_check.proofs.check.+term.Given as goal
 
 abbrev pub decreases-args_again : goal.decreases-args_again
@@ -77,23 +65,14 @@ decreases-find_states l = (18446744073709551616 - l.at) * 16 + 7
 abbrev pub decreases-try_one : goal.decreases-try_one
 decreases-try_one l = (18446744073709551616 - l.at) * 16 + 3
 
-abbrev pub invariant-all_args-loop-left : goal.invariant-all_args-loop-left
-invariant-all_args-loop-left l = (length l.w ≡ length l.initial.w) × (l.at ≤ l.here) × ((memo' users' : List ℕ) (b : Bool) → ChecksArgs (case_of l.t l.r) (answers_of l.r l.w) (users_of l.r l.w) l.here l.left l.rest memo' users' b → ChecksArgs (case_of l.t l.r) (answers_of l.r l.initial.w) (users_of l.r l.initial.w) l.at l.count l.ty memo' users' b)
-
-abbrev pub decreases-all_args-loop-left : goal.decreases-all_args-loop-left
-decreases-all_args-loop-left l = l.left
+abbrev pub invariant-all_args-loop : goal.invariant-all_args-loop
+invariant-all_args-loop l = (length l.w ≡ length l.initial.w) × (l.at ≤ l.here) × ((memo' users' : List ℕ) (b : Bool) → ChecksArgs (case_of l.t l.r) (answers_of l.r l.w) (users_of l.r l.w) l.here (l.count - l.counter) l.rest memo' users' b → ChecksArgs (case_of l.t l.r) (answers_of l.r l.initial.w) (users_of l.r l.initial.w) l.at l.count l.ty memo' users' b)
 
 abbrev pub invariant-check_each-loop-j : goal.invariant-check_each-loop-j
-invariant-check_each-loop-j l = (length l.w ≡ length l.initial.w) × Asked (case_of l.t l.r) (answers_of l.r l.initial.w) (users_of l.r l.initial.w) l.at l.ty (answers_of l.r l.w) (users_of l.r l.w) l.j × Recalled (case_of l.t l.r) (answers_of l.r l.initial.w) (users_of l.r l.initial.w) l.at l.ty (users_of l.r l.w) l.word l.known
-
-abbrev pub decreases-check_each-loop-j : goal.decreases-check_each-loop-j
-decreases-check_each-loop-j l = l.many - l.j
+invariant-check_each-loop-j l = (length l.w ≡ length l.initial.w) × Asked (case_of l.t l.r) (answers_of l.r l.initial.w) (users_of l.r l.initial.w) l.at l.ty (answers_of l.r l.w) (users_of l.r l.w) l.j × Recalled (case_of l.t l.r) (answers_of l.r l.initial.w) (users_of l.r l.initial.w) l.at l.ty (users_of l.r l.w) l.last
 
 abbrev pub invariant-check_given-loop-j : goal.invariant-check_given-loop-j
 invariant-check_given-loop-j l = (length l.w ≡ length l.initial.w) × Given.Tried (case_of l.t l.r) (answers_of l.r l.initial.w) (users_of l.r l.initial.w) l.at l.goal l.node l.given (answers_of l.r l.w) (users_of l.r l.w) l.j
-
-abbrev pub decreases-check_given-loop-j : goal.decreases-check_given-loop-j
-decreases-check_given-loop-j l = l.many - l.j
 
 abbrev pub invariant-check_listed-loop-from : goal.invariant-check_listed-loop-from
 invariant-check_listed-loop-from l = (length l.w ≡ length l.initial.w) × (group_of l.t l.node.number ≤ l.from) × (l.node ≡ node_at l.t (base_in l.r) l.at → l.node.tag ≡ 1 → Bound.Failed (case_of l.t l.r) (answers_of l.r l.initial.w) (users_of l.r l.initial.w) l.at l.goal l.node (answers_of l.r l.w) (users_of l.r l.w) l.from)
@@ -121,6 +100,3 @@ decreases-find_bound-loop-left l = l.left
 
 abbrev pub invariant-find_given-loop-j : goal.invariant-find_given-loop-j
 invariant-find_given-loop-j l = (length l.w ≡ length l.initial.w) × (l.node ≡ node_at l.t (base_in l.r) l.at → (l.node.tag ≡ 0 → ⊥) → (l.node.tag ≡ 1 → ⊥) → Sought (case_of l.t l.r) (answers_of l.r l.initial.w) (users_of l.r l.initial.w) l.at l.asked l.node l.given (answers_of l.r l.w) (users_of l.r l.w) l.had l.left l.j)
-
-abbrev pub decreases-find_given-loop-j : goal.decreases-find_given-loop-j
-decreases-find_given-loop-j l = l.many - l.j

@@ -1,6 +1,5 @@
 -- `all_had` meets its contract.
 use mathlib.Core.Path.{refl}
-use borrow.Author.Rules.{rules}
 use Rattle.term_check.proofs.heads.Looking.{had_unseen, had_seen}
 use Rattle.term_check.proofs.heads.all_had.Goals as goal
 

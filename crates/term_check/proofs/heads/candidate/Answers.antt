@@ -1,11 +1,9 @@
 -- `candidate` meets its contract.
 use native.Mathlib.Omega.{arith}
 use lib.ListN.{drop}
-use borrow.Author.Tests.{not-true, not-false}
 use Rattle.term_check.proofs.heads.Candidates.{row_fits, past_all, not_in_set, other_symbol, in_set, candidate_is, stands_by}
 use Rattle.index.specs.layout.Layout.{test_cells}
 use Rattle.term_check.proofs.heads.Sets.{decides_behind}
-use borrow.Author.Rules.{rules}
 use Rattle.term_check.proofs.heads.candidate.Goals as goal
 
 pub returns-then-number_in-c : goal.returns-then-number_in-c

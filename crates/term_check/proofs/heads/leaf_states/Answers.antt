@@ -1,20 +1,10 @@
 -- `leaf_states` meets its contract.
 use lib.Bits.{and_le_l}
 use Rattle.term_check.proofs.heads.Building.{leaf_nothing, leaf_decided}
-use borrow.Author.Rules.{rules}
 use Rattle.term_check.proofs.heads.leaf_states.Goals as goal
 
 pub returns-then-node-ne0 : goal.returns-then-node-ne0
 returns-then-node-ne0 c = leaf_nothing _ _ _
-
-pub returns-then-node-ge-MAX_CONSTRUCTORS : goal.returns-then-node-ge-MAX_CONSTRUCTORS
-returns-then-node-ge-MAX_CONSTRUCTORS c = leaf_nothing _ _ _
-
-pub returns-then-arity_of-ne0 : goal.returns-then-arity_of-ne0
-returns-then-arity_of-ne0 c = leaf_nothing _ _ _
-
-pub returns-then-asked-gt65535 : goal.returns-then-asked-gt65535
-returns-then-asked-gt65535 c = leaf_nothing _ _ _
 
 pub overflow_sub-result : goal.overflow_sub-result
 overflow_sub-result c = and_le_l _ _

@@ -1,22 +1,23 @@
 -- `matches` meets its contract.
 use native.Mathlib.Omega.{arith}
-use mathlib.Core.Bool.{Bool, false}
-use borrow.Author.Rules.{rules}
-use Rattle.term_check.specs.heads.Heads.{Matches}
+use native.Mathlib.Numerals.{unary_clauses}
+use mathlib.Core.Bool.{false}
 use Rattle.term_check.proofs.heads.Matching.{match_end, match_many, match_member, match_next}
 use Rattle.term_check.proofs.heads.matches.Goals as goal
+use Rattle.term_check.proofs.heads.matches.Goals.{then-many_of-ne1-via-then-many_of-ne1, then-many_of-ne1-via-else-many_of-ne1+then-member_of-rest}
 
-pub loop-i-init : goal.loop-i-init
-loop-i-init c r m = m
+pub loop-init : goal.loop-init
+loop-init c r m = simp unary_clauses at m
 
 pub returns-then-many_of-ne1 : goal.returns-then-many_of-ne1
-returns-then-many_of-ne1 c = c.loop-i.invariant false (match_many _ _ _ _ _ c.loop-i-test.true c.many_of.ensures.0 c.if-many_of-ne1.true)
+returns-then-many_of-ne1 c =
+    c.loop.invariant false (elim c.then-many_of-ne1.branch [
+      | then-many_of-ne1-via-then-many_of-ne1 w ↦ match_many _ _ _ _ _ (omega arith) c.many_of.ensures.0 w.if-many_of-ne1.true
+      | then-many_of-ne1-via-else-many_of-ne1+then-member_of-rest w ↦ match_member _ _ _ _ _ (omega arith) w.member_of.ensures.0 w.if-member_of-rest.true
+    ])
 
-pub returns-then-member_of-rest : goal.returns-then-member_of-rest
-returns-then-member_of-rest c = c.loop-i.invariant false (match_member _ _ _ _ _ c.loop-i-test.true c.member_of.ensures.0 c.if-member_of-rest.true)
-
-pub loop-i-preserved : goal.loop-i-preserved
-loop-i-preserved c r m = c.loop-i.invariant r (match_next _ _ _ _ _ _ _ r c.loop-i-test.true c.many_of.ensures.0 c.if-many_of-ne1.false c.member_of.ensures.0 c.if-member_of-rest.false c.result_of-g.ensures.0 m)
+pub loop-preserved : goal.loop-preserved
+loop-preserved c r m = c.loop.invariant r (match_next _ _ _ _ _ _ _ _ r (omega arith) (omega arith) c.many_of.ensures.0 c.if-many_of-ne1.false c.member_of.ensures.0 c.if-member_of-rest.false c.result_of-g.ensures.0 m)
 
 pub returns : goal.returns
-returns c = c.loop-i.invariant _ (match_end _ _ _ _ (omega arith))
+returns c = c.loop.invariant _ (match_end _ _ _ _ (omega arith))

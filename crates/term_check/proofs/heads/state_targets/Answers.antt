@@ -1,7 +1,6 @@
 -- `state_targets` meets its contract.
 use native.Mathlib.Omega.{arith}
 use Rattle.term_check.proofs.heads.Building.{no_constructor, state_missing, state_partial, state_found}
-use borrow.Author.Rules.{rules}
 use Rattle.term_check.proofs.heads.state_targets.Goals as goal
 
 pub returns-then-c-ge-MAX_CONSTRUCTORS : goal.returns-then-c-ge-MAX_CONSTRUCTORS
@@ -18,4 +17,4 @@ returns-then-arity_of-count c = state_partial _ _ _ _ c.requires _ c.arity_of.en
 
 pub returns : goal.returns
 returns c =
-    state_found _ _ _ _ c.requires _ _ _ c.if-c-ge-MAX_CONSTRUCTORS.false c.present_of-present.ensures.0 c.if-present-q-eq0.false c.arity_of.ensures.0 c.if-arity_of-count.false c.targets_of.ensures.0 c.targets_of.ensures.1
+    state_found _ _ _ _ c.requires _ _ _ c.if-c-ge-MAX_CONSTRUCTORS.false c.present_of-present.ensures.0 c.if-present-q-eq0.false c.arity_of.ensures.0 c.if-arity_of-count.false c.targets_of.ensures.0

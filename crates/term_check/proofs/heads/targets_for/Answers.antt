@@ -1,7 +1,5 @@
 -- `targets_for` meets its contract.
-use borrow.Author.Tests.{not-true, not-false}
 use Rattle.term_check.proofs.heads.Building.{no_constructor, no_transition, too_few, no_match, match_found}
-use borrow.Author.Rules.{rules}
 use Rattle.term_check.proofs.heads.targets_for.Goals as goal
 
 pub state_targets-requires : goal.state_targets-requires
@@ -25,4 +23,4 @@ returns-then-not-matches c = no_match _ _ _ _ _ _ _ _ _ (λ rs are. c.end_of-q.e
 pub returns : goal.returns
 returns c =
     match_found _ _ _ _ _ _ _ _ _ (λ rs are. c.end_of-q.ensures.0) c.arity_of-arity.ensures.0 c.targets_of-targets.ensures.0 c.behind.ensures c.matches.ensures
-    c.targets_of-targets.ensures.1 c.if-c-ge-MAX_CONSTRUCTORS.false _ c.present_of-present.ensures.0 c.if-present-q-eq0.false c.if-arity-count.false c.if-not-matches.false
+    c.if-c-ge-MAX_CONSTRUCTORS.false _ c.present_of-present.ensures.0 c.if-present-q-eq0.false c.if-arity-count.false c.if-not-matches.false

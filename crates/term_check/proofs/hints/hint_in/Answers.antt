@@ -2,7 +2,6 @@
 use native.Mathlib.Omega.{arith}
 use lib.Seq.{lt-length-set}
 use Rattle.term_check.proofs.parts.Parting.{set_twice}
-use borrow.Author.Rules.{rules}
 use Rattle.term_check.proofs.hints.hint_in.Goals as goal
 
 pub offset_bounds-w-head : goal.offset_bounds-w-head

@@ -1,6 +1,5 @@
 -- `has_bit` meets its contract.
 use Rattle.term_check.proofs.masks.Words.{bit_decided}
-use borrow.Author.Rules.{rules}
 use Rattle.term_check.proofs.masks.has_bit.Goals as goal
 
 pub returns : goal.returns

@@ -1,5 +1,4 @@
 -- `stamp_of` meets its contract.
-use borrow.Author.Rules.{rules}
 use Rattle.term_check.proofs.notes.stamp_of.Goals as goal
 
 pub returns : goal.returns

@@ -1,6 +1,5 @@
 -- `learn_in` meets its contract.
 use Rattle.term_check.proofs.parts.Parting.{learn_part}
-use borrow.Author.Rules.{rules}
 use Rattle.term_check.proofs.parts.learn_in.Goals as goal
 
 pub returns : goal.returns

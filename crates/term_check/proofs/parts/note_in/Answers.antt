@@ -3,7 +3,6 @@ use Prim.Native.Nat.{◌%◌}
 use native.Mathlib.Omega.{arith}
 use Rattle.index.specs.layout.Layout.{max_bindings, test_binding, test_words, test_bindings, test_users}
 use Rattle.term_check.proofs.parts.Noting.{wider, columns_fit, note_none, note_both}
-use borrow.Author.Rules.{rules}
 use lib.ListN.{get_or}
 use Rattle.term_check.proofs.parts.note_in.Goals as goal
 

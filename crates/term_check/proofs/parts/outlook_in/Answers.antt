@@ -1,6 +1,5 @@
 -- `outlook_in` meets its contract.
 use Rattle.term_check.proofs.parts.Parting.{outlook_part}
-use borrow.Author.Rules.{rules}
 use Rattle.term_check.proofs.parts.outlook_in.Goals as goal
 
 pub returns : goal.returns
