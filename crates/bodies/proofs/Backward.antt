@@ -7,7 +7,7 @@ use mathlib.Core.Option.{some}
 use native.Mathlib.Omega.{arith}
 use native.Mathlib.Nat.{le_of_suc-le-suc}
 use borrow.Author.Tests.{le-leb, leb-true, leb-false}
-use Rattle.std.specs.Prelude.{Option, Some, None, is_some}
+use Rattle.std.specs.Prelude.{Option, Some, None}
 use lib.Dec.{T, leb, leb→le}
 use lib.ListN.{length, get_or, set, drop, length-set}
 use lib.Seq.{get_or-set_same, get_or-set_other, drop-set-lt}
@@ -20,6 +20,7 @@ use Rattle.scheme.proofs.Sorting.{after_out}
 use Rattle.casefile.specs.Fields.{field}
 use Rattle.casefile.specs.Tables.{head_of, nodes_of, first_term}
 use Rattle.sorts.specs.codes.Sorted.{Code}
+use Rattle.bodies.specs.declared.Heads.{Heads}
 use Rattle.bodies.specs.Bodies.{Held, Fits, ArgumentsFit, Goods, HeldFrom, heads_by, BodyTables, HeadCode, HeldAs, Room, NodeRead, NodeTaken}
 use Rattle.bodies.specs.declared.Subterm.{Subterm}
 use Rattle.casefile.proofs.Cells.{node_at, nodes_length, nodes_drop}
@@ -179,9 +180,9 @@ module _ (hs : Head → Sort) (sorts : List Sort) (ns : List Node) (i : ℕ) (nd
           ends_are = λ j l m. ends_from j l m (leb j i) refl;
         }
 
-module _ {p froms tos trees arities signatures : List ℕ} {own i : ℕ} {ends codes depths : List ℕ} {head k : ℕ} {r : Option Subterm} (hc : HeadCode p froms tos trees arities signatures own i head)
-    (ek : k ≡ field 1 p (i * 4 + 3)) (af : ArgumentsFit froms tos trees ends codes depths (length p / 4) (i + 1) k head r) where
-  module _ {sorts : List Sort} {counts numbers : List ℕ} (w : BodyTables sorts counts numbers p froms tos trees arities signatures own) (inside : i < length p / 4)
+module _ {p : List ℕ} {heads : Heads} {own i : ℕ} {ends codes depths : List ℕ} {head k : ℕ} {r : Option Subterm} (hc : HeadCode p heads own i head)
+    (ek : k ≡ field 1 p (i * 4 + 3)) (af : ArgumentsFit heads ends codes depths (length p / 4) (i + 1) k head r) where
+  module _ {sorts : List Sort} {counts numbers : List ℕ} (w : BodyTables sorts counts numbers p heads own) (inside : i < length p / 4)
       (h : HeldFrom (heads_by sorts counts numbers own) sorts (nodes_of p) ends codes depths (suc i)) where
     behind_node : Held (heads_by sorts counts numbers own) sorts ends codes depths (length p / 4) (terms (drop (suc i) (nodes_of p))) (i + 1)
     behind_node =
@@ -210,7 +211,7 @@ module _ {p froms tos trees arities signatures : List ℕ} {own i : ℕ} {ends c
     deep_fails a y m =
         node_deep (heads_by sorts counts numbers own) sorts (nodes_of p) i (node_at p i) (nodes_drop p i inside) node_inside h a (node_at p i).count (suc i) refl (fits_node a y) m
 
-  pub read_misfit : r ≡ None → NodeRead p froms tos trees arities signatures own i ends codes depths ends codes depths false
+  pub read_misfit : r ≡ None → NodeRead p heads own i ends codes depths ends codes depths false
   read_misfit y = record {
     long = refl;
     long_codes = refl;
@@ -220,7 +221,7 @@ module _ {p froms tos trees arities signatures : List ℕ} {own i : ℕ} {ends c
     fails = λ sorts counts numbers w inside h e. misfit_fails w inside h y;
   }
 
-  pub read_deep : (a : Subterm) → r ≡ Some a → max_depth ≤ a.deep → NodeRead p froms tos trees arities signatures own i ends codes depths ends codes depths false
+  pub read_deep : (a : Subterm) → r ≡ Some a → max_depth ≤ a.deep → NodeRead p heads own i ends codes depths ends codes depths false
   read_deep a y m = record {
     long = refl;
     long_codes = refl;
@@ -231,7 +232,7 @@ module _ {p froms tos trees arities signatures : List ℕ} {own i : ℕ} {ends c
   }
 
   pub read_held : (a : Subterm) → r ≡ Some a → a.deep < max_depth
-      → NodeRead p froms tos trees arities signatures own i ends codes depths (set ends i a.end) (set codes i a.sort) (set depths i (a.deep + 1)) true
+      → NodeRead p heads own i ends codes depths (set ends i a.end) (set codes i a.sort) (set depths i (a.deep + 1)) true
   read_held a y m = record {
     long = length-set ends i a.end;
     long_codes = length-set codes i a.sort;
@@ -252,16 +253,16 @@ held_some {ends} {codes} {depths} {n} {at} {a} h ee es ed = record {
   deep_is = λ b e. let same : a ≡ b = cc in subst (λ (x : Subterm). x.deep ≡ get_or depths at 0) same ed;
 }
 
-module _ {p froms tos trees arities signatures : List ℕ} {own i : ℕ} {ends codes depths : List ℕ} where
+module _ {p : List ℕ} {heads : Heads} {own i : ℕ} {ends codes depths : List ℕ} where
   -- a node that does not fit
-  pub taken_misfit : NodeRead p froms tos trees arities signatures own i ends codes depths ends codes depths false
-      → NodeTaken p froms tos trees arities signatures own i ends codes depths ends codes depths None
+  pub taken_misfit : NodeRead p heads own i ends codes depths ends codes depths false
+      → NodeTaken p heads own i ends codes depths ends codes depths None
   taken_misfit n = record { read = n; held_as = λ a e. absurd (cc) }
 
   -- a node that fits is what the tables hold of it
   pub taken_held : {e c d : ℕ} → i < length p / 4 → Room p ends codes depths
-      → NodeRead p froms tos trees arities signatures own i ends codes depths (set ends i e) (set codes i c) (set depths i d) true
-      → NodeTaken p froms tos trees arities signatures own i ends codes depths (set ends i e) (set codes i c) (set depths i d) (Some (record { end = e; sort = c; deep = d }))
+      → NodeRead p heads own i ends codes depths (set ends i e) (set codes i c) (set depths i d) true
+      → NodeTaken p heads own i ends codes depths (set ends i e) (set codes i c) (set depths i d) (Some (record { end = e; sort = c; deep = d }))
   taken_held {e} {c} {d} h room n =
       let a = room.few in
       let b = room.ends_long in

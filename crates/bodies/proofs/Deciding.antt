@@ -20,6 +20,7 @@ use Rattle.scheme.proofs.Sorting.{same_refl, found_sort}
 use Rattle.casefile.specs.Tables.{nodes_of, first_term, body_of}
 use Rattle.casefile.specs.Refusals.{wrong_body}
 use Rattle.sorts.specs.codes.Sorted.{SortArrays}
+use Rattle.bodies.specs.declared.Heads.{Heads}
 use Rattle.bodies.specs.Bodies.{Held, Goods, heads_by, BodyTables, Scanned, BodyDecided}
 use Rattle.bodies.specs.declared.Subterm.{Subterm}
 use Rattle.sorts.proofs.codes.Codes.{code_listed, listed_code}
@@ -111,8 +112,8 @@ module _ (p : List ℕ) (own : ℕ) where
       let g = ap (λ x. countᵗ (terms x)) (no_elements (nodes_of p) (nodes_length p ∙ h)) in
       omega arith
 
-module _ {p froms tos trees arities signatures : List ℕ} {own : ℕ} where
-  pub decide_long : {ends : List ℕ} → max_nodes < length p / 4 → BodyDecided p froms tos trees arities signatures own ends ends false
+module _ {p : List ℕ} {heads : Heads} {own : ℕ} where
+  pub decide_long : {ends : List ℕ} → max_nodes < length p / 4 → BodyDecided p heads own ends ends false
   decide_long h = record {
     long = refl;
     rest = refl;
@@ -120,7 +121,7 @@ module _ {p froms tos trees arities signatures : List ℕ} {own : ℕ} where
     ends_are = λ sorts counts numbers w l. absurd (omega arith);
   }
 
-  pub decide_short : {ends : List ℕ} → length ends < length p / 4 → BodyDecided p froms tos trees arities signatures own ends ends false
+  pub decide_short : {ends : List ℕ} → length ends < length p / 4 → BodyDecided p heads own ends ends false
   decide_short h = record {
     long = refl;
     rest = refl;
@@ -128,8 +129,8 @@ module _ {p froms tos trees arities signatures : List ℕ} {own : ℕ} where
     ends_are = λ sorts counts numbers w l m. absurd (omega arith);
   }
 
-  module _ {before ends codes depths : List ℕ} {r : Option Subterm} (s : Scanned p froms tos trees arities signatures own before ends codes depths r) where
-    pub decide_fails : r ≡ None → BodyDecided p froms tos trees arities signatures own before ends false
+  module _ {before ends codes depths : List ℕ} {r : Option Subterm} (s : Scanned p heads own before ends codes depths r) where
+    pub decide_fails : r ≡ None → BodyDecided p heads own before ends false
     decide_fails y = record {
       long = s.long;
       rest = s.rest;
@@ -137,7 +138,7 @@ module _ {p froms tos trees arities signatures : List ℕ} {own : ℕ} where
       ends_are = λ sorts counts numbers w l m e. absurd (cc);
     }
       where
-        by : (sorts : List Sort) (counts numbers : List ℕ) → BodyTables sorts counts numbers p froms tos trees arities signatures own → length p / 4 ≤ length before
+        by : (sorts : List Sort) (counts numbers : List ℕ) → BodyTables sorts counts numbers p heads own → length p / 4 ≤ length before
             → verdict (heads_by sorts counts numbers own) (complete (nodes_of p)) (terms (nodes_of p)) ≡ true → Dec (length p / 4 ≡ 0) → ⊥
         by sorts counts numbers w m e (yes z) = empty_refused p own z sorts counts numbers e
         by sorts counts numbers w m e (no z) =
@@ -148,7 +149,7 @@ module _ {p froms tos trees arities signatures : List ℕ} {own : ℕ} where
       nodes_some : 0 < length (nodes_of p)
       nodes_some = let e = nodes_length p in let h = (s.held_as a y).inside a y in omega arith
 
-      decide_ends : (a.end ≡ length p / 4 → ⊥) → BodyDecided p froms tos trees arities signatures own before ends false
+      decide_ends : (a.end ≡ length p / 4 → ⊥) → BodyDecided p heads own before ends false
       decide_ends ne = record {
         long = s.long;
         rest = s.rest;
@@ -159,7 +160,7 @@ module _ {p froms tos trees arities signatures : List ℕ} {own : ℕ} where
       }
 
       last_cases : (b : Bool) → eqb a.sort 0 ≡ b → get_or ends 0 0 ≡ length (nodes_of p)
-          → (sorts : List Sort) (counts numbers : List ℕ) → BodyTables sorts counts numbers p froms tos trees arities signatures own → length p / 4 ≤ length before
+          → (sorts : List Sort) (counts numbers : List ℕ) → BodyTables sorts counts numbers p heads own → length p / 4 ≤ length before
           → b ≡ not (wrong_body counts (map (λ (f : ℕ). get_or sorts f o) numbers) (get_or sorts own o) p)
       last_cases true eb ee sorts counts numbers w m =
           let h = s.holds sorts counts numbers w m a y in
@@ -170,7 +171,7 @@ module _ {p froms tos trees arities signatures : List ℕ} {own : ℕ} where
           refused p own sorts counts numbers
           (verdict_codes (heads_by sorts counts numbers own) w.coded.table ends codes depths nodes_some (complete (nodes_of p)) (terms (nodes_of p)) h.held (λ f. eqb-false a.sort 0 eb ((s.held_as a y).sort_is a y ∙ f)))
 
-      decide_last : a.end ≡ length p / 4 → BodyDecided p froms tos trees arities signatures own before ends (eqb a.sort 0)
+      decide_last : a.end ≡ length p / 4 → BodyDecided p heads own before ends (eqb a.sort 0)
       decide_last en = record {
         long = s.long;
         rest = s.rest;
@@ -178,9 +179,9 @@ module _ {p froms tos trees arities signatures : List ℕ} {own : ℕ} where
         ends_are = λ sorts counts numbers w l m f i k. let q = nodes_length p in (s.holds sorts counts numbers w m a y).ends_are i (omega arith) (omega arith);
       }
 
-      tree_cases : (x : Bool) → eqb a.end (length p / 4) ≡ x → BodyDecided p froms tos trees arities signatures own before ends (x && eqb a.sort 0)
+      tree_cases : (x : Bool) → eqb a.end (length p / 4) ≡ x → BodyDecided p heads own before ends (x && eqb a.sort 0)
       tree_cases true e = decide_last (eqb-true a.end (length p / 4) e)
       tree_cases false e = decide_ends (eqb-false a.end (length p / 4) e)
 
-      pub decide_tree : (b : Bool) → b ≡ (eqb a.end (length p / 4) && eqb a.sort 0) → BodyDecided p froms tos trees arities signatures own before ends b
-      decide_tree b e = subst (λ x. BodyDecided p froms tos trees arities signatures own before ends x) (sym e) (tree_cases (eqb a.end (length p / 4)) refl)
+      pub decide_tree : (b : Bool) → b ≡ (eqb a.end (length p / 4) && eqb a.sort 0) → BodyDecided p heads own before ends b
+      decide_tree b e = subst (λ x. BodyDecided p heads own before ends x) (sym e) (tree_cases (eqb a.end (length p / 4)) refl)

@@ -11,12 +11,13 @@ use Rattle.scheme.specs.Sorting.{sort_after}
 use Rattle.scheme.specs.Terms.{Head, Terms, []ᵗ, ◌∷ᵗ◌, countᵗ, nodes, nodes_all}
 use Rattle.scheme.specs.Prefix.{takeᵗ, depth, deepest}
 use Rattle.scheme.proofs.Sorting.{after_fit, after_out}
-use Rattle.sorts.specs.codes.Sorted.{Code, Coded, Off, misfit, off, Applied}
-use Rattle.bodies.specs.Bodies.{Held, Fits, ArgumentsFit}
+use Rattle.sorts.specs.codes.Sorted.{Code, Off, misfit, off}
+use Rattle.bodies.specs.declared.Heads.{Heads}
+use Rattle.bodies.specs.Bodies.{CodedBy, AppliedBy, Held, Fits, ArgumentsFit}
 use Rattle.bodies.specs.declared.Subterm.{Subterm}
 
 module _ (hs : Head → Sort) where
-  module _ (sorts : List Sort) (froms tos trees ends codes depths : List ℕ) (n : ℕ) where
+  module _ (sorts : List Sort) (ends codes depths : List ℕ) (n : ℕ) where
     -- `left` of the terms us behind node `end` lead from sort s to the result of k of the terms ts behind node `at`
     pub record Going (ts us : Terms) (s₀ s : Sort) (at k end left sort deep : ℕ) : Type 0 where
       pub held : Held hs sorts ends codes depths n us end
@@ -98,46 +99,47 @@ pub first_deep : {x d : ℕ} → x ≡ d → x ≡ max 0 d
 first_deep e = omega arith
 
 -- whatever terms the tables hold behind node `at`, what is left leads to the result of k of them
-abbrev pub Leads : List ℕ → List ℕ → List ℕ → List ℕ → List ℕ → List ℕ → ℕ → ℕ → ℕ → ℕ → ℕ → ℕ → ℕ → ℕ → Type 0
-Leads froms tos trees ends codes depths n at k head end left sort deep =
-    (hs : Head → Sort) (sorts : List Sort) (ts : Terms) (s : Sort) → Coded sorts froms tos trees → Held hs sorts ends codes depths n ts at → Code sorts head s
-    → (us : Terms) × (s' : Sort) × Going hs sorts froms tos trees ends codes depths n ts us s s' at k end left sort deep
+pub record Leads (heads : Heads) (ends codes depths : List ℕ) (n at k head end left sort deep : ℕ) : Type 0 where
+  pub go : (hs : Head → Sort) (sorts : List Sort) (ts : Terms) (s : Sort) → CodedBy sorts heads → Held hs sorts ends codes depths n ts at → Code sorts head s
+      → (us : Terms) × (s' : Sort) × Going hs sorts ends codes depths n ts us s s' at k end left sort deep
 
-module _ {froms tos trees ends codes depths : List ℕ} {n at k head : ℕ} where
-  pub leads_start : Leads froms tos trees ends codes depths n at k head at k head 0
-  leads_start hs sorts ts s w h c = (ts, s, going_start hs sorts froms tos trees ends codes depths n ts s at k head h c)
+module _ {heads : Heads} {ends codes depths : List ℕ} {n at k head : ℕ} where
+  pub leads_start : Leads heads ends codes depths n at k head at k head 0
+  leads_start = record { go = λ hs sorts ts s w h c. (ts, s, going_start hs sorts ends codes depths n ts s at k head h c) }
 
-  module _ {end left sort deep : ℕ} (l : Leads froms tos trees ends codes depths n at k head end left sort deep) where
-    pub leads_end : left ≡ 0 → end < 65536 → sort < 65536 → ArgumentsFit froms tos trees ends codes depths n at k head (Some (record { end = end; sort = sort; deep = deep }))
+  module _ {end left sort deep : ℕ} (l : Leads heads ends codes depths n at k head end left sort deep) where
+    pub leads_end : left ≡ 0 → end < 65536 → sort < 65536 → ArgumentsFit heads ends codes depths n at k head (Some (record { end = end; sort = sort; deep = deep }))
     leads_end z he hs = record {
-      fits = λ hs sorts ts s w h c a e. let (us, s', g) = l hs sorts ts s w h c in
+      fits = λ hs sorts ts s w h c a e. let (us, s', g) = l.go hs sorts ts s w h c in
           let same : record { end = end; sort = sort; deep = deep } ≡ a = cc in
-          subst (Fits hs sorts ts s at k) same (going_end hs sorts froms tos trees ends codes depths n us s' left (record { end = end; sort = sort; deep = deep }) g z);
+          subst (Fits hs sorts ts s at k) same (going_end hs sorts ends codes depths n us s' left (record { end = end; sort = sort; deep = deep }) g z);
       misfit = λ hs sorts ts s w h c e. absurd (cc);
       end_small = λ a e. let same : record { end = end; sort = sort; deep = deep } ≡ a = cc in subst (λ (x : Subterm). x.end < 65536) same he;
       sort_small = λ a e. let same : record { end = end; sort = sort; deep = deep } ≡ a = cc in subst (λ (x : Subterm). x.sort < 65536) same hs;
     }
 
     module _ (p : 0 < left) where
-      pub leads_short : n ≤ end → ArgumentsFit froms tos trees ends codes depths n at k head None
+      pub leads_short : n ≤ end → ArgumentsFit heads ends codes depths n at k head None
       leads_short e = record {
         fits = λ hs sorts ts s w h c a f. absurd (cc);
-        misfit = λ hs sorts ts s w h c f m x q. let (us, s', g) = l hs sorts ts s w h c in going_short hs sorts froms tos trees ends codes depths n us s' end left sort deep g p e m;
+        misfit = λ hs sorts ts s w h c f m x q. let (us, s', g) = l.go hs sorts ts s w h c in going_short hs sorts ends codes depths n us s' end left sort deep g p e m;
         end_small = λ a f. absurd (cc);
         sort_small = λ a f. absurd (cc);
       }
 
-      pub leads_misfit : (argument : ℕ) (found : Option ℕ) → Applied froms tos trees sort argument found → argument ≡ get_or codes end 0 → found ≡ None → ArgumentsFit froms tos trees ends codes depths n at k head None
+      pub leads_misfit : (argument : ℕ) (found : Option ℕ) → AppliedBy heads sort argument found → argument ≡ get_or codes end 0 → found ≡ None → ArgumentsFit heads ends codes depths n at k head None
       leads_misfit argument found a ea e = record {
         fits = λ hs sorts ts s w h c a f. absurd (cc);
-        misfit = λ hs sorts ts s w h c f m x q. let (us, s', g) = l hs sorts ts s w h c in
-            going_misfit hs sorts froms tos trees ends codes depths n us s' end left sort deep found g p e (λ t d. a sorts s' t w g.code (rw ea d)) m x q;
+        misfit = λ hs sorts ts s w h c f m x q. let (us, s', g) = l.go hs sorts ts s w h c in
+            going_misfit hs sorts ends codes depths n us s' end left sort deep found g p e (λ t d. a sorts s' t w g.code (rw ea d)) m x q;
         end_small = λ a f. absurd (cc);
         sort_small = λ a f. absurd (cc);
       }
 
-      pub leads_next : (argument sort' end' deep' rest : ℕ) (found : Option ℕ) → end < n → Applied froms tos trees sort argument found → argument ≡ get_or codes end 0 → found ≡ Some sort'
-          → end' ≡ get_or ends end 0 → deep' ≡ max deep (get_or depths end 0) → rest ≡ left - 1 → Leads froms tos trees ends codes depths n at k head end' rest sort' deep'
-      leads_next argument sort' end' deep' rest found e a ea is ee ed er hs sorts ts s w h c =
-          let (us, s', g) = l hs sorts ts s w h c in
-          rw er (going_next hs sorts froms tos trees ends codes depths n us s' end left sort deep sort' end' deep' found g p e is (λ t d. a sorts s' t w g.code (rw ea d)) ee ed)
+      pub leads_next : (argument sort' end' deep' rest : ℕ) (found : Option ℕ) → end < n → AppliedBy heads sort argument found → argument ≡ get_or codes end 0 → found ≡ Some sort'
+          → end' ≡ get_or ends end 0 → deep' ≡ max deep (get_or depths end 0) → rest ≡ left - 1 → Leads heads ends codes depths n at k head end' rest sort' deep'
+      leads_next argument sort' end' deep' rest found e a ea is ee ed er = record {
+        go = λ hs sorts ts s w h c.
+            let (us, s', g) = l.go hs sorts ts s w h c in
+            rw er (going_next hs sorts ends codes depths n us s' end left sort deep sort' end' deep' found g p e is (λ t d. a sorts s' t w g.code (rw ea d)) ee ed);
+      }

@@ -66,7 +66,7 @@ impl<'a> Heads<'a> {
     // The code of the sort of a head with a tag and a number; `params` has the sorts of the first 8 parameters.
     fn code(self, own: usize, params: &[u16], tag: usize, number: usize) -> usize
         requires { ParameterSorts self.sorts.froms.now self.sorts.tos.now own params.now }
-        ensures head { HeadOf self.entry.sorts.froms.now self.entry.sorts.tos.now self.entry.trees.now self.entry.arities.now self.entry.signatures.now own tag number result }
+        ensures head { HeadOf self.entry own tag number result }
         ensures small { result < 65536 }
     {
         match tag {
@@ -93,7 +93,7 @@ impl<'a> Heads<'a> {
         requires held { HeldAs ends.now codes.now depths.now n at next }
         requires at_small { at < 65536 }
         requires head_small { head < 65536 }
-        ensures { ArgumentsFit self.entry.sorts.froms.now self.entry.sorts.tos.now self.entry.trees.now ends.now codes.now depths.now n at k head result }
+        ensures { ArgumentsFit self.entry ends.now codes.now depths.now n at k head result }
     {
         if k == 0 {
             return Some(Subterm {
@@ -134,7 +134,7 @@ impl<'a> Heads<'a> {
         requires room { Room p.now ends.old codes.old depths.old }
         requires params { ParameterSorts self.sorts.froms.now self.sorts.tos.now own params.now }
         requires held { HeldAs ends.old codes.old depths.old (length p.now / 4) (i + 1) next }
-        ensures { NodeTaken p.now self.entry.sorts.froms.now self.entry.sorts.tos.now self.entry.trees.now self.entry.arities.now self.entry.signatures.now own i ends.old codes.old depths.old ends.new codes.new depths.new result }
+        ensures { NodeTaken p.now self.entry own i ends.old codes.old depths.old ends.new codes.new depths.new result }
     {
         let node = node_at(p, i);
         let head = self.code(own, params, node.tag, node.number);
@@ -163,7 +163,7 @@ impl<'a> Heads<'a> {
     ) -> Option<Subterm>
         requires room { Room p.now ends.old codes.old depths.old }
         requires params { ParameterSorts self.sorts.froms.now self.sorts.tos.now own params.now }
-        ensures { Scanned p.now self.entry.sorts.froms.now self.entry.sorts.tos.now self.entry.trees.now self.entry.arities.now self.entry.signatures.now own ends.old ends.new codes.new depths.new result }
+        ensures { Scanned p.now self.entry own ends.old ends.new codes.new depths.new result }
     {
         let mut next = None;
         for i in (0..p.len() / NODE).rev() {
@@ -183,7 +183,7 @@ impl<'a> Heads<'a> {
         codes: &mut Rows,
         depths: &mut Rows,
     ) -> bool
-        ensures { BodyDecided p.now self.entry.sorts.froms.now self.entry.sorts.tos.now self.entry.trees.now self.entry.arities.now self.entry.signatures.now own ends.old ends.new result }
+        ensures { BodyDecided p.now self.entry own ends.old ends.new result }
     {
         let n = p.len() / NODE;
         if MAX_NODES < n || ends.len() < n {

@@ -19,7 +19,7 @@ fn read_rule(
     codes: &mut Rows,
     depths: &mut Rows,
 ) -> Option<usize>
-    ensures { RuleRead file.now index.now heads.entry.sorts.froms.now heads.entry.sorts.tos.now heads.entry.trees.now heads.entry.arities.now heads.entry.signatures.now f ends.old ends.new result }
+    ensures { RuleRead file.now index.now heads.entry f ends.old ends.new result }
 {
     if LAST_NONTERMINAL < f {
         return None;
@@ -52,7 +52,7 @@ pub(crate) fn read_rules(
     depths: &mut Rows,
 ) -> Option<usize>
     ensures within { IfSome result (λ f. f < rules) }
-    ensures first { ReadsRules file.now index.now heads.entry.sorts.froms.now heads.entry.sorts.tos.now heads.entry.trees.now heads.entry.arities.now heads.entry.signatures.now rules ends.old ends.new result }
+    ensures first { ReadsRules file.now index.now heads.entry rules ends.old ends.new result }
 {
     let mut at: usize = 0;
     for f in 0..rules {

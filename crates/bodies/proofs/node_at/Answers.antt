@@ -1,6 +1,6 @@
 -- `node_at` meets its contract.
 use Prim.Native.Nat.{◌+◌, ◌*◌}
-use mathlib.Core.Path.{refl, ◌∙◌}
+use mathlib.Core.Path.{◌∙◌}
 use native.Mathlib.Omega.{arith}
 use Rattle.casefile.proofs.Fields.{is_field_one}
 use Rattle.bodies.proofs.Nodes.{field_two}

@@ -25,6 +25,7 @@ use Rattle.casefile.proofs.TypeTable.{count_payloads}
 use Rattle.index.specs.layout.Layout.{max_constructors, max_nonterminals, max_nodes, max_body, sorts_at, constructors_at, nonterminals_at, all_sorts}
 use Rattle.index.specs.entries.Index.{base, Indexed}
 use Rattle.sorts.specs.codes.Sorted.{SortArrays, TreeCodes}
+use Rattle.bodies.specs.declared.Heads.{Heads}
 use Rattle.bodies.specs.Bodies.{BodyTables}
 use Rattle.sorts.proofs.codes.FileSorts.{sort_arrays}
 use Rattle.casefile.proofs.Cells.{cells_length}
@@ -188,10 +189,23 @@ module _ {file index : List ℕ} {rs : List Record} (k : Kind) (n : ℕ) (there 
       (λ i hi. get_or-take (length vs) t i 0 (omega arith) ∙ field_at z t fi i (omega arith) (long i (omega arith)) ∙ sym (get_d_map_in (λ (p : List ℕ). field w p 0) (payloads k rs) i 0 [] (omega arith)))
 
 module _ {file index : List ℕ} {sorts constructors nonterminals rules : ℕ} {rs : List Record} (fi : Filed file index sorts constructors nonterminals rules rs)
-    (z₁ z₂ z₃ z₄ froms tos trees arities signatures : List ℕ) (l₁ : length z₁ ≡ all_sorts) (l₂ : length z₂ ≡ all_sorts) (l₃ : length z₃ ≡ max_constructors) (l₄ : length z₄ ≡ max_nonterminals)
-    (from-filled : Filled 2 file index sorts_at 0 sorts 1 z₁ froms) (to-filled : Filled 2 file index sorts_at 2 sorts 1 z₂ tos)
-    (arity-filled : Filled 1 file index constructors_at 0 constructors 0 z₃ arities) (signature-filled : Filled 2 file index nonterminals_at 0 nonterminals 0 z₄ signatures)
-    (codes : (ss : List Sort) → SortArrays ss (sorts + 1) froms tos → TreeCodes ss trees) where
+    (z₁ z₂ z₃ z₄ : List ℕ) (heads : Heads) (l₁ : length z₁ ≡ all_sorts) (l₂ : length z₂ ≡ all_sorts) (l₃ : length z₃ ≡ max_constructors) (l₄ : length z₄ ≡ max_nonterminals)
+    (from-filled : Filled 2 file index sorts_at 0 sorts 1 z₁ heads.sorts.froms.now) (to-filled : Filled 2 file index sorts_at 2 sorts 1 z₂ heads.sorts.tos.now)
+    (arity-filled : Filled 1 file index constructors_at 0 constructors 0 z₃ heads.arities.now) (signature-filled : Filled 2 file index nonterminals_at 0 nonterminals 0 z₄ heads.signatures.now)
+    (codes : (ss : List Sort) → SortArrays ss (sorts + 1) heads.sorts.froms.now heads.sorts.tos.now → TreeCodes ss heads.trees.now) where
+  -- the arrays
+  abbrev froms : List ℕ
+  froms = heads.sorts.froms.now
+
+  abbrev tos : List ℕ
+  tos = heads.sorts.tos.now
+
+  abbrev arities : List ℕ
+  arities = heads.arities.now
+
+  abbrev signatures : List ℕ
+  signatures = heads.signatures.now
+
   sorts_counted : length (payloads sort rs) ≡ sorts
   sorts_counted = sym (count_payloads sort rs) ∙ fi.sorts_there.counted
 
@@ -223,7 +237,7 @@ module _ {file index : List ℕ} {sorts constructors nonterminals rules : ℕ} {
   arrays : SortArrays (sorts_of rs) (suc (length (payloads sort rs))) froms tos
   arrays = sort_arrays fi.passed fi.sort_bytes froms tos (let c = sorts_counted in let s = fi.few_sorts in omega arith) from_is to_is
 
-  tree_codes : TreeCodes (sorts_of rs) trees
+  tree_codes : TreeCodes (sorts_of rs) heads.trees.now
   tree_codes = codes (sorts_of rs) (subst (λ n. SortArrays (sorts_of rs) n froms tos) (let c = sorts_counted in omega arith) arrays)
 
   number_at : (f : ℕ) → f < nonterminals → get_or signatures f 0 ≡ word (get_or (payloads nonterminal rs) f []) 0
@@ -252,7 +266,7 @@ module _ {file index : List ℕ} {sorts constructors nonterminals rules : ℕ} {
       let h' : f < length (payloads nonterminal rs) = (let l = length-map (payloads nonterminal rs) (λ (p : List ℕ). word p 0) in omega arith) in
       subst (λ n. n < length (sorts_of rs)) (sym (get_d_map_in (λ (p : List ℕ). word p 0) (payloads nonterminal rs) f 0 [] h')) (sort_listed fi.passed f h')
 
-  setting_at : (f : ℕ) → f < rules → BodyTables (sorts_of rs) (arities_of rs) (numbers_of rs) (rule_of rs f) froms tos trees arities signatures (get_or signatures f 0)
+  setting_at : (f : ℕ) → f < rules → BodyTables (sorts_of rs) (arities_of rs) (numbers_of rs) (rule_of rs f) heads (get_or signatures f 0)
   setting_at f h =
       let h' : f < nonterminals = (let l = fi.few_rules in omega arith) in
       record {
@@ -267,7 +281,7 @@ module _ {file index : List ℕ} {sorts constructors nonterminals rules : ℕ} {
       }
 
   -- the arrays hold what the bodies are judged by
-  pub judged : Judged file index froms tos trees arities signatures rules rs
+  pub judged : Judged file index heads rules rs
   judged =
       let c = rules_counted in
       record {

@@ -15,6 +15,7 @@ use Rattle.casefile.specs.Tables.{arities_of, signatures_of}
 use Rattle.casefile.specs.Refusals.{Test, refuse◌at◌when◌, first, wrong_body, wrong_bodies}
 use Rattle.casefile.proofs.TypeTable.{count_payloads}
 use Rattle.sorts.specs.codes.Sorted.{SortArrays, TreeCodes}
+use Rattle.bodies.specs.declared.Heads.{Heads}
 use Rattle.rules.specs.rules.Rules.{Filled, Filed, BodiesRead, FindsWrongBody}
 use Rattle.rules.specs.reading.RuleBodies.{FirstWrong, ReadsRules}
 use Rattle.rules.proofs.rules.Judging.{signatures_length, judged}
@@ -78,13 +79,14 @@ module _ {file index : List ℕ} {sorts constructors nonterminals rules : ℕ} {
       }
 
 -- the answer of the loop over the filled arrays
-pub finds : (file index : List ℕ) (sorts constructors nonterminals rules : ℕ) (z₁ z₂ z₃ z₄ froms tos trees arities signatures : List ℕ) (before after : List ℕ) (r : Option ℕ)
+pub finds : (file index : List ℕ) (sorts constructors nonterminals rules : ℕ) (z₁ z₂ z₃ z₄ : List ℕ) (heads : Heads) (before after : List ℕ) (r : Option ℕ)
     → length z₁ ≡ all_sorts → length z₂ ≡ all_sorts → length z₃ ≡ max_constructors → length z₄ ≡ max_nonterminals
-    → Filled 2 file index sorts_at 0 sorts 1 z₁ froms → Filled 2 file index sorts_at 2 sorts 1 z₂ tos → Filled 1 file index constructors_at 0 constructors 0 z₃ arities → Filled 2 file index nonterminals_at 0 nonterminals 0 z₄ signatures
-    → ((ss : List Sort) → SortArrays ss (sorts + 1) froms tos → TreeCodes ss trees)
-    → ReadsRules file index froms tos trees arities signatures rules before after r → FindsWrongBody file index sorts constructors nonterminals rules before after r
-finds file index sorts constructors nonterminals rules z₁ z₂ z₃ z₄ froms tos trees arities signatures before after r l₁ l₂ l₃ l₄ a b c d codes answer rs fi room =
-    refusal fi after r (answer rs (judged fi z₁ z₂ z₃ z₄ froms tos trees arities signatures l₁ l₂ l₃ l₄ a b c d codes) room)
+    → Filled 2 file index sorts_at 0 sorts 1 z₁ heads.sorts.froms.now → Filled 2 file index sorts_at 2 sorts 1 z₂ heads.sorts.tos.now → Filled 1 file index constructors_at 0 constructors 0 z₃ heads.arities.now
+    → Filled 2 file index nonterminals_at 0 nonterminals 0 z₄ heads.signatures.now
+    → ((ss : List Sort) → SortArrays ss (sorts + 1) heads.sorts.froms.now heads.sorts.tos.now → TreeCodes ss heads.trees.now)
+    → ReadsRules file index heads rules before after r → FindsWrongBody file index sorts constructors nonterminals rules before after r
+finds file index sorts constructors nonterminals rules z₁ z₂ z₃ z₄ heads before after r l₁ l₂ l₃ l₄ a b c d codes answer rs fi room =
+    refusal fi after r (answer rs (judged fi z₁ z₂ z₃ z₄ heads l₁ l₂ l₃ l₄ a b c d codes) room)
 
 -- no file has that many records
 pub finds_not : (file index : List ℕ) (sorts constructors nonterminals rules : ℕ) (before after : List ℕ) (r : Option ℕ)

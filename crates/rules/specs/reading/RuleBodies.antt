@@ -11,6 +11,7 @@ use Rattle.casefile.specs.Tables.{sorts_of, arities_of, signatures_of, nodes_of,
 use Rattle.casefile.specs.Refusals.{wrong_body}
 use Rattle.index.specs.layout.Layout.{max_nonterminals, max_body}
 use Rattle.index.specs.entries.Index.{Indexed}
+use Rattle.bodies.specs.declared.Heads.{Heads}
 use Rattle.bodies.specs.Bodies.{BodyTables}
 
 -- the nodes of a given number of bodies, four bytes a node
@@ -39,21 +40,21 @@ abbrev pub end_at : List Record → ℕ → ℕ → ℕ
 end_at rs f i = i + nodes (first_term (terms (drop i (nodes_of (rule_of rs f)))))
 
 -- the arrays hold what the bodies of a given number of rules are judged by, and the index has the rules
-pub record Judged (file index froms tos trees arities signatures : List ℕ) (rules : ℕ) (rs : List Record) : Type 0 where
+pub record Judged (file index : List ℕ) (heads : Heads) (rules : ℕ) (rs : List Record) : Type 0 where
   pub there : Indexed file index rule rules rs
   pub few : rules ≤ max_nonterminals
   pub some_nodes : (f : ℕ) → f < rules → 4 ≤ length (rule_of rs f)
   pub few_nodes : (f : ℕ) → f < rules → length (rule_of rs f) ≤ max_body
-  pub setting : (f : ℕ) → f < rules → BodyTables (sorts_of rs) (arities_of rs) (numbers_of rs) (rule_of rs f) froms tos trees arities signatures (get_or signatures f 0)
-  pub sort_is : (f : ℕ) → f < rules → get_or (sorts_of rs) (get_or signatures f 0) o ≡ get_or (signatures_of rs) f o
+  pub setting : (f : ℕ) → f < rules → BodyTables (sorts_of rs) (arities_of rs) (numbers_of rs) (rule_of rs f) heads (get_or heads.signatures.now f 0)
+  pub sort_is : (f : ℕ) → f < rules → get_or (sorts_of rs) (get_or heads.signatures.now f 0) o ≡ get_or (signatures_of rs) f o
 
 -- rule f was read: r is the number of its nodes where its body is accepted, and then `after` says where each subterm ends; else r is none
-pub record RuleRead (file index froms tos trees arities signatures : List ℕ) (f : ℕ) (before after : List ℕ) (r : Option ℕ) : Type 0 where
+pub record RuleRead (file index : List ℕ) (heads : Heads) (f : ℕ) (before after : List ℕ) (r : Option ℕ) : Type 0 where
   pub long : length after ≡ length before
   pub within : (n : ℕ) → r ≡ Some n → n ≤ length before
-  pub fits : (rules : ℕ) (rs : List Record) → Judged file index froms tos trees arities signatures rules rs → f < rules → length (rule_of rs f) / 4 ≤ length before
+  pub fits : (rules : ℕ) (rs : List Record) → Judged file index heads rules rs → f < rules → length (rule_of rs f) / 4 ≤ length before
       → (n : ℕ) → r ≡ Some n → (n ≡ length (rule_of rs f) / 4) × (wrong_at rs f ≡ false) × ((i : ℕ) → i < length (rule_of rs f) / 4 → get_or after i 0 ≡ end_at rs f i)
-  pub fails : (rules : ℕ) (rs : List Record) → Judged file index froms tos trees arities signatures rules rs → f < rules → length (rule_of rs f) / 4 ≤ length before
+  pub fails : (rules : ℕ) (rs : List Record) → Judged file index heads rules rs → f < rules → length (rule_of rs f) / 4 ≤ length before
       → r ≡ None → wrong_at rs f ≡ true
 
 -- the rules before f are accepted, and `ends` has the ends of their subterms
@@ -68,6 +69,6 @@ pub record FirstWrong (rs : List Record) (rules : ℕ) (ends : List ℕ) (r : Op
   pub wrong_there : (f : ℕ) → r ≡ Some f → wrong_at rs f ≡ true
   pub all : r ≡ None → Accepted rs rules ends
 
-abbrev pub ReadsRules : List ℕ → List ℕ → List ℕ → List ℕ → List ℕ → List ℕ → List ℕ → ℕ → List ℕ → List ℕ → Option ℕ → Type 0
-ReadsRules file index froms tos trees arities signatures rules before after r =
-    (rs : List Record) → Judged file index froms tos trees arities signatures rules rs → nodes_in (payloads rule rs) ≤ length before → FirstWrong rs rules after r
+abbrev pub ReadsRules : List ℕ → List ℕ → Heads → ℕ → List ℕ → List ℕ → Option ℕ → Type 0
+ReadsRules file index heads rules before after r =
+    (rs : List Record) → Judged file index heads rules rs → nodes_in (payloads rule rs) ≤ length before → FirstWrong rs rules after r

@@ -1,7 +1,6 @@
 -- `arguments_fit` meets its contract: what is left of the arguments leads to the result of all of them.
 use native.Mathlib.Omega.{arith}
-use borrow.Author.Rules.{rules}
-use Rattle.bodies.proofs.Loop.{Leads, leads_start, leads_end, leads_short, leads_misfit, leads_next, first_deep}
+use Rattle.bodies.proofs.Loop.{leads_start, leads_end, leads_short, leads_misfit, leads_next, first_deep}
 use Rattle.bodies.proofs.Heads.arguments_fit.Goals as goal
 
 pub returns-then-k-eq0 : goal.returns-then-k-eq0

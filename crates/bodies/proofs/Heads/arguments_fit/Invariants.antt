@@ -5,7 +5,7 @@ use Rattle.bodies.proofs.Heads.arguments_fit.Given as goal
 
 abbrev pub invariant-loop : goal.invariant-loop
 invariant-loop l = record {
-  leads : Leads l.self.sorts.froms.now l.self.sorts.tos.now l.self.trees.now l.ends l.codes l.depths l.n l.at l.k l.head l.end (l.k - l.counter) l.sort l.deep;
+  leads : Leads l.self l.ends l.codes l.depths l.n l.at l.k l.head l.end (l.k - l.counter) l.sort l.deep;
   end_small : l.end < 65536;
   sort_small : l.sort < 65536;
 }

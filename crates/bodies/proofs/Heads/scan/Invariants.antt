@@ -7,6 +7,6 @@ use Rattle.bodies.proofs.Heads.scan.Given as goal
 
 abbrev pub invariant-loop-i : goal.invariant-loop-i
 invariant-loop-i l = record {
-  held : Scanning l.p l.self.sorts.froms.now l.self.sorts.tos.now l.self.trees.now l.self.arities.now l.self.signatures.now l.own l.initial.ends l.ends l.codes l.depths l.i;
+  held : Scanning l.p l.self l.own l.initial.ends l.ends l.codes l.depths l.i;
   first : HeldAs l.ends l.codes l.depths (length l.p / 4) l.i l.next;
 }

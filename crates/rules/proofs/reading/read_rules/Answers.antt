@@ -6,7 +6,7 @@ use Rattle.rules.proofs.reading.AllRules.{going_none, going_stop, going_more, go
 use Rattle.rules.proofs.reading.read_rules.Goals as goal
 
 pub loop-f-init : goal.loop-f-init
-loop-f-init c = going_none _ _ _ _ _ _ _ _ _
+loop-f-init c = going_none _ _ _ _ _
 
 pub offset_bounds-ends-at : goal.offset_bounds-ends-at
 offset_bounds-ends-at c = let i = c.loop-f.invariant.inside in search rules
@@ -21,7 +21,7 @@ pub returns-in_default-clause-first : goal.returns-in_default-clause-first
 returns-in_default-clause-first c =
     let l = c.loop-f in
     let r = c.read_rule in
-    going_stop _ _ _ _ _ _ _ _ _ l.f l.at l.ends _ r.new.ends _ _ l.invariant c.loop-f-test.true (part_size l.ends l.at) r.ensures (changed_put l.ends r.new.ends l.at l.invariant.inside r.ensures.long) c.in_default.is
+    going_stop _ _ _ _ _ l.f l.at l.ends _ r.new.ends _ _ l.invariant c.loop-f-test.true (part_size l.ends l.at) r.ensures (changed_put l.ends r.new.ends l.at l.invariant.inside r.ensures.long) c.in_default.is
 
 pub overflow_add-at : goal.overflow_add-at
 overflow_add-at c =
@@ -34,7 +34,7 @@ pub loop-f-preserved : goal.loop-f-preserved
 loop-f-preserved c =
     let l = c.loop-f in
     let r = c.read_rule in
-    going_more _ _ _ _ _ _ _ _ _ l.f l.at l.ends _ r.new.ends _ _ l.invariant c.loop-f-test.true (part_size l.ends l.at) r.ensures (changed_put l.ends r.new.ends l.at l.invariant.inside r.ensures.long) _ c.in-Some.is
+    going_more _ _ _ _ _ l.f l.at l.ends _ r.new.ends _ _ l.invariant c.loop-f-test.true (part_size l.ends l.at) r.ensures (changed_put l.ends r.new.ends l.at l.invariant.inside r.ensures.long) _ c.in-Some.is
 
 pub returns-clause-first : goal.returns-clause-first
-returns-clause-first c = going_end _ _ _ _ _ _ _ _ _ c.loop-f.f c.loop-f.at c.loop-f.ends c.loop-f.invariant (omega arith) (omega arith)
+returns-clause-first c = going_end _ _ _ _ _ c.loop-f.f c.loop-f.at c.loop-f.ends c.loop-f.invariant (omega arith) (omega arith)

@@ -4,4 +4,4 @@ use Rattle.rules.proofs.reading.read_rules.Given as goal
 
 abbrev pub invariant-loop-f : goal.invariant-loop-f
 invariant-loop-f l =
-    Going l.file l.index l.heads.sorts.froms.now l.heads.sorts.tos.now l.heads.trees.now l.heads.arities.now l.heads.signatures.now l.rules l.initial.ends l.f l.at l.ends
+    Going l.file l.index l.heads l.rules l.initial.ends l.f l.at l.ends

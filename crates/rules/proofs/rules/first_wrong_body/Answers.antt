@@ -12,5 +12,5 @@ overflow_add-sorts c = let l = c.within_limits.ensures.0 (search rules) in omega
 
 pub returns-clause-first : goal.returns-clause-first
 returns-clause-first c =
-    finds _ _ _ _ _ _ _ _ _ _ _ _ _ _ _ c.args.ends.now _ _ (search rules) (search rules) (search rules) (search rules)
+    finds _ _ _ _ _ _ _ _ _ _ _ c.args.ends.now _ _ (search rules) (search rules) (search rules) (search rules)
     c.fill.ensures c.fill-2.ensures c.fill_column.ensures c.fill_column-2.ensures c.tree_codes-trees.ensures c.read_rules.ensures.first
