@@ -7,6 +7,7 @@ use mathlib.Core.Option.{some}
 use native.Mathlib.Omega.{arith}
 use native.Mathlib.Nat.{le_of_suc-le-suc}
 use borrow.Author.Tests.{le-leb, leb-true, leb-false}
+use Rattle.std.specs.Prelude.{Option, Some, None}
 use lib.Dec.{T, leb, leb→le}
 use lib.ListN.{length, get_or, set, drop, length-set}
 use lib.Seq.{get_or-set_same, get_or-set_other, drop-set-lt}
@@ -19,8 +20,9 @@ use Rattle.scheme.proofs.Sorting.{after_out}
 use Rattle.casefile.specs.Fields.{field}
 use Rattle.casefile.specs.Tables.{head_of, nodes_of, first_term}
 use Rattle.sorts.specs.codes.Sorted.{Code}
-use Rattle.bodies.specs.Bodies.{Held, Fits, ArgumentsFit, Goods, HeldFrom, heads_by, BodyTables, HeadCode, Room, NodeRead, NodeTaken}
-use Rattle.bodies.specs.declared.Arguments.{Arguments}
+use Rattle.bodies.specs.declared.Heads.{Heads}
+use Rattle.bodies.specs.Bodies.{Held, Fits, ArgumentsFit, Goods, HeldFrom, heads_by, BodyTables, HeadCode, HeldAs, Room, NodeRead, NodeTaken}
+use Rattle.bodies.specs.declared.Subterm.{Subterm}
 use Rattle.casefile.proofs.Cells.{node_at, nodes_length, nodes_drop}
 use Rattle.casefile.specs.Promises.{cell_at}
 use Rattle.index.specs.layout.Layout.{max_depth}
@@ -99,7 +101,7 @@ module _ (hs : Head → Sort) (sorts : List Sort) (ns : List Node) (i : ℕ) (nd
   asks c g =
       node_asks hs nd (drop (suc i) ns) (subst (λ l. T (complete l)) d (complete_drop hs i ns c)) (subst (λ l. Goods hs (terms l)) d (goods_drop hs i ns g))
 
-  module _ {ends codes depths : List ℕ} (h : HeldFrom hs sorts ns ends codes depths (suc i)) (r : Arguments) where
+  module _ {ends codes depths : List ℕ} (h : HeldFrom hs sorts ns ends codes depths (suc i)) where
     -- the node's arguments do not fit, or are too deep
     pub node_misfit : (k : ℕ) → k ≡ nd.count → (k ≤ countᵗ (terms (drop (suc i) ns)) → (x : Sort) → sort_after hs (takeᵗ k (terms (drop (suc i) ns))) (hs nd.head) ≡ some x → ⊥)
         → T (complete ns) → Goods hs (terms ns) → ⊥
@@ -107,14 +109,14 @@ module _ (hs : Head → Sort) (sorts : List Sort) (ns : List Node) (i : ℕ) (nd
         let (a, b, m) = asks c g in
         f (rw e a) b.0 (rw e b.1)
 
-    pub node_deep : (k at : ℕ) → k ≡ nd.count → Fits hs sorts (terms (drop (suc i) ns)) (hs nd.head) at k r → max_depth ≤ r.deep → T (complete ns) → Goods hs (terms ns) → ⊥
-    node_deep k at e f m c g =
+    pub node_deep : (r : Subterm) (k at : ℕ) → k ≡ nd.count → Fits hs sorts (terms (drop (suc i) ns)) (hs nd.head) at k r → max_depth ≤ r.deep → T (complete ns) → Goods hs (terms ns) → ⊥
+    node_deep r k at e f m c g =
         let (a, b, l) = asks c g in
         let q = f.deep_is in
         let z : deepest (takeᵗ k (terms (drop (suc i) ns))) ≡ deepest (takeᵗ nd.count (terms (drop (suc i) ns))) = ap (λ x. deepest (takeᵗ x (terms (drop (suc i) ns)))) e in
         omega arith
 
-    module _ (f : Fits hs sorts (terms (drop (suc i) ns)) (hs nd.head) (suc i) nd.count r) (shallow : r.deep < max_depth) where
+    module _ (r : Subterm) (f : Fits hs sorts (terms (drop (suc i) ns)) (hs nd.head) (suc i) nd.count r) (shallow : r.deep < max_depth) where
       module _ (he : i < length ends) (hc : i < length codes) (hd : i < length depths) where
         -- the tables with the node
         abbrev ends' : List ℕ
@@ -178,9 +180,9 @@ module _ (hs : Head → Sort) (sorts : List Sort) (ns : List Node) (i : ℕ) (nd
           ends_are = λ j l m. ends_from j l m (leb j i) refl;
         }
 
-module _ {p froms tos trees arities signatures : List ℕ} {own i : ℕ} {ends codes depths : List ℕ} {head k : ℕ} {r : Arguments} (hc : HeadCode p froms tos trees arities signatures own i head)
-    (ek : k ≡ field 1 p (i * 4 + 3)) (af : ArgumentsFit froms tos trees ends codes depths (length p / 4) (i + 1) k head r) where
-  module _ {sorts : List Sort} {counts numbers : List ℕ} (w : BodyTables sorts counts numbers p froms tos trees arities signatures own) (inside : i < length p / 4)
+module _ {p : List ℕ} {heads : Heads} {own i : ℕ} {ends codes depths : List ℕ} {head k : ℕ} {r : Option Subterm} (hc : HeadCode p heads own i head)
+    (ek : k ≡ field 1 p (i * 4 + 3)) (af : ArgumentsFit heads ends codes depths (length p / 4) (i + 1) k head r) where
+  module _ {sorts : List Sort} {counts numbers : List ℕ} (w : BodyTables sorts counts numbers p heads own) (inside : i < length p / 4)
       (h : HeldFrom (heads_by sorts counts numbers own) sorts (nodes_of p) ends codes depths (suc i)) where
     behind_node : Held (heads_by sorts counts numbers own) sorts ends codes depths (length p / 4) (terms (drop (suc i) (nodes_of p))) (i + 1)
     behind_node =
@@ -191,25 +193,25 @@ module _ {p froms tos trees arities signatures : List ℕ} {own i : ℕ} {ends c
     node_inside : i < length (nodes_of p)
     node_inside = let e = nodes_length p in omega arith
 
-    fits_node : r.fit ≡ true → Fits (heads_by sorts counts numbers own) sorts (terms (drop (suc i) (nodes_of p))) (heads_by sorts counts numbers own (head_of (cell_at p i))) (suc i) (node_at p i).count r
-    fits_node y =
+    fits_node : (a : Subterm) → r ≡ Some a → Fits (heads_by sorts counts numbers own) sorts (terms (drop (suc i) (nodes_of p))) (heads_by sorts counts numbers own (head_of (cell_at p i))) (suc i) (node_at p i).count a
+    fits_node a y =
         let e : i + 1 ≡ suc i = omega arith in
-        subst (λ x. Fits (heads_by sorts counts numbers own) sorts (terms (drop (suc i) (nodes_of p))) (heads_by sorts counts numbers own (head_of (cell_at p i))) (suc i) x r) ek
-        (subst (λ x. Fits (heads_by sorts counts numbers own) sorts (terms (drop (suc i) (nodes_of p))) (heads_by sorts counts numbers own (head_of (cell_at p i))) x k r) e
+        subst (λ x. Fits (heads_by sorts counts numbers own) sorts (terms (drop (suc i) (nodes_of p))) (heads_by sorts counts numbers own (head_of (cell_at p i))) (suc i) x a) ek
+        (subst (λ x. Fits (heads_by sorts counts numbers own) sorts (terms (drop (suc i) (nodes_of p))) (heads_by sorts counts numbers own (head_of (cell_at p i))) x k a) e
         (af.fits (heads_by sorts counts numbers own) sorts (terms (drop (suc i) (nodes_of p))) (heads_by sorts counts numbers own (head_of (cell_at p i))) w.coded behind_node
-        (hc sorts counts numbers w inside) y))
+        (hc sorts counts numbers w inside) a y))
 
-    misfit_fails : r.fit ≡ false → T (complete (nodes_of p)) → Goods (heads_by sorts counts numbers own) (terms (nodes_of p)) → ⊥
+    misfit_fails : r ≡ None → T (complete (nodes_of p)) → Goods (heads_by sorts counts numbers own) (terms (nodes_of p)) → ⊥
     misfit_fails y =
-        node_misfit (heads_by sorts counts numbers own) sorts (nodes_of p) i (node_at p i) (nodes_drop p i inside) node_inside h r k ek
+        node_misfit (heads_by sorts counts numbers own) sorts (nodes_of p) i (node_at p i) (nodes_drop p i inside) node_inside h k ek
         (af.misfit (heads_by sorts counts numbers own) sorts (terms (drop (suc i) (nodes_of p))) (heads_by sorts counts numbers own (head_of (cell_at p i))) w.coded behind_node
         (hc sorts counts numbers w inside) y)
 
-    deep_fails : r.fit ≡ true → max_depth ≤ r.deep → T (complete (nodes_of p)) → Goods (heads_by sorts counts numbers own) (terms (nodes_of p)) → ⊥
-    deep_fails y m =
-        node_deep (heads_by sorts counts numbers own) sorts (nodes_of p) i (node_at p i) (nodes_drop p i inside) node_inside h r (node_at p i).count (suc i) refl (fits_node y) m
+    deep_fails : (a : Subterm) → r ≡ Some a → max_depth ≤ a.deep → T (complete (nodes_of p)) → Goods (heads_by sorts counts numbers own) (terms (nodes_of p)) → ⊥
+    deep_fails a y m =
+        node_deep (heads_by sorts counts numbers own) sorts (nodes_of p) i (node_at p i) (nodes_drop p i inside) node_inside h a (node_at p i).count (suc i) refl (fits_node a y) m
 
-  pub read_misfit : r.fit ≡ false → NodeRead p froms tos trees arities signatures own i ends codes depths ends codes depths false
+  pub read_misfit : r ≡ None → NodeRead p heads own i ends codes depths ends codes depths false
   read_misfit y = record {
     long = refl;
     long_codes = refl;
@@ -219,52 +221,54 @@ module _ {p froms tos trees arities signatures : List ℕ} {own i : ℕ} {ends c
     fails = λ sorts counts numbers w inside h e. misfit_fails w inside h y;
   }
 
-  pub read_deep : r.fit ≡ true → max_depth ≤ r.deep → NodeRead p froms tos trees arities signatures own i ends codes depths ends codes depths false
-  read_deep y m = record {
+  pub read_deep : (a : Subterm) → r ≡ Some a → max_depth ≤ a.deep → NodeRead p heads own i ends codes depths ends codes depths false
+  read_deep a y m = record {
     long = refl;
     long_codes = refl;
     long_depths = refl;
     rest = λ n l. refl;
     holds = λ sorts counts numbers w inside he hc' hd h e. absurd (let z : ◌≡◌ {A = ℕ} 0 1 = cc in omega arith);
-    fails = λ sorts counts numbers w inside h e. deep_fails w inside h y m;
+    fails = λ sorts counts numbers w inside h e. deep_fails w inside h a y m;
   }
 
-  pub read_held : r.fit ≡ true → r.deep < max_depth
-      → NodeRead p froms tos trees arities signatures own i ends codes depths (set ends i r.end) (set codes i r.sort) (set depths i (r.deep + 1)) true
-  read_held y m = record {
-    long = length-set ends i r.end;
-    long_codes = length-set codes i r.sort;
-    long_depths = length-set depths i (r.deep + 1);
-    rest = λ n l. drop-set-lt n ends i r.end l;
+  pub read_held : (a : Subterm) → r ≡ Some a → a.deep < max_depth
+      → NodeRead p heads own i ends codes depths (set ends i a.end) (set codes i a.sort) (set depths i (a.deep + 1)) true
+  read_held a y m = record {
+    long = length-set ends i a.end;
+    long_codes = length-set codes i a.sort;
+    long_depths = length-set depths i (a.deep + 1);
+    rest = λ n l. drop-set-lt n ends i a.end l;
     holds = λ sorts counts numbers w inside he hc' hd h e.
-        node_held (heads_by sorts counts numbers own) sorts (nodes_of p) i (node_at p i) (nodes_drop p i inside) (node_inside w inside h) h r (fits_node w inside h y) m he hc' hd;
+        node_held (heads_by sorts counts numbers own) sorts (nodes_of p) i (node_at p i) (nodes_drop p i inside) (node_inside w inside h) h a (fits_node w inside h a y) m he hc' hd;
     fails = λ sorts counts numbers w inside h e. absurd (let z : ◌≡◌ {A = ℕ} 0 1 = cc in omega arith);
   }
 
-module _ {p froms tos trees arities signatures : List ℕ} {own i : ℕ} {ends codes depths : List ℕ} where
+-- a node by what the tables hold of it
+held_some : {ends codes depths : List ℕ} {n at : ℕ} {a : Subterm} → at < n → a.end ≡ get_or ends at 0 → a.sort ≡ get_or codes at 0 → a.deep ≡ get_or depths at 0 → HeldAs ends codes depths n at (Some a)
+held_some {ends} {codes} {depths} {n} {at} {a} h ee es ed = record {
+  behind = λ e. absurd (cc);
+  inside = λ b e. h;
+  end_is = λ b e. let same : a ≡ b = cc in subst (λ (x : Subterm). x.end ≡ get_or ends at 0) same ee;
+  sort_is = λ b e. let same : a ≡ b = cc in subst (λ (x : Subterm). x.sort ≡ get_or codes at 0) same es;
+  deep_is = λ b e. let same : a ≡ b = cc in subst (λ (x : Subterm). x.deep ≡ get_or depths at 0) same ed;
+}
+
+module _ {p : List ℕ} {heads : Heads} {own i : ℕ} {ends codes depths : List ℕ} where
   -- a node that does not fit
-  pub taken_misfit : {x : Arguments} → x.fit ≡ false → NodeRead p froms tos trees arities signatures own i ends codes depths ends codes depths false
-      → NodeTaken p froms tos trees arities signatures own i ends codes depths ends codes depths x
-  taken_misfit x-not n = record {
-    read = subst (λ b. NodeRead p froms tos trees arities signatures own i ends codes depths ends codes depths b) (sym x-not) n;
-    held_as = λ e. absurd (let z : ◌≡◌ {A = ℕ} 0 1 = cc in omega arith);
-  }
+  pub taken_misfit : NodeRead p heads own i ends codes depths ends codes depths false
+      → NodeTaken p heads own i ends codes depths ends codes depths None
+  taken_misfit n = record { read = n; held_as = λ a e. absurd (cc) }
 
   -- a node that fits is what the tables hold of it
-  pub taken_held : {e c d : ℕ} {x : Arguments} → i < length p / 4 → Room p ends codes depths → x ≡ record { fit = true; end = e; sort = c; deep = d }
-      → NodeRead p froms tos trees arities signatures own i ends codes depths (set ends i e) (set codes i c) (set depths i d) true
-      → NodeTaken p froms tos trees arities signatures own i ends codes depths (set ends i e) (set codes i c) (set depths i d) x
-  taken_held {e} {c} {d} h room ex n =
+  pub taken_held : {e c d : ℕ} → i < length p / 4 → Room p ends codes depths
+      → NodeRead p heads own i ends codes depths (set ends i e) (set codes i c) (set depths i d) true
+      → NodeTaken p heads own i ends codes depths (set ends i e) (set codes i c) (set depths i d) (Some (record { end = e; sort = c; deep = d }))
+  taken_held {e} {c} {d} h room n =
       let a = room.few in
       let b = room.ends_long in
       let f = room.codes_long in
       let g = room.depths_long in
-      subst (λ y. NodeTaken p froms tos trees arities signatures own i ends codes depths (set ends i e) (set codes i c) (set depths i d) y) (sym ex)
-      (record {
+      record {
         read = n;
-        held_as = λ y. record {
-          end_is = λ k. sym (get_or-set_same ends i e 0 (omega arith));
-          sort_is = λ k. sym (get_or-set_same codes i c 0 (omega arith));
-          deep_is = λ k. sym (get_or-set_same depths i d 0 (omega arith));
-        };
-      })
+        held_as = λ x y. held_some h (sym (get_or-set_same ends i e 0 (omega arith))) (sym (get_or-set_same codes i c 0 (omega arith))) (sym (get_or-set_same depths i d 0 (omega arith)));
+      }

@@ -5,7 +5,9 @@ use mathlib.Core.Bool.{Bool, true, false, ◌&&◌, not}
 use mathlib.Core.List.{List, [], ◌∷◌, map}
 use mathlib.Core.Option.{some}
 use native.Mathlib.Omega.{arith}
+use native.Mathlib.Decide.{ℕ_discrete}
 use borrow.Author.Tests.{le-leb, leb-true, eqb-true, eqb-false, eq-eqb}
+use Rattle.std.specs.Prelude.{Option, Some, None}
 use lib.Dec.{leb, eqb}
 use lib.ListN.{length, get_or}
 use Rattle.scheme.specs.Lists.{found}
@@ -18,7 +20,9 @@ use Rattle.scheme.proofs.Sorting.{same_refl, found_sort}
 use Rattle.casefile.specs.Tables.{nodes_of, first_term, body_of}
 use Rattle.casefile.specs.Refusals.{wrong_body}
 use Rattle.sorts.specs.codes.Sorted.{SortArrays}
+use Rattle.bodies.specs.declared.Heads.{Heads}
 use Rattle.bodies.specs.Bodies.{Held, Goods, heads_by, BodyTables, Scanned, BodyDecided}
+use Rattle.bodies.specs.declared.Subterm.{Subterm}
 use Rattle.sorts.proofs.codes.Codes.{code_listed, listed_code}
 use Rattle.casefile.proofs.Cells.{nodes_length}
 use Rattle.index.specs.layout.Layout.{max_nodes, max_depth}
@@ -100,8 +104,16 @@ module _ (p : List ℕ) (own : ℕ) where
       → false ≡ not (wrong_body counts (map (λ (f : ℕ). get_or sorts f o) numbers) (get_or sorts own o) p)
   refused sorts counts numbers f = sym (verdict_is sorts counts numbers ∙ no_true (verdict (heads_by sorts counts numbers own) (complete (nodes_of p)) (terms (nodes_of p))) f)
 
-module _ {p froms tos trees arities signatures : List ℕ} {own : ℕ} where
-  pub decide_long : {ends : List ℕ} → max_nodes < length p / 4 → BodyDecided p froms tos trees arities signatures own ends ends false
+  -- no nodes are no term
+  empty_refused : length p / 4 ≡ 0 → (sorts : List Sort) (counts numbers : List ℕ) → verdict (heads_by sorts counts numbers own) (complete (nodes_of p)) (terms (nodes_of p)) ≡ true → ⊥
+  unfolding terms countᵗ
+  empty_refused h sorts counts numbers e =
+      let (a, b, d, f) = verdict_parts (heads_by sorts counts numbers own) (complete (nodes_of p)) (terms (nodes_of p)) e in
+      let g = ap (λ x. countᵗ (terms x)) (no_elements (nodes_of p) (nodes_length p ∙ h)) in
+      omega arith
+
+module _ {p : List ℕ} {heads : Heads} {own : ℕ} where
+  pub decide_long : {ends : List ℕ} → max_nodes < length p / 4 → BodyDecided p heads own ends ends false
   decide_long h = record {
     long = refl;
     rest = refl;
@@ -109,7 +121,7 @@ module _ {p froms tos trees arities signatures : List ℕ} {own : ℕ} where
     ends_are = λ sorts counts numbers w l. absurd (omega arith);
   }
 
-  pub decide_short : {ends : List ℕ} → length ends < length p / 4 → BodyDecided p froms tos trees arities signatures own ends ends false
+  pub decide_short : {ends : List ℕ} → length ends < length p / 4 → BodyDecided p heads own ends ends false
   decide_short h = record {
     long = refl;
     rest = refl;
@@ -117,66 +129,59 @@ module _ {p froms tos trees arities signatures : List ℕ} {own : ℕ} where
     ends_are = λ sorts counts numbers w l m. absurd (omega arith);
   }
 
-  pub decide_empty : {ends : List ℕ} → length p / 4 ≡ 0 → BodyDecided p froms tos trees arities signatures own ends ends false
-  unfolding terms countᵗ
-  decide_empty h = record {
-    long = refl;
-    rest = refl;
-    decided = λ sorts counts numbers w l m. refused p own sorts counts numbers (λ e.
-        let (a, b, d, f) = verdict_parts (heads_by sorts counts numbers own) (complete (nodes_of p)) (terms (nodes_of p)) e in
-        let g = ap (λ x. countᵗ (terms x)) (no_elements (nodes_of p) (nodes_length p ∙ h)) in
-        omega arith);
-    ends_are = λ sorts counts numbers w l m e. absurd (let z : ◌≡◌ {A = ℕ} 0 1 = cc in omega arith);
-  }
-
-  module _ {before ends codes depths : List ℕ} {r : Bool} (s : Scanned p froms tos trees arities signatures own before ends codes depths r) where
-    pub decide_fails : r ≡ false → BodyDecided p froms tos trees arities signatures own before ends false
+  module _ {before ends codes depths : List ℕ} {r : Option Subterm} (s : Scanned p heads own before ends codes depths r) where
+    pub decide_fails : r ≡ None → BodyDecided p heads own before ends false
     decide_fails y = record {
       long = s.long;
       rest = s.rest;
-      decided = λ sorts counts numbers w l m. refused p own sorts counts numbers (λ e.
-          s.fails sorts counts numbers w m y (true→T (verdict_parts (heads_by sorts counts numbers own) (complete (nodes_of p)) (terms (nodes_of p)) e).0)
-          (verdict_goods (heads_by sorts counts numbers own) (complete (nodes_of p)) (terms (nodes_of p)) e));
-      ends_are = λ sorts counts numbers w l m e. absurd (let z : ◌≡◌ {A = ℕ} 0 1 = cc in omega arith);
+      decided = λ sorts counts numbers w l m. refused p own sorts counts numbers (λ e. by sorts counts numbers w m e (ℕ_discrete (length p / 4) 0));
+      ends_are = λ sorts counts numbers w l m e. absurd (cc);
     }
+      where
+        by : (sorts : List Sort) (counts numbers : List ℕ) → BodyTables sorts counts numbers p heads own → length p / 4 ≤ length before
+            → verdict (heads_by sorts counts numbers own) (complete (nodes_of p)) (terms (nodes_of p)) ≡ true → Dec (length p / 4 ≡ 0) → ⊥
+        by sorts counts numbers w m e (yes z) = empty_refused p own z sorts counts numbers e
+        by sorts counts numbers w m e (no z) =
+            s.fails sorts counts numbers w m y (omega arith) (true→T (verdict_parts (heads_by sorts counts numbers own) (complete (nodes_of p)) (terms (nodes_of p)) e).0)
+            (verdict_goods (heads_by sorts counts numbers own) (complete (nodes_of p)) (terms (nodes_of p)) e)
 
-    module _ (y : r ≡ true) (positive : length p / 4 ≡ 0 → ⊥) where
+    module _ (a : Subterm) (y : r ≡ Some a) where
       nodes_some : 0 < length (nodes_of p)
-      nodes_some = let e = nodes_length p in omega arith
+      nodes_some = let e = nodes_length p in let h = (s.held_as a y).inside a y in omega arith
 
-      decide_ends : (e : ℕ) → e ≡ get_or ends 0 0 → (e ≡ length p / 4 → ⊥) → BodyDecided p froms tos trees arities signatures own before ends false
-      decide_ends e ee ne = record {
+      decide_ends : (a.end ≡ length p / 4 → ⊥) → BodyDecided p heads own before ends false
+      decide_ends ne = record {
         long = s.long;
         rest = s.rest;
         decided = λ sorts counts numbers w l m. refused p own sorts counts numbers
-            (verdict_ends (heads_by sorts counts numbers own) w.coded.table ends codes depths nodes_some (complete (nodes_of p)) (terms (nodes_of p)) (s.holds sorts counts numbers w m y).held
-            (λ f. ne (ee ∙ f ∙ nodes_length p)));
-        ends_are = λ sorts counts numbers w l m f. absurd (let z : ◌≡◌ {A = ℕ} 0 1 = cc in omega arith);
+            (verdict_ends (heads_by sorts counts numbers own) w.coded.table ends codes depths nodes_some (complete (nodes_of p)) (terms (nodes_of p)) (s.holds sorts counts numbers w m a y).held
+            (λ f. ne ((s.held_as a y).end_is a y ∙ f ∙ nodes_length p)));
+        ends_are = λ sorts counts numbers w l m f. absurd (cc);
       }
 
-      last_cases : (code : ℕ) (b : Bool) → eqb code 0 ≡ b → code ≡ get_or codes 0 0 → get_or ends 0 0 ≡ length (nodes_of p)
-          → (sorts : List Sort) (counts numbers : List ℕ) → BodyTables sorts counts numbers p froms tos trees arities signatures own → length p / 4 ≤ length before
+      last_cases : (b : Bool) → eqb a.sort 0 ≡ b → get_or ends 0 0 ≡ length (nodes_of p)
+          → (sorts : List Sort) (counts numbers : List ℕ) → BodyTables sorts counts numbers p heads own → length p / 4 ≤ length before
           → b ≡ not (wrong_body counts (map (λ (f : ℕ). get_or sorts f o) numbers) (get_or sorts own o) p)
-      last_cases code true eb ec ee sorts counts numbers w m =
-          let h = s.holds sorts counts numbers w m y in
+      last_cases true eb ee sorts counts numbers w m =
+          let h = s.holds sorts counts numbers w m a y in
           sym (verdict_is p own sorts counts numbers ∙ verdict_yes (heads_by sorts counts numbers own) w.coded.table ends codes depths nodes_some (complete (nodes_of p)) (terms (nodes_of p)) h.held
-          (T→true (complete (nodes_of p)) h.whole) ee (sym ec ∙ eqb-true code 0 eb))
-      last_cases code false eb ec ee sorts counts numbers w m =
-          let h = s.holds sorts counts numbers w m y in
+          (T→true (complete (nodes_of p)) h.whole) ee (sym ((s.held_as a y).sort_is a y) ∙ eqb-true a.sort 0 eb))
+      last_cases false eb ee sorts counts numbers w m =
+          let h = s.holds sorts counts numbers w m a y in
           refused p own sorts counts numbers
-          (verdict_codes (heads_by sorts counts numbers own) w.coded.table ends codes depths nodes_some (complete (nodes_of p)) (terms (nodes_of p)) h.held (λ f. eqb-false code 0 eb (ec ∙ f)))
+          (verdict_codes (heads_by sorts counts numbers own) w.coded.table ends codes depths nodes_some (complete (nodes_of p)) (terms (nodes_of p)) h.held (λ f. eqb-false a.sort 0 eb ((s.held_as a y).sort_is a y ∙ f)))
 
-      decide_last : (e code : ℕ) → e ≡ get_or ends 0 0 → e ≡ length p / 4 → code ≡ get_or codes 0 0 → BodyDecided p froms tos trees arities signatures own before ends (eqb code 0)
-      decide_last e code ee en ec = record {
+      decide_last : a.end ≡ length p / 4 → BodyDecided p heads own before ends (eqb a.sort 0)
+      decide_last en = record {
         long = s.long;
         rest = s.rest;
-        decided = λ sorts counts numbers w l m. last_cases code (eqb code 0) refl ec (sym ee ∙ en ∙ sym (nodes_length p)) sorts counts numbers w m;
-        ends_are = λ sorts counts numbers w l m f i k. let q = nodes_length p in (s.holds sorts counts numbers w m y).ends_are i (omega arith) (omega arith);
+        decided = λ sorts counts numbers w l m. last_cases (eqb a.sort 0) refl (sym ((s.held_as a y).end_is a y) ∙ en ∙ sym (nodes_length p)) sorts counts numbers w m;
+        ends_are = λ sorts counts numbers w l m f i k. let q = nodes_length p in (s.holds sorts counts numbers w m a y).ends_are i (omega arith) (omega arith);
       }
 
-      tree_cases : (x : Bool) → eqb (get_or ends 0 0) (length p / 4) ≡ x → BodyDecided p froms tos trees arities signatures own before ends (x && eqb (get_or codes 0 0) 0)
-      tree_cases true e = decide_last (get_or ends 0 0) (get_or codes 0 0) refl (eqb-true (get_or ends 0 0) (length p / 4) e) refl
-      tree_cases false e = decide_ends (get_or ends 0 0) refl (eqb-false (get_or ends 0 0) (length p / 4) e)
+      tree_cases : (x : Bool) → eqb a.end (length p / 4) ≡ x → BodyDecided p heads own before ends (x && eqb a.sort 0)
+      tree_cases true e = decide_last (eqb-true a.end (length p / 4) e)
+      tree_cases false e = decide_ends (eqb-false a.end (length p / 4) e)
 
-      pub decide_tree : (b : Bool) → b ≡ (eqb (get_or ends 0 0) (length p / 4) && eqb (get_or codes 0 0) 0) → BodyDecided p froms tos trees arities signatures own before ends b
-      decide_tree b e = subst (λ x. BodyDecided p froms tos trees arities signatures own before ends x) (sym e) (tree_cases (eqb (get_or ends 0 0) (length p / 4)) refl)
+      pub decide_tree : (b : Bool) → b ≡ (eqb a.end (length p / 4) && eqb a.sort 0) → BodyDecided p heads own before ends b
+      decide_tree b e = subst (λ x. BodyDecided p heads own before ends x) (sym e) (tree_cases (eqb a.end (length p / 4)) refl)

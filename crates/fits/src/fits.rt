@@ -3,36 +3,23 @@ ghost use Rattle.std.specs.Prelude.{◌<◌};
 ghost use Rattle.index.specs.layout.Layout.{max_types};
 ghost use Rattle.fits.specs.fits.Filled.{FitsArrow, ReadsRow, Fills};
 
-use crate::masks::{enter_sorts, mask_at, unions_of};
+use crate::masks::{Row, enter_sorts, row_at, row_with};
 use index::entries::place_at;
-use index::layout::{
-    ALL_SORTS, FIT_ARGUMENTS, FIT_MASKS, FIT_RESULTS, FIT_SORTS, MAX_SORTS, MAX_TYPES, SortMasks,
-    TYPES_AT,
-};
+use index::layout::{ALL_SORTS, MAX_SORTS, MAX_TYPES, SortMasks, TYPES_AT};
 use records::fields::{length_at, word_at};
-
-// A row of the table: the listed sorts that a type fits, those whose result it fits, and those whose argument it fits.
-#[derive(Drop)]
-struct Row {
-    sorts: u64,
-    results: u64,
-    arguments: u64,
-}
 
 // The listed sorts that an arrow fits whose payload is the len bytes at place: its result fits their results, and each member
 // their arguments, by the rows of a table. Where no sort is left, no further member is looked at.
-fn arrow_sorts(file: &[u8], place: usize, len: usize, fit: &[u64]) -> u64
+fn arrow_sorts(file: &[u8], place: usize, len: usize, fit: &[Row]) -> u64
     requires { (place < 65536) × (len < 65536) }
     ensures { FitsArrow file.now place len fit.now result }
 {
-    let mut sorts = mask_at(fit, word_at(file, place), FIT_RESULTS);
-    let mut i: usize = 2;
-    while i + 2 <= len {
+    let mut sorts = row_at(fit, word_at(file, place)).results;
+    for k in 1..len / 2 {
         if sorts == 0 {
             return 0;
         }
-        sorts = sorts & mask_at(fit, word_at(file, place + i), FIT_ARGUMENTS);
-        i = i + 2;
+        sorts &= row_at(fit, word_at(file, place + 2 * k)).arguments;
     }
     sorts
 }
@@ -44,10 +31,10 @@ fn row_of(
     froms: &SortMasks,
     tos: &SortMasks,
     t: usize,
-    fit: &[u64],
+    fit: &[Row],
 ) -> Row
     requires { t < max_types }
-    ensures { ReadsRow file.now index.now froms.now tos.now t fit.now result.sorts result.results result.arguments }
+    ensures { ReadsRow file.now index.now froms.now tos.now t fit.now result }
 {
     let place = place_at(index, TYPES_AT + t);
     let len = length_at(file, place);
@@ -58,39 +45,21 @@ fn row_of(
             arguments: froms[0],
         };
     }
-    let sorts = arrow_sorts(file, place, len, fit);
-    let unions = unions_of(tos, froms, sorts);
-    Row {
-        sorts,
-        results: unions.results,
-        arguments: unions.arguments,
-    }
+    row_with(tos, froms, arrow_sorts(file, place, len, fit))
 }
 
 // Writes the rows of a given number of types, for a given number of sorts. A table that is too short for them stays as it is.
-pub fn fill_fits(file: &[u8], index: &[u16], types: usize, sorts: usize, fit: &mut [u64])
+pub fn fill_fits(file: &[u8], index: &[u16], types: usize, sorts: usize, fit: &mut [Row])
     ensures { Fills file.now index.now types sorts fit.old fit.new }
 {
-    if MAX_TYPES < types {
-        return;
-    }
-    if MAX_SORTS < sorts {
-        return;
-    }
-    if fit.len() < types * FIT_MASKS {
+    if MAX_TYPES < types || MAX_SORTS < sorts || fit.len() < types {
         return;
     }
     let mut froms = [0u64; ALL_SORTS];
     enter_sorts(file, index, sorts, 0, &mut froms);
     let mut tos = [0u64; ALL_SORTS];
     enter_sorts(file, index, sorts, 2, &mut tos);
-    let mut t: usize = 0;
-    while t < types {
-        let row = row_of(file, index, &froms, &tos, t, fit);
-        let at = t * FIT_MASKS;
-        fit[at + FIT_SORTS] = row.sorts;
-        fit[at + FIT_RESULTS] = row.results;
-        fit[at + FIT_ARGUMENTS] = row.arguments;
-        t = t + 1;
+    for t in 0..types {
+        fit[t] = row_of(file, index, &froms, &tos, t, fit);
     }
 }

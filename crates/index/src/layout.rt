@@ -115,36 +115,19 @@ pub const ROWS: usize = MAX_NONTERMINALS + 1;
 
 pub type Rows = [u16; ROWS];
 
-// The fit of types to sorts: for each type a row of words, which have bit i for sort i + 1. The words of a row: the listed sorts
-// that the type fits, those whose result it fits, those whose argument it fits. A word for each sort.
-pub const FIT_SORTS: usize = 0;
-
-pub const FIT_RESULTS: usize = 1;
-
-pub const FIT_ARGUMENTS: usize = 2;
-
-pub const FIT_MASKS: usize = 3;
-
-pub const FITS: usize = MAX_TYPES * FIT_MASKS;
-
-// The rooms for fewer types than all: how many types each has room for, and the words of their rows.
+// The rooms for the rows of fewer types than all, in the fit of types to sorts: how many types each has room for.
 pub const FEW_TYPES: usize = 64;
-
-pub const FEW_FITS: usize = FEW_TYPES * FIT_MASKS;
 
 pub const SOME_TYPES: usize = 320;
 
-pub const SOME_FITS: usize = SOME_TYPES * FIT_MASKS;
-
+// A set of sorts for each sort, as a word with bit i for sort i + 1.
 pub type SortMasks = [u64; ALL_SORTS];
 
 // The codes of sorts: the number of a listed one; for the sort of a constructor that is not listed, UNLISTED and how many
-// arguments it has; NO_SORT for none.
+// arguments it has.
 pub const UNLISTED: usize = 1000;
 
 pub const UNLISTED_1: usize = UNLISTED + 1;
-
-pub const NO_SORT: usize = 2000;
 
 // The goals of a check: types and states.
 pub const MAX_GOALS: usize = MAX_TYPES + MAX_STATES;

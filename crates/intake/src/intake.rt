@@ -4,7 +4,8 @@ ghost use Rattle.intake.specs.intake.Intake.{Examined};
 
 use crate::evidence::{Case, test_whole};
 use index::layout::{Counts, Index, MAX_FILE, Rows, SortTable};
-use walk::walk::Walked;
+use records::refusal::{Fault, Refusal};
+use walk::walk::walk;
 
 // What a file is, where as many flags are lent as `flags` says, with its tables: the index of its entries, the argument counts
 // of its sorts, the counts of its kinds, and the ends of the subterms of its bodies. `ends` needs room for the nodes that a file of
@@ -19,18 +20,12 @@ pub fn examine(
     ends: &mut [u16],
     codes: &mut Rows,
     depths: &mut Rows,
-) -> Case
+) -> Result<Case, Refusal>
     ensures { Examined file.now flags (length ends.old) index.new lens.new counts.new ends.new result }
 {
     if MAX_FILE < file.len() {
-        return Case::Refused {
-            number: 1,
-            place: 0,
-        };
+        return Err(Fault::TooLong.at(0));
     }
-    let walked = walk::walk::walk(file, index, lens, counts);
-    match walked {
-        Walked::Refused { number, place } => Case::Refused { number, place },
-        Walked::Read => test_whole(file, index, counts, flags, ends, codes, depths),
-    }
+    walk(file, index, lens, counts)?;
+    test_whole(file, index, counts, flags, ends, codes, depths)
 }

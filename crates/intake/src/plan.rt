@@ -1,38 +1,25 @@
 // The tests of the plan over the whole file, 8 and 9.
 ghost use Rattle.std.specs.Prelude.{◌≡◌, ◌||◌, not, List, ℕ, eqb};
 ghost use Rattle.casefile.specs.Records.{Record};
-ghost use Rattle.casefile.specs.Kinds.{Kind, count};
+ghost use Rattle.casefile.specs.Kinds.{states, nonterminal, rule, count};
 ghost use Rattle.index.specs.entries.Known.{Known};
 ghost use Rattle.intake.specs.plan.PlanTests.{TestsPlan};
 
-use index::entries::{place_at, place_of};
-use index::layout::{
-    CONSTRUCTOR, NONTERMINAL, NONTERMINALS_AT, RULE, RULES_AT, Rows, SORT, STATES,
-};
+use index::entries::{count_of, place_at, place_of};
+use index::layout::{NONTERMINALS_AT, RULES_AT, Rows};
 use records::fields::word_at;
+use records::kind::Kind;
+use records::refusal::{Fault, Refusal};
 use rules::rules::first_wrong_body;
-
-// The answer of the tests of the plan.
-#[derive(Drop)]
-pub enum Plan {
-    Fine,
-    Refused { number: usize, place: usize },
-}
 
 // Whether 8 is met: no states record, no nonterminal, or other than as many rules as nonterminals.
 fn counts_wrong(counts: &[u16]) -> bool
-    ensures { (file index lens : List ℕ) (rs : List Record) → Known file index lens counts.now rs → result ≡ (eqb (count Kind.states rs) 0 || eqb (count Kind.nonterminal rs) 0 || not (eqb (count Kind.rule rs) (count Kind.nonterminal rs))) }
+    ensures { (file index lens : List ℕ) (rs : List Record) → Known file index lens counts.now rs → result ≡ (eqb (count states rs) 0 || eqb (count nonterminal rs) 0 || not (eqb (count rule rs) (count nonterminal rs))) }
 {
-    let states = place_at(counts, STATES);
-    let nonterminals = place_at(counts, NONTERMINAL);
-    let rules = place_at(counts, RULE);
-    if states == 0 {
-        return true;
-    }
-    if nonterminals == 0 {
-        return true;
-    }
-    rules != nonterminals
+    let states = count_of(counts, Kind::States);
+    let nonterminals = count_of(counts, Kind::Nonterminal);
+    let rules = count_of(counts, Kind::Rule);
+    states == 0 || nonterminals == 0 || rules != nonterminals
 }
 
 // The tests of the plan, 8 and 9; `ends` gets the ends of the subterms of all bodies.
@@ -44,24 +31,20 @@ pub(crate) fn test_plan(
     ends: &mut [u16],
     codes: &mut Rows,
     depths: &mut Rows,
-) -> Plan
+) -> Result<(), Refusal>
     ensures { TestsPlan file.now index.now counts.now ends.old ends.new result }
 {
     if counts_wrong(counts) {
-        return Plan::Refused {
-            number: 8,
-            place: 0,
-        };
+        return Err(Fault::Incomplete.at(0));
     }
     let start = place_at(index, NONTERMINALS_AT);
     if word_at(file, start) != 0 {
-        let place = place_of(index, NONTERMINALS_AT);
-        return Plan::Refused { number: 9, place };
+        return Err(Fault::WrongBody.at(place_of(index, NONTERMINALS_AT)));
     }
-    let sorts = place_at(counts, SORT);
-    let constructors = place_at(counts, CONSTRUCTOR);
-    let rules = place_at(counts, RULE);
-    let f = first_wrong_body(
+    let sorts = count_of(counts, Kind::Sort);
+    let constructors = count_of(counts, Kind::Constructor);
+    let rules = count_of(counts, Kind::Rule);
+    let wrong = first_wrong_body(
         file,
         index,
         sorts,
@@ -72,9 +55,8 @@ pub(crate) fn test_plan(
         codes,
         depths,
     );
-    if f < rules {
-        let place = place_of(index, RULES_AT + f);
-        return Plan::Refused { number: 9, place };
+    match wrong {
+        Some(f) => Err(Fault::WrongBody.at(place_of(index, RULES_AT + f))),
+        None => Ok(()),
     }
-    Plan::Fine
 }

@@ -2,16 +2,14 @@
 // each binding, in file order: `binding 0 nonterminal 0 type 0 kept`, or `dropped` at the end.
 #![tactic(auto)]
 
-use index::layout::{BINDING, MAX_BINDINGS, MAX_FILE};
+use index::layout::MAX_BINDINGS;
 use input::{BUFFER, read_input};
 use plan_check::Verdict;
-use records::cursor::{Cursor, Read, payload};
-use records::fields::{HEADER, word_at};
+use records::cursor::{Cursor, Record};
+use records::fields::word_at;
+use records::kind::Kind;
 use std::io;
 use std::io::Write;
-
-// No file that is not refused has more records.
-const RECORDS: usize = MAX_FILE / HEADER;
 
 // The line of binding k, by its payload and its flag.
 fn say_binding<W: Write>(out: &mut W, fields: &[u8], k: usize, flag: u8) -> io::Result<()> {
@@ -24,57 +22,33 @@ fn say_binding<W: Write>(out: &mut W, fields: &[u8], k: usize, flag: u8) -> io::
     )
 }
 
+// The next binding of a file, from a cursor on.
+fn next_binding(file: &[u8], mut cursor: Cursor) -> Option<Record> {
+    while let Ok(Some(record)) = cursor.next(file) {
+        if record.kind == usize::from(Kind::Binding) {
+            return Some(record);
+        }
+        cursor = record.next;
+    }
+    None
+}
+
 // A line for each binding of a file, by its flag.
 fn say_bindings<W: Write>(out: &mut W, file: &[u8], flags: &[u8]) -> io::Result<()> {
     let mut cursor = Cursor { at: 0 };
-    let mut k: usize = 0;
-    for _turn in 0..RECORDS {
-        let read = cursor.next(file);
-        let Read::Record {
-            place: _,
-            start,
-            len,
-            kind,
-            next,
-        } = read
-        else {
+    for (k, flag) in flags.iter().enumerate() {
+        let Some(binding) = next_binding(file, cursor) else {
             return Ok(());
         };
-        if kind == BINDING {
-            if flags.len() <= k {
-                return Ok(());
-            }
-            say_binding(out, payload(file, start, len), k, flags[k])?;
-            k = k + 1;
-        }
-        cursor = next;
+        say_binding(out, binding.payload(file), k, *flag)?;
+        cursor = binding.next;
     }
     Ok(())
 }
 
 // Whether a verdict is one of a binding case.
 fn of_bindings(verdict: Verdict) -> bool {
-    match verdict {
-        Verdict::Proved {
-            kept: _,
-            total: _,
-            rounds: _,
-        } => true,
-        Verdict::Unproved {
-            kept: _,
-            total: _,
-            rounds: _,
-        } => true,
-        Verdict::Refuted {
-            letters: _,
-            state: _,
-            constructor: _,
-        } => false,
-        Verdict::Refused {
-            number: _,
-            place: _,
-        } => false,
-    }
+    matches!(verdict, Verdict::Proved { .. } | Verdict::Unproved { .. })
 }
 
 // The buffer holds more than the 60,000 bytes of the longest case file, so that a longer one is seen to be longer.

@@ -5,43 +5,31 @@ ghost use Rattle.casefile.specs.Tables.{cells_of};
 ghost use Rattle.casefile.specs.Refusals.{wrong_cell_spec};
 ghost use Rattle.record_tests.specs.rule_record.Cells.{cell_from};
 ghost use Rattle.index.specs.entries.Tests.{TestsRule};
+ghost use Rattle.records.specs.refusal.Numbers.{code_of};
 
 use index::entries::place_at;
 use index::layout::{MAX_ARGUMENTS, MAX_BODY, MAX_NONTERMINALS, NODE, NONTERMINALS_AT};
 use records::fields::{byte_at, word_at};
+use records::refusal::Fault;
 
 // How many entries a tag's numbers have: 0 constructors, 1 nonterminals, else parameters.
 fn entries_for(tag: usize, constructors: usize, nonterminals: usize, parameters: usize) -> usize
     ensures { result ≡ get_or (constructors ∷ nonterminals ∷ []) tag parameters }
 {
-    if tag == 0 {
-        return constructors;
+    match tag {
+        0 => constructors,
+        1 => nonterminals,
+        _ => parameters,
     }
-    if tag == 1 {
-        return nonterminals;
-    }
-    parameters
 }
 
-// Whether the node at i is out of range: its tag, its number, or its argument count.
-fn wrong_cell(
-    p: &[u8],
-    i: usize,
-    constructors: usize,
-    nonterminals: usize,
-    parameters: usize,
-) -> bool
-    ensures { i + 4 ≤ length p.now → result ≡ wrong_cell_spec constructors nonterminals parameters (cell_from p.now i) }
+// Whether a node is out of range: its tag, its number, or its argument count.
+fn wrong_cell(node: &[u8], constructors: usize, nonterminals: usize, parameters: usize) -> bool
+    ensures { result ≡ wrong_cell_spec constructors nonterminals parameters (cell_from node.now 0) }
 {
-    if p.len() < NODE {
-        return true;
-    }
-    if p.len() - NODE < i {
-        return true;
-    }
-    let tag = byte_at(p, i);
-    let number = word_at(p, i + 1);
-    let count = byte_at(p, i + 3);
+    let tag = byte_at(node, 0);
+    let number = word_at(node, 1);
+    let count = byte_at(node, 3);
     if 2 < tag {
         return true;
     }
@@ -53,17 +41,10 @@ fn wrong_cell(
 fn wrong_cells(p: &[u8], constructors: usize, nonterminals: usize, parameters: usize) -> bool
     ensures { result ≡ any (wrong_cell_spec constructors nonterminals parameters) (cells_of p.now) }
 {
-    let mut i: usize = 0;
-    while NODE <= p.len() - i {
-        if wrong_cell(p, i, constructors, nonterminals, parameters) {
-            return true;
-        }
-        i = i + NODE;
-    }
-    false
+    p.chunks_exact(NODE).any(|node| wrong_cell(node, constructors, nonterminals, parameters))
 }
 
-// The code of the payload p of a rule after n rules, with a given number of sorts, constructors and nonterminals.
+// Tests the payload p of a rule after n rules, with a given number of sorts, constructors and nonterminals.
 pub fn test_rule(
     file: &[u8],
     index: &[u16],
@@ -72,28 +53,28 @@ pub fn test_rule(
     constructors: usize,
     nonterminals: usize,
     p: &[u8],
-) -> usize
-    ensures { (sorts : ℕ) → TestsRule file.now index.now lens.now n sorts constructors nonterminals p.now result }
+) -> Result<(), Fault>
+    ensures { (sorts : ℕ) → TestsRule file.now index.now lens.now n sorts constructors nonterminals p.now (code_of result) }
 {
     if p.len() < NODE {
-        return 4;
+        return Err(Fault::WrongLength);
     }
     if p.len() % NODE != 0 {
-        return 4;
+        return Err(Fault::WrongLength);
     }
     if MAX_BODY < p.len() {
-        return 5;
+        return Err(Fault::OverLimit);
     }
     if nonterminals <= n {
-        return 6;
+        return Err(Fault::OutOfRange);
     }
     if MAX_NONTERMINALS <= n {
-        return 6;
+        return Err(Fault::OutOfRange);
     }
     let s = word_at(file, place_at(index, NONTERMINALS_AT + n));
     let parameters = place_at(lens, s);
     if wrong_cells(p, constructors, nonterminals, parameters) {
-        return 6;
+        return Err(Fault::OutOfRange);
     }
-    0
+    Ok(())
 }

@@ -6,24 +6,18 @@ ghost use Rattle.casefile.specs.Refusals.{ascends};
 ghost use Rattle.index.specs.entries.Chains.{hash_of_spec};
 ghost use Rattle.index.specs.entries.Tests.{TestsType};
 ghost use Rattle.record_tests.specs.type_record.Alone.{CodesAlone};
+ghost use Rattle.records.specs.refusal.Numbers.{code_of};
 
 use index::chains::listed;
 use index::layout::{MAX_TYPE, MAX_TYPES};
 use records::fields::{byte_at, word_at};
+use records::refusal::Fault;
 
 // Whether one of the payload's numbers, of two bytes each, is n or more.
 fn names_later(p: &[u8], n: usize) -> bool
     ensures { result ≡ any (λ (t : ℕ). leb n t) (words p.now) }
 {
-    let mut i: usize = 0;
-    while 2 <= p.len() - i {
-        let t = word_at(p, i);
-        if n <= t {
-            return true;
-        }
-        i = i + 2;
-    }
-    false
+    p.chunks_exact(2).any(|number| n <= word_at(number, 0))
 }
 
 // Whether the members of a type's payload ascend strictly; they stand behind its result.
@@ -34,14 +28,12 @@ fn members_ascend(p: &[u8]) -> bool
         return true;
     }
     let mut last = word_at(p, 2);
-    let mut i: usize = 4;
-    while 2 <= p.len() - i {
-        let m = word_at(p, i);
+    for i in 2..p.len() / 2 {
+        let m = word_at(p, 2 * i);
         if m <= last {
             return false;
         }
         last = m;
-        i = i + 2;
     }
     true
 }
@@ -55,60 +47,64 @@ fn ends_later(p: &[u8], n: usize) -> bool
     n <= word_at(p, 0) || n <= word_at(p, p.len() - 2)
 }
 
-// The code of a state, a payload p of one byte, after n types and with a given number of states; 0 also where it repeats a type.
-fn state_code(n: usize, states: usize, p: &[u8]) -> usize
-    ensures { length p.now ≡ 1 → CodesAlone n states p.now result }
+// Tests a state, a payload p of one byte, after n types and with a given number of states, but not whether it repeats a type.
+fn test_state(n: usize, states: usize, p: &[u8]) -> Result<(), Fault>
+    ensures { length p.now ≡ 1 → CodesAlone n states p.now (code_of result) }
 {
     if MAX_TYPES <= n {
-        return 5;
+        return Err(Fault::OverLimit);
     }
     if states <= byte_at(p, 0) {
-        return 6;
+        return Err(Fault::OutOfRange);
     }
-    0
+    Ok(())
 }
 
 // The same for a payload p of any type.
-fn own_code(n: usize, states: usize, p: &[u8]) -> usize
-    ensures { CodesAlone n states p.now result }
+fn test_alone(n: usize, states: usize, p: &[u8]) -> Result<(), Fault>
+    ensures { CodesAlone n states p.now (code_of result) }
 {
     if p.len() == 1 {
-        return state_code(n, states, p);
+        return test_state(n, states, p);
     }
     if p.len() < 2 {
-        return 4;
+        return Err(Fault::WrongLength);
     }
     if MAX_TYPE < p.len() {
-        return 4;
+        return Err(Fault::WrongLength);
     }
     if p.len() % 2 != 0 {
-        return 4;
+        return Err(Fault::WrongLength);
     }
     if MAX_TYPES <= n {
-        return 5;
+        return Err(Fault::OverLimit);
     }
     if members_ascend(p) {
         if ends_later(p, n) {
-            return 6;
+            return Err(Fault::OutOfRange);
         }
-        return 0;
+        return Ok(());
     }
     if names_later(p, n) {
-        return 6;
+        return Err(Fault::OutOfRange);
     }
-    7
+    Err(Fault::Misplaced)
 }
 
-// The code of the payload p of a type, whose hash is h, after n types, with a given number of states.
-pub fn test_type(file: &[u8], index: &[u16], n: usize, states: usize, h: usize, p: &[u8]) -> usize
-    ensures { h ≡ hash_of_spec p.now → TestsType file.now index.now n states p.now result }
+// Tests the payload p of a type, whose hash is h, after n types, with a given number of states.
+pub fn test_type(
+    file: &[u8],
+    index: &[u16],
+    n: usize,
+    states: usize,
+    h: usize,
+    p: &[u8],
+) -> Result<(), Fault>
+    ensures { h ≡ hash_of_spec p.now → TestsType file.now index.now n states p.now (code_of result) }
 {
-    let number = own_code(n, states, p);
-    if number != 0 {
-        return number;
-    }
+    test_alone(n, states, p)?;
     if listed(file, index, h, p) {
-        return 7;
+        return Err(Fault::Misplaced);
     }
-    0
+    Ok(())
 }

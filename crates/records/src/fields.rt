@@ -6,22 +6,21 @@ ghost use Rattle.records.specs.fields.Promises.{HasLength};
 pub const HEADER: usize = 4;
 
 // The one-byte field at a place; 0 past the end.
+#[tactic(auto, using(casefile::proofs::Fields::is_field_one, casefile::proofs::Fields::is_field_out))]
 pub fn byte_at(s: &[u8], at: usize) -> usize
     ensures { IsField 1 s.now at result }
 {
-    if at < s.len() { s[at] as usize } else { 0 }
+    if at < s.len() { usize::from(s[at]) } else { 0 }
 }
 
 // The two-byte field at a place, the low byte first; a byte past the end counts 0. Where both bytes are there they are read
 // without a further test.
+#[tactic(auto, using(casefile::proofs::Fields::is_field_last))]
 pub fn word_at(s: &[u8], at: usize) -> usize
     ensures { IsField 2 s.now at result }
 {
     let n = s.len();
-    if n < 2 {
-        return byte_at(s, at);
-    }
-    if n - 1 <= at {
+    if n < 2 || n - 1 <= at {
         return byte_at(s, at);
     }
     let low = byte_at(s, at);

@@ -29,6 +29,15 @@ pub struct Refusal {
     pub place: usize,
 }
 
+impl Fault {
+    // The refusal of a file that fails this test at a place.
+    pub fn at(self, place: usize) -> Refusal
+        ensures { result ≡ record { fault = self; place = place } }
+    {
+        Refusal { fault: self, place }
+    }
+}
+
 // The number of a test, from 1 to 15.
 impl From<Fault> for usize {
     ghost from_gives = { λ fault number. number ≡ number_of fault };

@@ -1,7 +1,7 @@
 // How many nodes the rules have, and where those of each rule begin, where the nodes of all rules are numbered one after another.
 ghost use Rattle.rules.specs.first_nodes.FirstNodes.{CountsNodes, CountsAll, FillsFirsts};
 
-use index::entries::{larger, place_at};
+use index::entries::place_at;
 use index::layout::{
     ENDS, LAST_NONTERMINAL, MAX_BODY, MAX_NONTERMINALS, MOST_NODES_AT, NODE, ROWS, RULES_AT,
 };
@@ -29,10 +29,8 @@ pub fn nodes_in_all(file: &[u8], index: &[u16], rules: usize) -> usize
         return ENDS;
     }
     let mut all: usize = 0;
-    let mut f: usize = 0;
-    while f < rules {
-        all = all + nodes_of(file, index, f);
-        f = f + 1;
+    for f in 0..rules {
+        all += nodes_of(file, index, f);
     }
     all
 }
@@ -50,13 +48,11 @@ pub fn fill_firsts(file: &[u8], index: &[u16], rules: usize, firsts: &mut [u16])
     }
     let mut at: usize = 0;
     let mut most: usize = 0;
-    let mut f: usize = 0;
-    while f < rules {
+    for f in 0..rules {
         firsts[f] = at as u16;
         let n = nodes_of(file, index, f);
-        at = at + n;
-        most = larger(most, n);
-        f = f + 1;
+        at += n;
+        most = most.max(n);
     }
     firsts[MOST_NODES_AT] = most as u16;
 }

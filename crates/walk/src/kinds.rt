@@ -1,19 +1,21 @@
 // A record by its kind: its test, 3 to 7, and its entry in the tables of the walk where it passes.
 ghost use Rattle.std.specs.Prelude.{◌≡◌, List, ℕ, ◌<◌, ◌≤◌};
 ghost use Rattle.casefile.specs.Records.{Record};
-ghost use Rattle.casefile.specs.Kinds.{Kind, number};
+ghost use Rattle.casefile.specs.Kinds;
+ghost use Rattle.casefile.specs.Kinds.{number};
 ghost use Rattle.casefile.specs.Tables.{state_count_spec};
-ghost use Rattle.index.specs.entries.Index.{Indexed};
+ghost use Rattle.index.specs.entries.Index.{base, Indexed};
 ghost use Rattle.index.specs.entries.Tests.{Fitting};
+ghost use Rattle.records.specs.kind.Kinds.{kind_as};
+ghost use Rattle.records.specs.refusal.Numbers.{code_of};
 ghost use Rattle.walk.specs.kinds.Taking.{Adds, Taken};
 
 use index::chains::hash_of;
 use index::enter::{enter_sort, enter_type, store};
-use index::entries::place_at;
+use index::entries::{count_of, place_at};
 use index::layout::{
-    BINDING, BINDINGS_AT, CONSTRUCTOR, CONSTRUCTORS_AT, NONTERMINAL, NONTERMINALS_AT, PATH,
-    PATH_AT, RULE, RULES_AT, SORT, SORTS_AT, STATES, STATES_AT, TRANSITION, TRANSITIONS_AT, TYPE,
-    TYPES_AT,
+    BINDINGS_AT, CONSTRUCTORS_AT, NONTERMINALS_AT, PATH_AT, RULES_AT, SORTS_AT, STATES_AT,
+    TRANSITIONS_AT, TYPES_AT,
 };
 use record_tests::once::{test_path, test_states};
 use record_tests::ordered::{test_binding, test_transition};
@@ -22,10 +24,12 @@ use record_tests::sort_record::test_sort;
 use record_tests::symbols::{test_constructor, test_nonterminal};
 use record_tests::type_record::test_type;
 use records::fields::byte_at;
+use records::kind::Kind;
+use records::refusal::Fault;
 
 // How many states there are, by the n states records.
 fn state_count(file: &[u8], index: &[u16], n: usize) -> usize
-    ensures { (rs : List Record) → Indexed file.now index.now Kind.states n rs → Fitting Kind.states n rs → n ≤ 1 → result ≡ state_count_spec rs }
+    ensures { (rs : List Record) → Indexed file.now index.now Kinds.states n rs → Fitting Kinds.states n rs → n ≤ 1 → result ≡ state_count_spec rs }
 {
     if n == 0 {
         return 0;
@@ -33,30 +37,34 @@ fn state_count(file: &[u8], index: &[u16], n: usize) -> usize
     byte_at(file, place_at(index, STATES_AT))
 }
 
-// Enters a record behind the n others of its kind where its code is 0: the index gets where its payload begins, n entries behind
-// those that the kind has from `base` on, and the counts one more of the kind. With another code nothing changes. Returns the code.
-fn add_entry(
-    index: &mut [u16],
-    counts: &mut [u16],
-    kind: usize,
-    base: usize,
-    n: usize,
-    code: usize,
-    start: usize,
-) -> usize
-    requires { (base < 65536) × (n < 65536) }
-    ensures { Adds index.old counts.old kind base n code start index.new counts.new result }
+// Where the entries of a kind begin in the index.
+fn entries_at(kind: Kind) -> usize
+    ensures { (result ≡ base (kind_as kind)) × (result < 65536) }
 {
-    if code != 0 {
-        return code;
+    match kind {
+        Kind::Sort => SORTS_AT,
+        Kind::Constructor => CONSTRUCTORS_AT,
+        Kind::Nonterminal => NONTERMINALS_AT,
+        Kind::Rule => RULES_AT,
+        Kind::States => STATES_AT,
+        Kind::Transition => TRANSITIONS_AT,
+        Kind::Type => TYPES_AT,
+        Kind::Binding => BINDINGS_AT,
+        Kind::Path => PATH_AT,
     }
-    store(index, base + n, start);
-    store(counts, kind, n + 1);
-    0
 }
 
-// A record of a kind, here a sort, with the payload p, which begins at start: its code, 0 or the number of the first of 4 to 7
-// that is met. Where it is 0 the record is entered in the tables, behind the others of its kind; else they stay as they are.
+// Enters a record behind the others of its kind: the index gets where its payload begins, and the counts one more of the kind.
+fn add_entry(index: &mut [u16], counts: &mut [u16], kind: Kind, start: usize)
+    ensures { Adds index.old counts.old (kind_as kind) start index.new counts.new }
+{
+    let n = count_of(counts, kind);
+    store(index, entries_at(kind) + n, start);
+    store(counts, usize::from(kind), n + 1);
+}
+
+// A record of a kind, here a sort, with the payload p, which begins at start: the first of 4 to 7 that is met, or none, and then
+// the record is entered in the tables, behind the others of its kind. Where it is refused they stay as they are.
 fn take_sort(
     file: &[u8],
     index: &mut [u16],
@@ -64,51 +72,45 @@ fn take_sort(
     counts: &mut [u16],
     start: usize,
     p: &[u8],
-) -> usize
-    ensures { Taken file.now index.old lens.old counts.old (number Kind.sort) start p.now index.new lens.new counts.new result }
+) -> Result<(), Fault>
+    ensures { Taken file.now index.old lens.old counts.old (number Kinds.sort) start p.now index.new lens.new counts.new (code_of result) }
 {
-    let n = place_at(counts, SORT);
-    let number = test_sort(file, index, lens, n, p);
-    let code = add_entry(index, counts, SORT, SORTS_AT, n, number, start);
-    if code != 0 {
-        return code;
-    }
+    let n = count_of(counts, Kind::Sort);
+    test_sort(file, index, lens, n, p)?;
+    add_entry(index, counts, Kind::Sort, start);
     enter_sort(lens, n, p);
-    0
+    Ok(())
 }
 
 // The same for a constructor.
-fn take_constructor(index: &mut [u16], counts: &mut [u16], start: usize, p: &[u8]) -> usize
-    ensures { (file lens : List ℕ) → Taken file index.old lens counts.old (number Kind.constructor) start p.now index.new lens counts.new result }
+fn take_constructor(
+    index: &mut [u16],
+    counts: &mut [u16],
+    start: usize,
+    p: &[u8],
+) -> Result<(), Fault>
+    ensures { (file lens : List ℕ) → Taken file index.old lens counts.old (number Kinds.constructor) start p.now index.new lens counts.new (code_of result) }
 {
-    let n = place_at(counts, CONSTRUCTOR);
-    let number = test_constructor(n, p);
-    add_entry(
-        index,
-        counts,
-        CONSTRUCTOR,
-        CONSTRUCTORS_AT,
-        n,
-        number,
-        start,
-    )
+    let n = count_of(counts, Kind::Constructor);
+    test_constructor(n, p)?;
+    add_entry(index, counts, Kind::Constructor, start);
+    Ok(())
 }
 
 // The same for a nonterminal.
-fn take_nonterminal(index: &mut [u16], counts: &mut [u16], start: usize, p: &[u8]) -> usize
-    ensures { (file lens : List ℕ) → Taken file index.old lens counts.old (number Kind.nonterminal) start p.now index.new lens counts.new result }
+fn take_nonterminal(
+    index: &mut [u16],
+    counts: &mut [u16],
+    start: usize,
+    p: &[u8],
+) -> Result<(), Fault>
+    ensures { (file lens : List ℕ) → Taken file index.old lens counts.old (number Kinds.nonterminal) start p.now index.new lens counts.new (code_of result) }
 {
-    let n = place_at(counts, NONTERMINAL);
-    let number = test_nonterminal(place_at(counts, SORT) + 1, n, p);
-    add_entry(
-        index,
-        counts,
-        NONTERMINAL,
-        NONTERMINALS_AT,
-        n,
-        number,
-        start,
-    )
+    let n = count_of(counts, Kind::Nonterminal);
+    let sorts = count_of(counts, Kind::Sort);
+    test_nonterminal(sorts + 1, n, p)?;
+    add_entry(index, counts, Kind::Nonterminal, start);
+    Ok(())
 }
 
 // The same for a rule.
@@ -119,23 +121,25 @@ fn take_rule(
     counts: &mut [u16],
     start: usize,
     p: &[u8],
-) -> usize
-    ensures { Taken file.now index.old lens.now counts.old (number Kind.rule) start p.now index.new lens.now counts.new result }
+) -> Result<(), Fault>
+    ensures { Taken file.now index.old lens.now counts.old (number Kinds.rule) start p.now index.new lens.now counts.new (code_of result) }
 {
-    let n = place_at(counts, RULE);
-    let constructors = place_at(counts, CONSTRUCTOR);
-    let nonterminals = place_at(counts, NONTERMINAL);
-    let number = test_rule(file, index, lens, n, constructors, nonterminals, p);
-    add_entry(index, counts, RULE, RULES_AT, n, number, start)
+    let n = count_of(counts, Kind::Rule);
+    let constructors = count_of(counts, Kind::Constructor);
+    let nonterminals = count_of(counts, Kind::Nonterminal);
+    test_rule(file, index, lens, n, constructors, nonterminals, p)?;
+    add_entry(index, counts, Kind::Rule, start);
+    Ok(())
 }
 
 // The same for the states.
-fn take_states(index: &mut [u16], counts: &mut [u16], start: usize, p: &[u8]) -> usize
-    ensures { (file lens : List ℕ) → Taken file index.old lens counts.old (number Kind.states) start p.now index.new lens counts.new result }
+fn take_states(index: &mut [u16], counts: &mut [u16], start: usize, p: &[u8]) -> Result<(), Fault>
+    ensures { (file lens : List ℕ) → Taken file index.old lens counts.old (number Kinds.states) start p.now index.new lens counts.new (code_of result) }
 {
-    let n = place_at(counts, STATES);
-    let number = test_states(n, p);
-    add_entry(index, counts, STATES, STATES_AT, n, number, start)
+    let n = count_of(counts, Kind::States);
+    test_states(n, p)?;
+    add_entry(index, counts, Kind::States, start);
+    Ok(())
 }
 
 // The same for a transition.
@@ -145,53 +149,66 @@ fn take_transition(
     counts: &mut [u16],
     start: usize,
     p: &[u8],
-) -> usize
-    ensures { (lens : List ℕ) → Taken file.now index.old lens counts.old (number Kind.transition) start p.now index.new lens counts.new result }
+) -> Result<(), Fault>
+    ensures { (lens : List ℕ) → Taken file.now index.old lens counts.old (number Kinds.transition) start p.now index.new lens counts.new (code_of result) }
 {
-    let n = place_at(counts, TRANSITION);
-    let states = state_count(file, index, place_at(counts, STATES));
-    let number = test_transition(file, index, n, states, place_at(counts, CONSTRUCTOR), p);
-    add_entry(index, counts, TRANSITION, TRANSITIONS_AT, n, number, start)
+    let n = count_of(counts, Kind::Transition);
+    let states = state_count(file, index, count_of(counts, Kind::States));
+    let constructors = count_of(counts, Kind::Constructor);
+    test_transition(file, index, n, states, constructors, p)?;
+    add_entry(index, counts, Kind::Transition, start);
+    Ok(())
 }
 
 // The same for a type; its hash serves the test and the entry.
-fn take_type(file: &[u8], index: &mut [u16], counts: &mut [u16], start: usize, p: &[u8]) -> usize
-    ensures { (lens : List ℕ) → Taken file.now index.old lens counts.old (number Kind.type) start p.now index.new lens counts.new result }
+fn take_type(
+    file: &[u8],
+    index: &mut [u16],
+    counts: &mut [u16],
+    start: usize,
+    p: &[u8],
+) -> Result<(), Fault>
+    ensures { (lens : List ℕ) → Taken file.now index.old lens counts.old (number Kinds.type) start p.now index.new lens counts.new (code_of result) }
 {
-    let n = place_at(counts, TYPE);
-    let states = state_count(file, index, place_at(counts, STATES));
+    let n = count_of(counts, Kind::Type);
+    let states = state_count(file, index, count_of(counts, Kind::States));
     let h = hash_of(p);
-    let number = test_type(file, index, n, states, h, p);
-    let code = add_entry(index, counts, TYPE, TYPES_AT, n, number, start);
-    if code != 0 {
-        return code;
-    }
+    test_type(file, index, n, states, h, p)?;
+    add_entry(index, counts, Kind::Type, start);
     enter_type(index, n, h);
-    0
+    Ok(())
 }
 
 // The same for a binding.
-fn take_binding(file: &[u8], index: &mut [u16], counts: &mut [u16], start: usize, p: &[u8]) -> usize
-    ensures { (lens : List ℕ) → Taken file.now index.old lens counts.old (number Kind.binding) start p.now index.new lens counts.new result }
+fn take_binding(
+    file: &[u8],
+    index: &mut [u16],
+    counts: &mut [u16],
+    start: usize,
+    p: &[u8],
+) -> Result<(), Fault>
+    ensures { (lens : List ℕ) → Taken file.now index.old lens counts.old (number Kinds.binding) start p.now index.new lens counts.new (code_of result) }
 {
-    let n = place_at(counts, BINDING);
-    let nonterminals = place_at(counts, NONTERMINAL);
-    let types = place_at(counts, TYPE);
-    let number = test_binding(file, index, n, nonterminals, types, p);
-    add_entry(index, counts, BINDING, BINDINGS_AT, n, number, start)
+    let n = count_of(counts, Kind::Binding);
+    let nonterminals = count_of(counts, Kind::Nonterminal);
+    let types = count_of(counts, Kind::Type);
+    test_binding(file, index, n, nonterminals, types, p)?;
+    add_entry(index, counts, Kind::Binding, start);
+    Ok(())
 }
 
 // The same for a path.
-fn take_path(index: &mut [u16], counts: &mut [u16], start: usize, p: &[u8]) -> usize
-    ensures { (file lens : List ℕ) → Taken file index.old lens counts.old (number Kind.path) start p.now index.new lens counts.new result }
+fn take_path(index: &mut [u16], counts: &mut [u16], start: usize, p: &[u8]) -> Result<(), Fault>
+    ensures { (file lens : List ℕ) → Taken file index.old lens counts.old (number Kinds.path) start p.now index.new lens counts.new (code_of result) }
 {
-    let n = place_at(counts, PATH);
-    let number = test_path(n, p);
-    add_entry(index, counts, PATH, PATH_AT, n, number, start)
+    let n = count_of(counts, Kind::Path);
+    test_path(n, p)?;
+    add_entry(index, counts, Kind::Path, start);
+    Ok(())
 }
 
-// The code of a record of a kind with the payload p, which begins at start: 0, or the number of the first of 3 to 7 that is
-// met. Where it is 0 the record is entered in the tables, behind the others of its kind; else they stay as they are.
+// A record of a kind, by its number, with the payload p, which begins at start: the first of 3 to 7 that is met, or none, and
+// then the record is entered in the tables, behind the others of its kind. Where it is refused they stay as they are.
 pub(crate) fn take(
     file: &[u8],
     index: &mut [u16],
@@ -200,20 +217,18 @@ pub(crate) fn take(
     kind: usize,
     start: usize,
     p: &[u8],
-) -> usize
-    ensures { Taken file.now index.old lens.old counts.old kind start p.now index.new lens.new counts.new result }
+) -> Result<(), Fault>
+    ensures { Taken file.now index.old lens.old counts.old kind start p.now index.new lens.new counts.new (code_of result) }
 {
-    match kind {
-        SORT => take_sort(file, index, lens, counts, start, p),
-        CONSTRUCTOR => take_constructor(index, counts, start, p),
-        NONTERMINAL => take_nonterminal(index, counts, start, p),
-        RULE => take_rule(file, index, lens, counts, start, p),
-        STATES => take_states(index, counts, start, p),
-        TRANSITION => take_transition(file, index, counts, start, p),
-        TYPE => take_type(file, index, counts, start, p),
-        BINDING => take_binding(file, index, counts, start, p),
-        PATH => take_path(index, counts, start, p),
-        // Kinds that no record has; the reader hands on no remark.
-        _ => 3,
+    match Kind::try_from(kind)? {
+        Kind::Sort => take_sort(file, index, lens, counts, start, p),
+        Kind::Constructor => take_constructor(index, counts, start, p),
+        Kind::Nonterminal => take_nonterminal(index, counts, start, p),
+        Kind::Rule => take_rule(file, index, lens, counts, start, p),
+        Kind::States => take_states(index, counts, start, p),
+        Kind::Transition => take_transition(file, index, counts, start, p),
+        Kind::Type => take_type(file, index, counts, start, p),
+        Kind::Binding => take_binding(file, index, counts, start, p),
+        Kind::Path => take_path(index, counts, start, p),
     }
 }

@@ -3,12 +3,13 @@ use Prim.Native.Nat.{ℕ, zero, suc, ◌+◌, ◌-◌, ◌/◌, ◌%◌, ◌^◌
 use native.Mathlib.Decide.{ℕ_discrete}
 use native.Mathlib.Omega.{arith}
 use native.Mathlib.Nat.{add-zero, le_of_suc-le-suc}
-use mathlib.Core.Path.{◌≡◌, refl, sym, ap, ap₂, ◌∙◌}
+use mathlib.Core.Path.{◌≡◌, refl, sym, ap, ap₂, subst, ◌∙◌}
 use mathlib.Core.Bool.{Bool, true, false, not}
 use mathlib.Core.List.{List, [], ◌∷◌, map}
 use mathlib.Core.Option.{none, some}
 use borrow.Author.Tests.{eqb-true, not-false, eq-eqb, ne_eqb}
 use borrow.Author.Count.{below_more}
+use Rattle.std.specs.Prelude.{Option, Some, None}
 use lib.Dec.{eqb}
 use lib.ListN.{length, get_or}
 use Rattle.scheme.specs.Sorts.{Sort, o}
@@ -21,15 +22,16 @@ use Rattle.casefile.specs.Tables.{types_of, sorts_of, signatures_of, bindings_of
 use Rattle.casefile.specs.Refusals.{Test, refuse◌at◌when◌, first, wrong_length, misfits}
 use Rattle.casefile.proofs.TypeTable.{count_payloads}
 use Rattle.records.specs.fields.Promises.{HasLength}
-use Rattle.index.specs.layout.Layout.{max_sorts, nonterminals_at, types_at, bindings_at, fit_sorts}
-use Rattle.fits.specs.masks.Masks.{has, mask_of}
+use Rattle.index.specs.layout.Layout.{max_sorts, nonterminals_at, types_at, bindings_at}
+use Rattle.fits.specs.masks.Masks.{has, row_in}
+use Rattle.fits.specs.declared.masks.Row.{Row}
 use Rattle.fits.specs.fits.Filled.{fits_at}
 use Rattle.fits.specs.misfits.Misfits.{TestsFit, binding_fits, Offered, FirstMisfit, FindsMisfit}
 use Rattle.fits.proofs.masks.Bits.{has_shifted}
 use Rattle.fits.proofs.fits.Rows.{state_fits, arrow_tree}
 
 -- What the program looks at says whether type t fits sort s.
-module _ (file index fit : List ℕ) (t : ℕ) where
+module _ (file index : List ℕ) (fit : List Row) (t : ℕ) where
   -- sort 0: where the payload has one byte
   pub tree_tested : (s place len : ℕ) → s ≡ 0 → place ≡ get_or index (types_at + t) 0 → HasLength file place len → TestsFit file index fit t s (eqb len 1)
   tree_tested s place len zeroth ep el types sorts rs listed table h l = by (ℕ_discrete len 1) ∙ ap (fits_at rs t) (sym zeroth)
@@ -43,12 +45,12 @@ module _ (file index fit : List ℕ) (t : ℕ) where
   unlisted_tested s r late types sorts rs listed table h l = absurd (let few = listed.few_sorts in omega arith)
 
   -- a listed sort: by its bit
-  pub listed_tested : (s m : ℕ) → (s ≡ 0 → ⊥) → m ≡ mask_of fit t fit_sorts → TestsFit file index fit t s (eqb (m / 2 ^ (s - 1) % 2) 1)
+  pub listed_tested : (s m : ℕ) → (s ≡ 0 → ⊥) → m ≡ (row_in fit t).sorts → TestsFit file index fit t s (eqb (m / 2 ^ (s - 1) % 2) 1)
   listed_tested s m ne em types sorts rs listed table h l =
       has_shifted (s - 1) m ∙ ap (λ x. has x (s - 1)) em ∙ (table t (s - 1) h (omega arith)).sort_right ∙ ap (fits_at rs t) (omega arith)
 
 -- Whether binding i fits: its numbers and its nonterminal's sort, read through the index.
-module _ {file index fit : List ℕ} {bindings nonterminals types sorts : ℕ} {rs : List Record} (of : Offered file index fit bindings nonterminals types sorts rs) where
+module _ {file index : List ℕ} {fit : List Row} {bindings nonterminals types sorts : ℕ} {rs : List Record} (of : Offered file index fit bindings nonterminals types sorts rs) where
   abbrev pay : ℕ → List ℕ
   pay i = get_or (payloads binding rs) i []
 
@@ -76,7 +78,7 @@ module _ {file index fit : List ℕ} {bindings nonterminals types sorts : ℕ} {
         (ap (λ k. get_or (sorts_of rs) k o) s_is ∙ sym (sort_of_law f hf) ∙ ap (λ k. get_or (signatures_of rs) k o) f_is)
 
 -- The bindings one after the other.
-module _ (file index fit : List ℕ) (bindings : ℕ) where
+module _ (file index : List ℕ) (fit : List Row) (bindings : ℕ) where
   -- the bindings before i fit
   abbrev pub FitTo : ℕ → Type 0
   FitTo i =
@@ -86,13 +88,25 @@ module _ (file index fit : List ℕ) (bindings : ℕ) where
   pub fit_none : FitTo 0
   fit_none ns ts ss rs of k h = absurd (omega arith)
 
-  pub fit_all : (i : ℕ) → FitTo i → bindings ≤ i → FindsMisfit file index fit bindings bindings
-  fit_all i sofar h ns ts ss rs of = record { within = omega arith; fit_before = λ k l. sofar ns ts ss rs of k (omega arith); misfit_there = λ l. absurd (omega arith) }
+  pub fit_all : (i : ℕ) → FitTo i → bindings ≤ i → FindsMisfit file index fit bindings None
+  fit_all i sofar h ns ts ss rs of = record {
+    within = λ j e. absurd (cc);
+    fit_before = λ j e. absurd (cc);
+    misfit_there = λ j e. absurd (cc);
+    all_fit = λ e k l. sofar ns ts ss rs of k (omega arith);
+  }
 
   module _ (i place f t start s : ℕ) (x : Bool) (sofar : FitTo i) (h : i < bindings) (ep : place ≡ get_or index (bindings_at + i) 0) (ef : f ≡ word file place)
       (et : t ≡ word file (place + 2)) (eq : start ≡ get_or index (nonterminals_at + f) 0) (es : s ≡ word file start) (tests : TestsFit file index fit t s x) where
-    pub fit_stop : x ≡ false → FindsMisfit file index fit bindings i
-    fit_stop z ns ts ss rs of = record { within = omega arith; fit_before = sofar ns ts ss rs of; misfit_there = λ l. sym (binding_tested of i place f t start s x h ep ef et eq es tests) ∙ z }
+    pub fit_stop : x ≡ false → FindsMisfit file index fit bindings (Some i)
+    fit_stop z ns ts ss rs of = record {
+      within = λ j e. let same : i ≡ j = cc in omega arith;
+      fit_before = λ j e k l. let same : i ≡ j = cc in sofar ns ts ss rs of k (omega arith);
+      misfit_there = λ j e.
+          let same : i ≡ j = cc in
+          subst (λ j. binding_fits rs (get_or (payloads binding rs) j []) ≡ false) same (sym (binding_tested of i place f t start s x h ep ef et eq es tests) ∙ z);
+      all_fit = λ e. absurd (cc);
+    }
 
     pub fit_more : x ≡ true → FitTo (i + 1)
     fit_more z ns ts ss rs of =
@@ -130,13 +144,13 @@ module _ (signatures : List Sort) (types : List Ty) where
   first_met (x ∷ l) (suc r) h b e =
       test_passed 11 x.place (fitting x.payload) (tests l) (b 0 (omega arith)) ∙ first_met l r (le_of_suc-le-suc h) (λ i k. b (suc i) (omega arith)) e
 
-module _ (rs : List Record) (bindings r : ℕ) (counted : count binding rs ≡ bindings) (answer : FirstMisfit rs bindings r) where
+module _ (rs : List Record) (bindings : ℕ) (r : Option ℕ) (counted : count binding rs ≡ bindings) (answer : FirstMisfit rs bindings r) where
   -- where every binding fits, there is no refusal 11
-  pub misfits_none : r ≡ bindings → first (misfits (signatures_of rs) (bindings_of rs) (of_kind binding rs)) ≡ none
+  pub misfits_none : r ≡ None → first (misfits (signatures_of rs) (bindings_of rs) (of_kind binding rs)) ≡ none
   unfolding bindings_of payloads count
-  misfits_none e = all_passed (signatures_of rs) (types_of rs) (of_kind binding rs) (λ i h. answer.fit_before i (omega arith))
+  misfits_none e = all_passed (signatures_of rs) (types_of rs) (of_kind binding rs) (λ i h. answer.all_fit e i (omega arith))
 
   -- where one does not, it is at the place of the first such binding
-  pub misfits_first : r < bindings → first (misfits (signatures_of rs) (bindings_of rs) (of_kind binding rs)) ≡ some (record { number = 11; place = place_of binding rs r })
+  pub misfits_first : (i : ℕ) → r ≡ Some i → first (misfits (signatures_of rs) (bindings_of rs) (of_kind binding rs)) ≡ some (record { number = 11; place = place_of binding rs i })
   unfolding bindings_of payloads count
-  misfits_first h = first_met (signatures_of rs) (types_of rs) (of_kind binding rs) r (omega arith) answer.fit_before (answer.misfit_there h)
+  misfits_first i e = let h = answer.within i e in first_met (signatures_of rs) (types_of rs) (of_kind binding rs) i (omega arith) (answer.fit_before i e) (answer.misfit_there i e)

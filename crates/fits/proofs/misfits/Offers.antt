@@ -1,5 +1,5 @@
 -- What records that passed their tests offer: the numbers in bindings and nonterminals have entries.
-use Prim.Native.Nat.{ℕ, suc, ◌+◌, ◌<◌, ◌≤◌}
+use Prim.Native.Nat.{ℕ, suc, ◌<◌, ◌≤◌}
 use native.Mathlib.Omega.{arith}
 use native.Mathlib.Decide.{dec_lt}
 use mathlib.Core.Path.{◌≡◌, refl, sym, ap, subst, ◌∙◌}
@@ -24,6 +24,7 @@ use Rattle.casefile.proofs.TypeTable.{count_payloads}
 use Rattle.index.specs.layout.Layout.{max_bindings}
 use Rattle.index.specs.entries.Index.{Indexed}
 use Rattle.fits.specs.fits.Filled.{Fitted, TypesAndSorts}
+use Rattle.fits.specs.declared.masks.Row.{Row}
 use Rattle.fits.specs.misfits.Misfits.{Offered}
 
 -- what a tested record of a kind has, and more records leave, each record of the kind has
@@ -78,7 +79,7 @@ module _ {rs : List Record} (ok : Passed rs) where
       (λ rs p t. let a = leb-false (length (sorts_of rs)) (word p 0) t.ranges in let b = sorts_counted rs in omega arith) ok
 
   -- so the first misfit of such records is found by the index and a table that has their types and sorts
-  pub offered : {file index : List ℕ} (fit : List ℕ) {bindings nonterminals types sorts : ℕ} → Indexed file index binding bindings rs → bindings ≤ max_bindings
+  pub offered : {file index : List ℕ} (fit : List Row) {bindings nonterminals types sorts : ℕ} → Indexed file index binding bindings rs → bindings ≤ max_bindings
       → Indexed file index nonterminal nonterminals rs → TypesAndSorts file index types sorts rs → Fitted fit types sorts rs → Offered file index fit bindings nonterminals types sorts rs
   offered fit bs few ns listed table =
       let b = count_payloads binding rs in

@@ -1,6 +1,6 @@
 -- What our own crates promise each other; nothing here has to be believed.
 -- The table of fits, row by row. Refusal 11 of the scope.
-use Rattle.std.specs.Prelude.{ℕ, suc, ◌+◌, ◌*◌, ◌<◌, ◌≤◌, ◌≡◌, Bool, ◌&&◌, List, [], length, get_or, drop}
+use Rattle.std.specs.Prelude.{ℕ, suc, ◌+◌, ◌<◌, ◌≤◌, ◌≡◌, Bool, ◌&&◌, List, [], length, get_or, drop}
 use Rattle.scheme.specs.Lists.{all}
 use Rattle.scheme.specs.Sorts.{o}
 use Rattle.scheme.specs.Types.{state, fits}
@@ -9,9 +9,10 @@ use Rattle.casefile.specs.Records.{Record}
 use Rattle.casefile.specs.Promises.{Bytes, Passed}
 use Rattle.casefile.specs.Kinds.{sort, type, payloads}
 use Rattle.casefile.specs.Tables.{words, sorts_of, types_of}
-use Rattle.index.specs.layout.Layout.{max_sorts, max_types, fit_sorts, fit_results, fit_arguments, fit_masks}
+use Rattle.index.specs.layout.Layout.{max_sorts, max_types}
 use Rattle.index.specs.entries.Index.{Indexed}
-use Rattle.fits.specs.masks.Masks.{has, mask_of, SortsWith}
+use Rattle.fits.specs.masks.Masks.{has, row_in, SortsWith}
+use Rattle.fits.specs.declared.masks.Row.{Row}
 
 -- type number t fits sort number s
 abbrev pub fits_at : List Record → ℕ → ℕ → Bool
@@ -24,15 +25,15 @@ from_of rs i = word (get_or (payloads sort rs) i []) 0
 abbrev pub to_of : List Record → ℕ → ℕ
 to_of rs i = word (get_or (payloads sort rs) i []) 2
 
--- three words say of type t whether it fits sort i + 1, its result, and its argument
-pub record SaysFits (rs : List Record) (t i sorts results arguments : ℕ) : Type 0 where
-  pub sort_right : has sorts i ≡ fits_at rs t (suc i)
-  pub result_right : has results i ≡ fits_at rs t (to_of rs i)
-  pub argument_right : has arguments i ≡ fits_at rs t (from_of rs i)
+-- a row says of type t whether it fits sort i + 1, its result, and its argument
+pub record SaysFits (rs : List Record) (t i : ℕ) (row : Row) : Type 0 where
+  pub sort_right : has row.sorts i ≡ fits_at rs t (suc i)
+  pub result_right : has row.results i ≡ fits_at rs t (to_of rs i)
+  pub argument_right : has row.arguments i ≡ fits_at rs t (from_of rs i)
 
 -- the table has the rows of the first n types, for each listed sort
-abbrev pub Fitted : List ℕ → ℕ → ℕ → List Record → Type 0
-Fitted fit n sorts rs = (t i : ℕ) → t < n → i < sorts → SaysFits rs t i (mask_of fit t fit_sorts) (mask_of fit t fit_results) (mask_of fit t fit_arguments)
+abbrev pub Fitted : List Row → ℕ → ℕ → List Record → Type 0
+Fitted fit n sorts rs = (t i : ℕ) → t < n → i < sorts → SaysFits rs t i (row_in fit t)
 
 -- the records passed their tests, and the index has their types and their sorts, no more than the table has room for
 pub record TypesAndSorts (file index : List ℕ) (types sorts : ℕ) (rs : List Record) : Type 0 where
@@ -50,20 +51,20 @@ pub record PayloadThere (file : List ℕ) (place len : ℕ) (p : List ℕ) : Typ
   pub word_there : (i : ℕ) → i + 2 ≤ len → word p i ≡ word file (place + i)
 
 -- r has the sorts whose result an arrow's result fits, and whose argument each of its members fits, by the rows of a table
-abbrev pub FitsArrow : List ℕ → ℕ → ℕ → List ℕ → ℕ → Type 0
+abbrev pub FitsArrow : List ℕ → ℕ → ℕ → List Row → ℕ → Type 0
 FitsArrow file place len fit r =
     (p : List ℕ) → PayloadThere file place len p → (i : ℕ)
-    → has r i ≡ (has (mask_of fit (word file place) fit_results) i && all (λ m. has (mask_of fit m fit_arguments) i) (words (drop 2 p)))
+    → has r i ≡ (has (row_in fit (word file place)).results i && all (λ m. has (row_in fit m).arguments i) (words (drop 2 p)))
 
 module _ (file index : List ℕ) where
-  -- three words are the row of type t, where the table has the rows before it and two tables have the sorts by the numbers of the
+  -- a row is that of type t, where the table has the rows before it and two tables have the sorts by the numbers of the
   -- sorts that they go from and to
-  abbrev pub ReadsRow : List ℕ → List ℕ → ℕ → List ℕ → ℕ → ℕ → ℕ → Type 0
-  ReadsRow froms tos t fit a b c =
+  abbrev pub ReadsRow : List ℕ → List ℕ → ℕ → List Row → Row → Type 0
+  ReadsRow froms tos t fit row =
       (types sorts : ℕ) (rs : List Record) → TypesAndSorts file index types sorts rs → SortsWith file index sorts 0 froms → SortsWith file index sorts 2 tos
-      → t < types → Fitted fit t sorts rs → (i : ℕ) → i < sorts → SaysFits rs t i a b c
+      → t < types → Fitted fit t sorts rs → (i : ℕ) → i < sorts → SaysFits rs t i row
 
   -- the table of all types, where it has room for them
-  pub record Fills (types sorts : ℕ) (old fit : List ℕ) : Type 0 where
-    pub filled : (rs : List Record) → TypesAndSorts file index types sorts rs → types * fit_masks ≤ length old → Fitted fit types sorts rs
-    pub short : length old < types * fit_masks → fit ≡ old
+  pub record Fills (types sorts : ℕ) (old fit : List Row) : Type 0 where
+    pub filled : (rs : List Record) → TypesAndSorts file index types sorts rs → types ≤ length old → Fitted fit types sorts rs
+    pub short : length old < types → fit ≡ old

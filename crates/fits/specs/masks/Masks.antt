@@ -1,8 +1,9 @@
 -- What our own crates promise each other; nothing here has to be believed.
 -- Sets of listed sorts as words, and the tables of such words.
-use Rattle.std.specs.Prelude.{ℕ, zero, suc, ◌+◌, ◌*◌, ◌/◌, ◌%◌, ◌<◌, ◌≤◌, ◌≡◌, Bool, false, List, eqb, get_or, replicate}
+use Rattle.std.specs.Prelude.{ℕ, zero, suc, ◌+◌, ◌/◌, ◌%◌, ◌<◌, ◌≤◌, ◌≡◌, Bool, false, List, eqb, get_or, replicate}
 use Rattle.casefile.specs.Fields.{word}
-use Rattle.index.specs.layout.Layout.{max_sorts, all_sorts, fit_masks}
+use Rattle.index.specs.layout.Layout.{max_sorts, all_sorts}
+use Rattle.fits.specs.declared.masks.Row.{Row}
 
 -- bit i of a number is set
 unfoldable pub has : ℕ → ℕ → Bool
@@ -14,9 +15,9 @@ unfoldable pub has_sort : ℕ → ℕ → Bool
 has_sort m zero = false
 has_sort m (suc i) = has m i
 
--- a word of the row of type t; 0 past the end of the table
-abbrev pub mask_of : List ℕ → ℕ → ℕ → ℕ
-mask_of fit t part = get_or fit (t * fit_masks + part) 0
+-- the row of type t; one without sorts past the end of the table
+abbrev pub row_in : List Row → ℕ → Row
+row_in fit t = get_or fit t (record { sorts = 0; results = 0; arguments = 0 })
 
 -- a table with no sort in its entries
 abbrev pub Empty : List ℕ → Type 0

@@ -108,18 +108,6 @@ most_nodes_at = max_nonterminals
 abbrev pub rows_size : ℕ
 rows_size = max_nonterminals + 1
 
-abbrev pub fit_sorts : ℕ
-fit_sorts = 0
-
-abbrev pub fit_results : ℕ
-fit_results = 1
-
-abbrev pub fit_arguments : ℕ
-fit_arguments = 2
-
-abbrev pub fit_masks : ℕ
-fit_masks = 3
-
 -- how many types the smaller rooms for their rows have room for
 abbrev pub few_types : ℕ
 few_types = 64

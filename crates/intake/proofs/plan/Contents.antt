@@ -38,7 +38,7 @@ module _ {file index : List ℕ} {k : Kind} {n : ℕ} {rs : List Record} (ix : I
 
 -- 8, by the counts
 module _ {file index lens counts : List ℕ} {rs : List Record} (known : Known file index lens counts rs) (s n r : ℕ) (es : s ≡ get_or counts 5 0) (en : n ≡ get_or counts 3 0) (er : r ≡ get_or counts 4 0) where
-  counted_as : (eqb (count states rs) 0 || eqb (count nonterminal rs) 0 || not (eqb (count rule rs) (count nonterminal rs))) ≡ (eqb s 0 || eqb n 0 || not (eqb r n))
+  pub counted_as : (eqb (count states rs) 0 || eqb (count nonterminal rs) 0 || not (eqb (count rule rs) (count nonterminal rs))) ≡ (eqb s 0 || eqb n 0 || not (eqb r n))
   unfolding number
   counted_as = rw ((known.entries states).counted, (known.entries nonterminal).counted, (known.entries rule).counted, es, en, er) refl
 

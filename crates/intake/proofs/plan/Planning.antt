@@ -7,6 +7,7 @@ use mathlib.Core.Bool.{Bool, true, false, ◌||◌, not}
 use mathlib.Core.List.{List, []}
 use mathlib.Core.Option.{none, some}
 use borrow.Author.Tests.{eqb-true, eqb-false, not-false}
+use Rattle.std.specs.Prelude.{Option, Some, None, Ok, Err}
 use lib.Dec.{eqb}
 use lib.ListN.{length, get_or}
 use Rattle.scheme.proofs.Lists.{or_false}
@@ -21,7 +22,8 @@ use Rattle.rules.specs.reading.RuleBodies.{nodes_in}
 use Rattle.rules.specs.rules.Rules.{Filed, FindsWrongBody, BodiesRead}
 use Rattle.index.specs.entries.Known.{Known}
 use Rattle.walk.proofs.kinds.Dispatch.{fitting}
-use Rattle.intake.specs.declared.plan.Plan.TheVariants as plan
+use Rattle.records.specs.declared.refusal.Fault.TheVariants.{Incomplete, WrongBody}
+use Rattle.records.specs.declared.refusal.Refusal.{Refusal}
 use Rattle.intake.specs.plan.PlanTests.{PlanEnds, EndsAre, PlanTested}
 use Rattle.intake.proofs.plan.Whole.{met_8, met_start, met_body, start_wrong, start_right}
 use Rattle.intake.proofs.plan.Contents.{payload_bytes}
@@ -31,7 +33,7 @@ module _ {file index counts lens : List ℕ} {rs : List Record} (known : Known f
   wrong8 = eqb (count states rs) 0 || eqb (count nonterminal rs) 0 || not (eqb (count rule rs) (count nonterminal rs))
 
   -- 8
-  pub plan_8 : (b : Bool) → b ≡ wrong8 → b ≡ true → PlanEnds rs (plan.Refused 8 0)
+  pub plan_8 : (b : Bool) → b ≡ wrong8 → b ≡ true → PlanEnds rs (Err (record { fault = Incomplete; place = 0 }))
   unfolding PlanEnds
   plan_8 b e f flags = met_8 rs flags (sym e ∙ f)
 
@@ -68,13 +70,13 @@ module _ {file index counts lens : List ℕ} {rs : List Record} (known : Known f
           let b = h ((known.entries nonterminal).behind_header 0 first_there) in
           omega arith
 
-      pub plan_start : (s ≡ 0 → ⊥) → (place : ℕ) → (4 ≤ get_or index nonterminals_at 0 → place + 4 ≡ get_or index nonterminals_at 0) → PlanEnds rs (plan.Refused 9 place)
+      pub plan_start : (s ≡ 0 → ⊥) → (place : ℕ) → (4 ≤ get_or index nonterminals_at 0 → place + 4 ≡ get_or index nonterminals_at 0) → PlanEnds rs (Err (record { fault = WrongBody; place = place }))
       unfolding PlanEnds
       plan_start ne place h flags = met_start rs flags no8 (record { number = 9; place = place }) (start_wrong rs 0 s place some_nonterminal start_sort (start_place place h) ne)
 
       -- the bodies
       module _ (z : s ≡ 0) (bytes : Bytes file) (sorts constructors rules : ℕ) (es : sorts ≡ get_or counts 1 0) (ec : constructors ≡ get_or counts 2 0) (er : rules ≡ get_or counts 4 0)
-          (ends ends' : List ℕ) (fits : nodes_in (payloads rule rs) ≤ length ends) (g : ℕ) (finds : FindsWrongBody file index sorts constructors rules rules ends ends' g) where
+          (ends ends' : List ℕ) (fits : nodes_in (payloads rule rs) ≤ length ends) (g : Option ℕ) (finds : FindsWrongBody file index sorts constructors rules rules ends ends' g) where
         start_fine : first (wrong_start (of_kind nonterminal rs)) ≡ none
         start_fine = start_right rs 0 s (place_of nonterminal rs 0) some_nonterminal start_sort refl z
 
@@ -101,24 +103,24 @@ module _ {file index counts lens : List ℕ} {rs : List Record} (known : Known f
         found : BodiesRead rs rules ends' g
         found = finds rs filed fits
 
-        pub plan_body : g < rules → (place : ℕ) → (4 ≤ get_or index (rules_at + g) 0 → place + 4 ≡ get_or index (rules_at + g) 0) → PlanEnds rs (plan.Refused 9 place)
+        pub plan_body : (f : ℕ) → g ≡ Some f → (place : ℕ) → (4 ≤ get_or index (rules_at + f) 0 → place + 4 ≡ get_or index (rules_at + f) 0) → PlanEnds rs (Err (record { fault = WrongBody; place = place }))
         unfolding PlanEnds number
-        plan_body h place k flags =
-            let l : g < get_or counts 4 0 = subst (λ n. g < n) er h in
-            let a = (known.entries rule).place_there g l in
-            let c = k ((known.entries rule).behind_header g l) in
-            let same : place_of rule rs g ≡ place = omega arith in
-            met_body rs flags no8 start_fine (record { number = 9; place = place }) (found.first_refused h ∙ ap (λ n. some (record { number = 9; place = n })) same)
+        plan_body f is place k flags =
+            let l : f < get_or counts 4 0 = subst (λ n. f < n) er (found.within f is) in
+            let a = (known.entries rule).place_there f l in
+            let c = k ((known.entries rule).behind_header f l) in
+            let same : place_of rule rs f ≡ place = omega arith in
+            met_body rs flags no8 start_fine (record { number = 9; place = place }) (found.first_refused f is ∙ ap (λ n. some (record { number = 9; place = n })) same)
 
-        pub plan_fine : rules ≤ g → PlanEnds rs plan.Fine
+        pub plan_fine : g ≡ None → PlanEnds rs (Ok tt)
         unfolding PlanEnds
-        plan_fine h = record { counts_right = no8; start_right = start_fine; bodies_right = found.none_refused (let w = found.within in omega arith) }
+        plan_fine h = record { counts_right = no8; start_right = start_fine; bodies_right = found.none_refused h }
 
         -- the ends of the subterms
-        pub plan_ends : rules ≤ g → EndsAre rs ends'
+        pub plan_ends : g ≡ None → EndsAre rs ends'
         unfolding number
-        plan_ends h f i hf hi = found.ends_are (let w = found.within in omega arith) f i (let c = (known.entries rule).counted in omega arith) hi
+        plan_ends h f i hf hi = found.ends_are h f i (let c = (known.entries rule).counted in omega arith) hi
 
 -- a refusal leaves nothing to say of the ends
-pub refused_tested : {rs : List Record} {ends : List ℕ} {n p : ℕ} → PlanEnds rs (plan.Refused n p) → PlanTested rs ends (plan.Refused n p)
-refused_tested v = record { verdict = v; ends_are = λ e. let z : ◌≡◌ {A = ℕ} 0 1 = cc in absurd (omega arith) }
+pub refused_tested : {rs : List Record} {ends : List ℕ} {r : Refusal} → PlanEnds rs (Err r) → PlanTested rs ends (Err r)
+refused_tested v = record { verdict = v; ends_are = λ e. absurd (cc) }

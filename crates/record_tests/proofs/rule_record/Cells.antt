@@ -1,21 +1,19 @@
 -- A walk over a body, node by node: which is out of range.
-use Prim.Native.Nat.{ℕ, zero, suc, ◌+◌, ◌*◌, ◌<◌, ◌≤◌}
+use Prim.Native.Nat.{ℕ, ◌+◌, ◌*◌, ◌<◌, ◌≤◌}
 use native.Mathlib.Omega.{arith}
-use mathlib.Core.Path.{◌≡◌, refl, sym, ap, ap₂, ◌∙◌}
-use mathlib.Core.Bool.{Bool, true, false, ◌||◌}
-use mathlib.Core.List.{List, [], ◌∷◌}
+use mathlib.Core.Path.{◌≡◌, refl, sym, ap, ◌∙◌}
+use mathlib.Core.Bool.{true, ◌||◌}
+use mathlib.Core.List.{List, [], ◌∷◌, ◌++◌}
 use borrow.Author.Tests.{lt-ltb, le-ltb, le-leb, lt-leb}
 use lib.Dec.{leb, ltb}
-use lib.ListN.{length, get_or, drop, length-drop}
-use Rattle.scheme.specs.Lists.{any}
+use lib.ListN.{length, get_or}
 use Rattle.casefile.specs.Fields.{field, byte, word}
 use Rattle.casefile.specs.Tables.{Cell, cells_of}
 use Rattle.casefile.specs.Refusals.{wrong_cell_spec}
-use Rattle.casefile.proofs.Steps.{drop_two, left_miss, left_hit, left_done}
 use Rattle.record_tests.specs.rule_record.Cells.{cell_from}
 
 -- a node, and what is left behind it
-short_cells : (l : List ℕ) → length l < 4 → cells_of l ≡ []
+pub short_cells : (l : List ℕ) → length l < 4 → cells_of l ≡ []
 unfolding cells_of
 short_cells [] h = refl
 short_cells (a ∷ []) h = refl
@@ -37,32 +35,17 @@ cell_is p i e f = λ j. record { tag = tag_is j; number = number_is j; count = c
     count_is : get_or p (i + 2 + 1) 0 ≡ byte p (i + 3)
     count_is = ap (λ k. get_or p k 0) e ∙ (omega arith)
 
-pub cells_step : (p : List ℕ) (i : ℕ) → i + 4 ≤ length p → cells_of (drop i p) ≡ cell_from p i ∷ cells_of (drop (i + 4) p)
+pub cells_more : (x l : List ℕ) → length x ≡ 4 → cells_of (x ++ l) ≡ cell_from x 0 ∷ cells_of l
 unfolding cells_of field
-cells_step p i h =
-    let three : i + 2 + 1 ≡ i + 3 = omega arith in
-    let also : i + 1 + 1 ≡ i + 2 = omega arith in
-    let four : i + 2 + 2 ≡ i + 4 = omega arith in
-    ap cells_of (drop_two p i (omega arith) ∙ ap (λ (l : List ℕ). get_or p i 0 ∷ get_or p (i + 1) 0 ∷ l) (drop_two p (i + 2) (omega arith)))
-    ∙ ap₂ (λ (c : Cell) (l : List Cell). c ∷ l) (cell_is p i three also) (ap (λ k. cells_of (drop k p)) four)
-
-pub cells_done : (p : List ℕ) (i : ℕ) → length p < i + 4 → cells_of (drop i p) ≡ []
-cells_done p i h = short_cells (drop i p) (rw length-drop (omega arith))
+cells_more [] l h = absurd (omega arith)
+cells_more (a ∷ []) l h = absurd (omega arith)
+cells_more (a ∷ b ∷ []) l h = absurd (omega arith)
+cells_more (a ∷ b ∷ c ∷ []) l h = absurd (omega arith)
+cells_more (a ∷ b ∷ c ∷ d ∷ []) l h = ap (λ (k : Cell). k ∷ cells_of l) (cell_is (a ∷ b ∷ c ∷ d ∷ []) 0 refl refl)
+cells_more (a ∷ b ∷ c ∷ d ∷ e ∷ x) l h = absurd (omega arith)
 
 -- Nodes out of range.
 module _ (constructors nonterminals parameters : ℕ) (p : List ℕ) where
-  abbrev pub Wrong : ℕ → Type 0
-  Wrong i = any (wrong_cell_spec constructors nonterminals parameters) (cells_of p) ≡ any (wrong_cell_spec constructors nonterminals parameters) (cells_of (drop i p))
-
-  pub wrong_miss : (i : ℕ) (b : Bool) → i + 4 ≤ length p → (i + 4 ≤ length p → b ≡ wrong_cell_spec constructors nonterminals parameters (cell_from p i)) → b ≡ false → Wrong i → Wrong (i + 4)
-  wrong_miss i b h e f = left_miss (wrong_cell_spec constructors nonterminals parameters) cells_of p 4 (cell_from p) (cells_step p) (cells_done p) i h (sym (e h) ∙ f)
-
-  pub wrong_hit : (i : ℕ) (b : Bool) → i + 4 ≤ length p → (i + 4 ≤ length p → b ≡ wrong_cell_spec constructors nonterminals parameters (cell_from p i)) → b ≡ true → Wrong i → true ≡ any (wrong_cell_spec constructors nonterminals parameters) (cells_of p)
-  wrong_hit i b h e f = left_hit (wrong_cell_spec constructors nonterminals parameters) cells_of p 4 (cell_from p) (cells_step p) (cells_done p) i h (sym (e h) ∙ f)
-
-  pub wrong_done : (i : ℕ) → Wrong i → length p < i + 4 → false ≡ any (wrong_cell_spec constructors nonterminals parameters) (cells_of p)
-  wrong_done = left_done (wrong_cell_spec constructors nonterminals parameters) cells_of p 4 (cell_from p) (cells_step p) (cells_done p)
-
   -- One node, by its tag.
   module _ (i tag number count : ℕ) (et : tag ≡ byte p i) (en : number ≡ word p (i + 1)) (ec : count ≡ byte p (i + 3)) where
     abbrev cell : Cell
@@ -84,15 +67,3 @@ module _ (constructors nonterminals parameters : ℕ) (p : List ℕ) where
 
     pub cell_count : (entries : ℕ) → tag ≤ 2 → entries ≡ get_or (constructors ∷ nonterminals ∷ []) tag parameters → number < entries → ltb 8 count ≡ wrong_cell_spec constructors nonterminals parameters (cell_from p i)
     cell_count entries h e l = sym (ap (λ b. b || ltb 8 count) (lt-leb entries number l)) ∙ by_tag entries h e
-
--- the entries of a tag
-pub entries_con : (cs ns ps tag : ℕ) → tag ≡ 0 → cs ≡ get_or (cs ∷ ns ∷ []) tag ps
-entries_con cs ns ps tag e = rw e refl
-
-pub entries_nt : (cs ns ps tag : ℕ) → tag ≡ 1 → ns ≡ get_or (cs ∷ ns ∷ []) tag ps
-entries_nt cs ns ps tag e = rw e refl
-
-pub entries_par : (cs ns ps tag : ℕ) → (tag ≡ 0 → ⊥) → (tag ≡ 1 → ⊥) → ps ≡ get_or (cs ∷ ns ∷ []) tag ps
-entries_par cs ns ps zero e f = absurd (e refl)
-entries_par cs ns ps (suc zero) e f = absurd (f refl)
-entries_par cs ns ps (suc (suc t)) e f = refl

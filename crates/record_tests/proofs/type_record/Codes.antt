@@ -1,13 +1,18 @@
 -- The code of a type record, by what the tests of the program found.
 use Prim.Native.Nat.{ℕ, zero, suc, ◌%◌, ◌<◌, ◌≤◌}
 use native.Mathlib.Omega.{arith}
-use mathlib.Core.Path.{◌≡◌, refl, sym, ap₂, ◌∙◌}
+use mathlib.Core.Path.{◌≡◌, refl, sym, ap, ◌∙◌}
 use mathlib.Core.Bool.{Bool, true, false}
 use mathlib.Core.List.{List}
 use borrow.Author.Tests.{lt-ltb, le-ltb, le-leb, lt-leb, eq-eqb, ne_eqb}
 use lib.Dec.{leb}
 use lib.ListN.{length, drop}
+use Rattle.std.specs.Prelude.{Result, Ok, Err}
+use Rattle.std.specs.Result.{IsErrAnd}
 use Rattle.scheme.specs.Lists.{choose◌then◌else◌, any}
+use Rattle.records.specs.declared.refusal.Fault.{Fault}
+use Rattle.records.specs.declared.refusal.Fault.TheVariants.{TooLong, CutOff, WrongKind, WrongLength, OverLimit, OutOfRange, Misplaced, Incomplete, WrongBody, MixedEvidence, Misfit, FewFlags, Lost, TooLarge, NotStuck}
+use Rattle.records.specs.refusal.Numbers.{number_of, code_of}
 use Rattle.casefile.specs.Fields.{byte}
 use Rattle.casefile.specs.Records.{Record}
 use Rattle.casefile.specs.Kinds.{type, count}
@@ -88,18 +93,41 @@ module _ (n states : ℕ) (p : List ℕ) where
           unfolding code_for too_many too_large out_of_range misplaced
           arrow_alone e = passes m l (λ rs c st. simp (even_length, c, lt-leb max_types n m, ne_eqb (length p) 1 ne, ← el, el', lt-ltb 1 (length p) h, ← eu, e))
 
+-- a refusal that is passed on keeps its number
+pub passed_on : (r : Result Unit Fault) (f : Fault) → IsErrAnd r (λ (g : Fault). g ≡ f) → code_of r ≡ number_of f
+passed_on (Ok x) f is = absurd is
+passed_on (Err g) f is = ap number_of is
+
+-- a refusal has a number other than 0
+numbered : (f : Fault) → number_of f ≡ 0 → ⊥
+numbered TooLong e = absurd (omega arith)
+numbered CutOff e = absurd (omega arith)
+numbered WrongKind e = absurd (omega arith)
+numbered WrongLength e = absurd (omega arith)
+numbered OverLimit e = absurd (omega arith)
+numbered OutOfRange e = absurd (omega arith)
+numbered Misplaced e = absurd (omega arith)
+numbered Incomplete e = absurd (omega arith)
+numbered WrongBody e = absurd (omega arith)
+numbered MixedEvidence e = absurd (omega arith)
+numbered Misfit e = absurd (omega arith)
+numbered FewFlags e = absurd (omega arith)
+numbered Lost e = absurd (omega arith)
+numbered TooLarge e = absurd (omega arith)
+numbered NotStuck e = absurd (omega arith)
+
 -- The payload and the types before it.
-module _ (file index : List ℕ) (n states : ℕ) (p : List ℕ) (r : ℕ) (alone : CodesAlone n states p r) where
-  pub tested_refused : (r ≡ 0 → ⊥) → TestsType file index n states p r
+module _ (file index : List ℕ) (n states : ℕ) (p : List ℕ) where
+  pub tested_refused : (f : Fault) → CodesAlone n states p (number_of f) → TestsType file index n states p (number_of f)
   unfolding or_repeat
-  tested_refused ne rs ix st ch = sym (alone.decides rs ix.counted st ∙ stands r ne)
+  tested_refused f alone rs ix st ch = sym (alone.decides rs ix.counted st ∙ stands (number_of f) (numbered f))
     where
       stands : (r : ℕ) → (r ≡ 0 → ⊥) → or_repeat r (repeats rs p type) ≡ r
       stands zero ne = absurd (ne refl)
       stands (suc r) ne = refl
 
-  pub tested_listed : r ≡ 0 → (again b : Bool) → again ≡ b → Listed file index p again → TestsType file index n states p (choose b then 7 else 0)
+  pub tested_listed : CodesAlone n states p 0 → (again b : Bool) → again ≡ b → Listed file index p again → TestsType file index n states p (choose b then 7 else 0)
   unfolding or_repeat
-  tested_listed e again b eb is rs ix st ch =
-      let (few, short) = alone.few e in
-      sym (alone.decides rs ix.counted st ∙ ap₂ or_repeat e (sym (is n rs ix ch (omega arith) (omega arith)) ∙ eb))
+  tested_listed alone again b eb is rs ix st ch =
+      let (few, short) = alone.few refl in
+      sym (alone.decides rs ix.counted st ∙ ap (or_repeat 0) (sym (is n rs ix ch (omega arith) (omega arith)) ∙ eb))

@@ -4,7 +4,7 @@ use native.Mathlib.Omega.{arith}
 use native.Mathlib.Decide.{dec_le}
 use mathlib.Core.Path.{◌≡◌, refl, sym, ap, ◌∙◌}
 use mathlib.Core.Bool.{true, false, ◌&&◌, ◌||◌, or-false}
-use mathlib.Core.List.{List, [], ◌∷◌}
+use mathlib.Core.List.{List, [], ◌∷◌, ◌++◌}
 use borrow.Author.Tests.{lt-ltb, le-ltb, le-leb, lt-leb, ltb-true}
 use lib.Dec.{leb, ltb}
 use lib.ListN.{length, drop}
@@ -41,6 +41,16 @@ module _ (p : List ℕ) where
   pub ascends_end : (last i : ℕ) → Ascends last i → length p < i + 2 → true ≡ ascends (words (drop 2 p))
   unfolding ascends_from
   ascends_end last i a h = sym (a ∙ ap (ascends_from last) (words_done p i h))
+
+pub words_few : (l : List ℕ) → length l < 2 → words l ≡ []
+words_few l h = words_done l 0 h
+
+pub words_more : (x l : List ℕ) → length x ≡ 2 → words (x ++ l) ≡ word x 0 ∷ words l
+unfolding words
+words_more [] l h = absurd (omega arith)
+words_more (a ∷ []) l h = absurd (omega arith)
+words_more (a ∷ b ∷ []) l h = refl
+words_more (a ∷ b ∷ c ∷ x) l h = absurd (omega arith)
 
 -- Numbers that are n or more.
 module _ (n : ℕ) (p : List ℕ) where

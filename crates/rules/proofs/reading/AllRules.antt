@@ -3,15 +3,17 @@ use Prim.Native.Nat.{ℕ, zero, suc, ◌+◌, ◌-◌, ◌/◌, ◌<◌, ◌≤�
 use native.Mathlib.Omega.{arith}
 use native.Mathlib.Nat.{le_of_suc-le-suc}
 use mathlib.Core.Path.{◌≡◌, refl, sym, ap, subst, ◌∙◌}
-use mathlib.Core.Bool.{false}
+use mathlib.Core.Bool.{true, false}
 use mathlib.Core.List.{List, [], ◌∷◌, ◌++◌}
 use borrow.Author.Count.{below_more}
 use borrow.Rule.Slice.PartMut.{put_mid, post_of, same_len_mid}
+use Rattle.std.specs.Prelude.{Option, Some, None}
 use lib.ListN.{length, get_or, take, drop, get_or-append}
 use lib.Seq.{get_or-take, get_or-append-add, length-take-le}
 use Rattle.casefile.specs.Records.{Record}
 use Rattle.casefile.specs.Kinds.{rule, payloads}
 use Rattle.casefile.proofs.TypeTable.{count_payloads}
+use Rattle.bodies.specs.declared.Heads.{Heads}
 use Rattle.rules.specs.reading.RuleBodies.{nodes_in, rule_of, first_node, wrong_at, end_at, Judged, RuleRead, Accepted, ReadsRules}
 
 -- one body more
@@ -56,20 +58,20 @@ changed_put ends part at h e =
       changed = λ k m. ap (λ z. get_or (take at ends ++ (part ++ post)) (z + k) 0) (sym l) ∙ get_or-append-add (take at ends) (part ++ post) k 0 ∙ get_or-append part post 0 k m;
     }
 
-module _ (file index froms tos trees arities signatures : List ℕ) (rules : ℕ) (before : List ℕ) where
+module _ (file index : List ℕ) (heads : Heads) (rules : ℕ) (before : List ℕ) where
   -- the rules before f are accepted, and the next one has its nodes from `at` on
   pub record Going (f at : ℕ) (ends : List ℕ) : Type 0 where
     pub inside : at ≤ length ends
     pub long : length ends ≡ length before
-    pub sofar : (rs : List Record) → Judged file index froms tos trees arities signatures rules rs → nodes_in (payloads rule rs) ≤ length before → (at ≡ first_node rs f) × Accepted rs f ends
+    pub sofar : (rs : List Record) → Judged file index heads rules rs → nodes_in (payloads rule rs) ≤ length before → (at ≡ first_node rs f) × Accepted rs f ends
 
   pub going_none : Going 0 0 before
   unfolding nodes_in
   going_none = record { inside = omega arith; long = refl; sofar = λ rs j l. (refl, record { right = λ g h. absurd (omega arith); ends_are = λ g i h k. absurd (omega arith) }) }
 
-  module _ (f at : ℕ) (ends part part' ends' : List ℕ) (n : ℕ) (going : Going f at ends) (h : f < rules) (size : length part ≡ length ends - at)
-      (read : RuleRead file index froms tos trees arities signatures f part part' n) (after : Changed ends ends' part' at) where
-    module _ (rs : List Record) (j : Judged file index froms tos trees arities signatures rules rs) (l : nodes_in (payloads rule rs) ≤ length before) where
+  module _ (f at : ℕ) (ends part part' ends' : List ℕ) (found : Option ℕ) (going : Going f at ends) (h : f < rules) (size : length part ≡ length ends - at)
+      (read : RuleRead file index heads f part part' found) (after : Changed ends ends' part' at) where
+    module _ (rs : List Record) (j : Judged file index heads rules rs) (l : nodes_in (payloads rule rs) ≤ length before) where
       counted : f < length (payloads rule rs)
       counted = let a = j.there.counted in let b = count_payloads rule rs in omega arith
 
@@ -91,9 +93,9 @@ module _ (file index froms tos trees arities signatures : List ℕ) (rules : ℕ
             ends_are = λ g i lg li. after.same (first_node rs g + i) (let b = nodes_before (payloads rule rs) f g lg (let q = counted in omega arith) in omega arith) ∙ x.ends_are g i lg li;
           }
 
-      next : (n ≡ 0 → ⊥) → (at + n ≡ first_node rs (f + 1)) × Accepted rs (f + 1) ends'
-      next ne =
-          let (en, right, ends_are) = read.fits rules rs j h room ne in
+      next : (n : ℕ) → found ≡ Some n → (at + n ≡ first_node rs (f + 1)) × Accepted rs (f + 1) ends'
+      next n is =
+          let (en, right, ends_are) = read.fits rules rs j h room n is in
           let e = (going.sofar rs j l).0 in
           let a = nodes_more (payloads rule rs) f counted in
           let b = read.long in
@@ -107,17 +109,22 @@ module _ (file index froms tos trees arities signatures : List ℕ) (rules : ℕ
             },
           )
 
-    pub going_stop : n ≡ 0 → ReadsRules file index froms tos trees arities signatures rules before ends' f
-    going_stop z rs j l = record { within = omega arith; before = stays rs j l; wrong_there = λ k. read.fails rules rs j h (room rs j l) z }
-
-    pub going_more : (n ≡ 0 → ⊥) → Going (f + 1) (at + n) ends'
-    going_more ne = record {
-      inside = let a = read.within in let b = after.long in let d = going.inside in omega arith;
-      long = after.long ∙ going.long;
-      sofar = λ rs j l. next rs j l ne;
+    pub going_stop : found ≡ None → ReadsRules file index heads rules before ends' (Some f)
+    going_stop z rs j l = record {
+      within = λ g e. let same : f ≡ g = cc in omega arith;
+      before = λ g e. let same : f ≡ g = cc in subst (λ g. Accepted rs g ends') same (stays rs j l);
+      wrong_there = λ g e. let same : f ≡ g = cc in subst (λ g. wrong_at rs g ≡ true) same (read.fails rules rs j h (room rs j l) z);
+      all = λ e. absurd (cc);
     }
 
-  pub going_end : (f at : ℕ) (ends : List ℕ) → Going f at ends → f ≤ rules → rules ≤ f → ReadsRules file index froms tos trees arities signatures rules before ends rules
+    pub going_more : (n : ℕ) → found ≡ Some n → Going (f + 1) (at + n) ends'
+    going_more n is = record {
+      inside = let a = read.within n is in let b = after.long in let d = going.inside in omega arith;
+      long = after.long ∙ going.long;
+      sofar = λ rs j l. next rs j l n is;
+    }
+
+  pub going_end : (f at : ℕ) (ends : List ℕ) → Going f at ends → f ≤ rules → rules ≤ f → ReadsRules file index heads rules before ends None
   going_end f at ends g a b rs j l =
       let e : f ≡ rules = omega arith in
-      record { within = omega arith; before = subst (λ z. Accepted rs z ends) e (g.sofar rs j l).1; wrong_there = λ k. absurd (omega arith) }
+      record { within = λ g e. absurd (cc); before = λ g e. absurd (cc); wrong_there = λ g e. absurd (cc); all = λ _. subst (λ z. Accepted rs z ends) e (g.sofar rs j l).1 }

@@ -1,12 +1,12 @@
 -- Tables that are filled one entry after another.
 use Prim.Native.Nat.{ℕ, ◌+◌, ◌<◌, ◌≤◌}
 use native.Mathlib.Omega.{arith}
-use mathlib.Core.Path.{◌≡◌, refl, sym, ap, ◌∙◌}
+use mathlib.Core.Path.{◌≡◌, refl, ap, ◌∙◌}
 use mathlib.Core.List.{List}
 use borrow.Author.Count.{below_more}
 use lib.ListN.{length, get_or, set, length-set}
 use lib.Seq.{get_or-set_same, get_or-set_other}
-use Rattle.casefile.specs.Fields.{field, IsField}
+use Rattle.casefile.specs.Fields.{field}
 use Rattle.rules.specs.rules.Rules.{FieldOf, Filled}
 
 -- the first i entries are stored, each at its place, where h holds
@@ -44,24 +44,4 @@ module _ (width : ℕ) (file index : List ℕ) (from at n to : ℕ) (before : Li
       }
 
   pub fill_all : (t : List ℕ) (i : ℕ) → FilledTo t i → n ≤ i → Filled width file index from at n to before t
-  fill_all t i s l = record { long = s.sofar.long; there = λ w w' a b c d k m. s.sofar.there (w, w') k (omega arith) }
-
-  -- nothing is stored where the numbers are too large
-  pub fill_not : (from ≤ 1000 → at ≤ 1000 → n ≤ 1000 → to + n ≤ length before → ⊥) → Filled width file index from at n to before before
-  fill_not z = record { long = refl; there = λ w w' a b c d k m. absurd (z a b c d) }
-
--- a field of one byte or of two
-pub one_byte : (width : ℕ) (file : List ℕ) (at r : ℕ) → width ≡ 1 → IsField 1 file at r → FieldOf width file at r
-one_byte width file at r e f = record { value = λ a b. f.value ∙ ap (λ w. field w file at) (sym e); bound = let x = f.bound in omega arith }
-
-pub two_bytes : (width : ℕ) (file : List ℕ) (at r : ℕ) → (width ≡ 1 → ⊥) → IsField 2 file at r → FieldOf width file at r
-two_bytes width file at r e f = record {
-  value = λ a b. let g : 2 ≡ width = two a b in f.value ∙ ap (λ w. field w file at) g;
-  bound = f.bound;
-}
-  where
-    two : 1 ≤ width → width ≤ 2 → 2 ≡ width
-    two a b = by (omega arith)
-      where
-        by : (1 < width) → 2 ≡ width
-        by x = omega arith
+  fill_all t i s l = record { long = s.sofar.long; there = λ w w' k m. s.sofar.there (w, w') k (omega arith) }

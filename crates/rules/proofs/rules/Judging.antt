@@ -14,7 +14,7 @@ use Rattle.scheme.specs.Sorts.{Sort, o, arguments}
 use Rattle.scheme.proofs.Lists.{or_false, get_d_map_in}
 use Rattle.casefile.specs.Fields.{field, byte, word}
 use Rattle.casefile.specs.Records.{Record}
-use Rattle.casefile.specs.Kinds.{Kind, sort, constructor, nonterminal, rule, number, payloads, count}
+use Rattle.casefile.specs.Kinds.{Kind, sort, constructor, nonterminal, rule, payloads, count}
 use Rattle.casefile.specs.Tables.{grow, sort_from, sorts_of, arities_of, signatures_of, Cell, cells_of}
 use Rattle.casefile.specs.Refusals.{wrong_length, too_many, too_large, out_of_range, wrong_cell_spec}
 use Rattle.casefile.proofs.Growth.{grow_append, grow_grown, grown}
@@ -25,6 +25,7 @@ use Rattle.casefile.proofs.TypeTable.{count_payloads}
 use Rattle.index.specs.layout.Layout.{max_constructors, max_nonterminals, max_nodes, max_body, sorts_at, constructors_at, nonterminals_at, all_sorts}
 use Rattle.index.specs.entries.Index.{base, Indexed}
 use Rattle.sorts.specs.codes.Sorted.{SortArrays, TreeCodes}
+use Rattle.bodies.specs.declared.Heads.{Heads}
 use Rattle.bodies.specs.Bodies.{BodyTables}
 use Rattle.sorts.proofs.codes.FileSorts.{sort_arrays}
 use Rattle.casefile.proofs.Cells.{cells_length}
@@ -165,16 +166,16 @@ module _ {rs : List Record} (ok : Passed rs) (f : ℕ) (h : f < length (payloads
       subst (λ z. any (wrong_cell_spec (length (arities_of rs)) (length (numbers_of rs)) m) (cells_of z) ≡ false) (sym n.here) wide
 
 -- A table that was filled by the index has the fields of a kind.
-module _ {file index : List ℕ} {rs : List Record} (k : Kind) (n : ℕ) (there : Indexed file index k n rs) (w : ℕ) (wide : 1 ≤ w) (narrow : w ≤ 2) (small : base k ≤ 1000) (few : n ≤ 1000) where
-  field_in : (at to : ℕ) (z t : List ℕ) → Filled w file index (base k) at n to z t → at ≤ 1000 → to + n ≤ length z → (i : ℕ) → i < n → at + w ≤ length (get_or (payloads k rs) i [])
+module _ {file index : List ℕ} {rs : List Record} (k : Kind) (n : ℕ) (there : Indexed file index k n rs) (w : ℕ) (wide : 1 ≤ w) (narrow : w ≤ 2) where
+  field_in : (at to : ℕ) (z t : List ℕ) → Filled w file index (base k) at n to z t → (i : ℕ) → i < n → at + w ≤ length (get_or (payloads k rs) i [])
       → get_or t (to + i) 0 ≡ field w (get_or (payloads k rs) i []) at
-  field_in at to z t fi ha room i h l = fi.there wide narrow small ha few room i h ∙ there.field_there i h w at l
+  field_in at to z t fi i h l = fi.there wide narrow i h ∙ there.field_there i h w at l
 
   counted : length (payloads k rs) ≡ n
   counted = sym (count_payloads k rs) ∙ there.counted
 
-  field_at : (z t : List ℕ) → Filled w file index (base k) 0 n 0 z t → n ≤ length z → (i : ℕ) → i < n → w ≤ length (get_or (payloads k rs) i []) → get_or t i 0 ≡ field w (get_or (payloads k rs) i []) 0
-  field_at z t fi room i h l = ap (λ j. get_or t j 0) (sym (zero-add i)) ∙ field_in 0 0 z t fi (omega arith) (omega arith) i h (omega arith)
+  field_at : (z t : List ℕ) → Filled w file index (base k) 0 n 0 z t → (i : ℕ) → i < n → w ≤ length (get_or (payloads k rs) i []) → get_or t i 0 ≡ field w (get_or (payloads k rs) i []) 0
+  field_at z t fi i h l = ap (λ j. get_or t j 0) (sym (zero-add i)) ∙ field_in 0 0 z t fi i h (omega arith)
 
   fields_are : (z t : List ℕ) → Filled w file index (base k) 0 n 0 z t → n ≤ length z → ((i : ℕ) → i < length (payloads k rs) → w ≤ length (get_or (payloads k rs) i []))
       → take (length (map (λ (p : List ℕ). field w p 0) (payloads k rs))) t ≡ map (λ (p : List ℕ). field w p 0) (payloads k rs)
@@ -185,13 +186,26 @@ module _ {file index : List ℕ} {rs : List Record} (k : Kind) (n : ℕ) (there 
       let c = counted in
       let l : length (take (length vs) t) ≡ length vs = length-take-le (length vs) t (omega arith) in
       ext_get_or 0 (take (length vs) t) vs l
-      (λ i hi. get_or-take (length vs) t i 0 (omega arith) ∙ field_at z t fi room i (omega arith) (long i (omega arith)) ∙ sym (get_d_map_in (λ (p : List ℕ). field w p 0) (payloads k rs) i 0 [] (omega arith)))
+      (λ i hi. get_or-take (length vs) t i 0 (omega arith) ∙ field_at z t fi i (omega arith) (long i (omega arith)) ∙ sym (get_d_map_in (λ (p : List ℕ). field w p 0) (payloads k rs) i 0 [] (omega arith)))
 
 module _ {file index : List ℕ} {sorts constructors nonterminals rules : ℕ} {rs : List Record} (fi : Filed file index sorts constructors nonterminals rules rs)
-    (z₁ z₂ z₃ z₄ froms tos trees arities signatures : List ℕ) (l₁ : length z₁ ≡ all_sorts) (l₂ : length z₂ ≡ all_sorts) (l₃ : length z₃ ≡ max_constructors) (l₄ : length z₄ ≡ max_nonterminals)
-    (from-filled : Filled 2 file index sorts_at 0 sorts 1 z₁ froms) (to-filled : Filled 2 file index sorts_at 2 sorts 1 z₂ tos)
-    (arity-filled : Filled 1 file index constructors_at 0 constructors 0 z₃ arities) (signature-filled : Filled 2 file index nonterminals_at 0 nonterminals 0 z₄ signatures)
-    (codes : (ss : List Sort) → SortArrays ss (sorts + 1) froms tos → TreeCodes ss trees) where
+    (z₁ z₂ z₃ z₄ : List ℕ) (heads : Heads) (l₁ : length z₁ ≡ all_sorts) (l₂ : length z₂ ≡ all_sorts) (l₃ : length z₃ ≡ max_constructors) (l₄ : length z₄ ≡ max_nonterminals)
+    (from-filled : Filled 2 file index sorts_at 0 sorts 1 z₁ heads.sorts.froms.now) (to-filled : Filled 2 file index sorts_at 2 sorts 1 z₂ heads.sorts.tos.now)
+    (arity-filled : Filled 1 file index constructors_at 0 constructors 0 z₃ heads.arities.now) (signature-filled : Filled 2 file index nonterminals_at 0 nonterminals 0 z₄ heads.signatures.now)
+    (codes : (ss : List Sort) → SortArrays ss (sorts + 1) heads.sorts.froms.now heads.sorts.tos.now → TreeCodes ss heads.trees.now) where
+  -- the arrays
+  abbrev froms : List ℕ
+  froms = heads.sorts.froms.now
+
+  abbrev tos : List ℕ
+  tos = heads.sorts.tos.now
+
+  abbrev arities : List ℕ
+  arities = heads.arities.now
+
+  abbrev signatures : List ℕ
+  signatures = heads.signatures.now
+
   sorts_counted : length (payloads sort rs) ≡ sorts
   sorts_counted = sym (count_payloads sort rs) ∙ fi.sorts_there.counted
 
@@ -210,7 +224,7 @@ module _ {file index : List ℕ} {sorts constructors nonterminals rules : ℕ} {
       let c = sorts_counted in
       let s = fi.few_sorts in
       let q = four_bytes_long fi.passed i h in
-      ap (λ j. get_or froms j 0) e ∙ field_in sort sorts fi.sorts_there 2 (omega arith) (omega arith) (omega arith) (omega arith) 0 1 z₁ froms from-filled (omega arith) (omega arith) i (omega arith) (omega arith)
+      ap (λ j. get_or froms j 0) e ∙ field_in sort sorts fi.sorts_there 2 (omega arith) (omega arith) 0 1 z₁ froms from-filled i (omega arith) (omega arith)
 
   to_is : (i : ℕ) → i < length (payloads sort rs) → get_or tos (suc i) 0 ≡ word (get_or (payloads sort rs) i []) 2
   to_is i h =
@@ -218,12 +232,12 @@ module _ {file index : List ℕ} {sorts constructors nonterminals rules : ℕ} {
       let c = sorts_counted in
       let s = fi.few_sorts in
       let q = four_bytes_long fi.passed i h in
-      ap (λ j. get_or tos j 0) e ∙ field_in sort sorts fi.sorts_there 2 (omega arith) (omega arith) (omega arith) (omega arith) 2 1 z₂ tos to-filled (omega arith) (omega arith) i (omega arith) (omega arith)
+      ap (λ j. get_or tos j 0) e ∙ field_in sort sorts fi.sorts_there 2 (omega arith) (omega arith) 2 1 z₂ tos to-filled i (omega arith) (omega arith)
 
   arrays : SortArrays (sorts_of rs) (suc (length (payloads sort rs))) froms tos
   arrays = sort_arrays fi.passed fi.sort_bytes froms tos (let c = sorts_counted in let s = fi.few_sorts in omega arith) from_is to_is
 
-  tree_codes : TreeCodes (sorts_of rs) trees
+  tree_codes : TreeCodes (sorts_of rs) heads.trees.now
   tree_codes = codes (sorts_of rs) (subst (λ n. SortArrays (sorts_of rs) n froms tos) (let c = sorts_counted in omega arith) arrays)
 
   number_at : (f : ℕ) → f < nonterminals → get_or signatures f 0 ≡ word (get_or (payloads nonterminal rs) f []) 0
@@ -231,7 +245,7 @@ module _ {file index : List ℕ} {sorts constructors nonterminals rules : ℕ} {
       let c = nonterminals_counted in
       let s = fi.few_nonterminals in
       let q = two_bytes_long fi.passed f (omega arith) in
-      field_at nonterminal nonterminals fi.nonterminals_there 2 (omega arith) (omega arith) (omega arith) (omega arith) z₄ signatures signature-filled (omega arith) f h (omega arith)
+      field_at nonterminal nonterminals fi.nonterminals_there 2 (omega arith) (omega arith) z₄ signatures signature-filled f h (omega arith)
 
   sort_of_law : (f : ℕ) → f < nonterminals → get_or (sorts_of rs) (get_or signatures f 0) o ≡ get_or (signatures_of rs) f o
   sort_of_law f h = ap (λ n. get_or (sorts_of rs) n o) (number_at f h) ∙ sym (signature_at rs f (let c = nonterminals_counted in omega arith))
@@ -240,19 +254,19 @@ module _ {file index : List ℕ} {sorts constructors nonterminals rules : ℕ} {
   unfolding arities_of
   arities_are =
       let s = fi.few_constructors in
-      fields_are constructor constructors fi.constructors_there 1 (omega arith) (omega arith) (omega arith) (omega arith) z₃ arities arity-filled (omega arith) (λ i h. let q = one_byte_long fi.passed i h in omega arith)
+      fields_are constructor constructors fi.constructors_there 1 (omega arith) (omega arith) z₃ arities arity-filled (omega arith) (λ i h. let q = one_byte_long fi.passed i h in omega arith)
 
   numbers_are : take (length (numbers_of rs)) signatures ≡ numbers_of rs
   numbers_are =
       let s = fi.few_nonterminals in
-      fields_are nonterminal nonterminals fi.nonterminals_there 2 (omega arith) (omega arith) (omega arith) (omega arith) z₄ signatures signature-filled (omega arith) (λ i h. let q = two_bytes_long fi.passed i h in omega arith)
+      fields_are nonterminal nonterminals fi.nonterminals_there 2 (omega arith) (omega arith) z₄ signatures signature-filled (omega arith) (λ i h. let q = two_bytes_long fi.passed i h in omega arith)
 
   number_below : (f : ℕ) → f < length (numbers_of rs) → get_or (numbers_of rs) f 0 < length (sorts_of rs)
   number_below f h =
       let h' : f < length (payloads nonterminal rs) = (let l = length-map (payloads nonterminal rs) (λ (p : List ℕ). word p 0) in omega arith) in
       subst (λ n. n < length (sorts_of rs)) (sym (get_d_map_in (λ (p : List ℕ). word p 0) (payloads nonterminal rs) f 0 [] h')) (sort_listed fi.passed f h')
 
-  setting_at : (f : ℕ) → f < rules → BodyTables (sorts_of rs) (arities_of rs) (numbers_of rs) (rule_of rs f) froms tos trees arities signatures (get_or signatures f 0)
+  setting_at : (f : ℕ) → f < rules → BodyTables (sorts_of rs) (arities_of rs) (numbers_of rs) (rule_of rs f) heads (get_or signatures f 0)
   setting_at f h =
       let h' : f < nonterminals = (let l = fi.few_rules in omega arith) in
       record {
@@ -267,7 +281,7 @@ module _ {file index : List ℕ} {sorts constructors nonterminals rules : ℕ} {
       }
 
   -- the arrays hold what the bodies are judged by
-  pub judged : Judged file index froms tos trees arities signatures rules rs
+  pub judged : Judged file index heads rules rs
   judged =
       let c = rules_counted in
       record {

@@ -2,12 +2,11 @@
 use Prim.Native.Nat.{ℕ, zero, suc, ◌+◌, ◌<◌, ◌≤◌}
 use native.Mathlib.Omega.{arith}
 use native.Mathlib.Nat.{le_of_suc-le-suc}
-use mathlib.Core.Path.{◌≡◌, refl, sym, ◌∙◌}
-use mathlib.Core.Bool.{Bool, true, false, true≢false}
-use borrow.Author.Tests.{leb-true, leb-false}
-use lib.Dec.{leb}
+use mathlib.Core.Path.{◌≡◌, refl, ◌∙◌}
+use mathlib.Core.Bool.{Bool, true, false}
 use mathlib.Core.List.{List, [], ◌∷◌, map}
 use mathlib.Core.Option.{none, some}
+use Rattle.std.specs.Prelude.{Option}
 use lib.ListN.{length, get_or}
 use Rattle.scheme.specs.Sorts.{Sort, o}
 use Rattle.casefile.specs.Records.{Record}
@@ -16,7 +15,8 @@ use Rattle.casefile.specs.Tables.{arities_of, signatures_of}
 use Rattle.casefile.specs.Refusals.{Test, refuse◌at◌when◌, first, wrong_body, wrong_bodies}
 use Rattle.casefile.proofs.TypeTable.{count_payloads}
 use Rattle.sorts.specs.codes.Sorted.{SortArrays, TreeCodes}
-use Rattle.rules.specs.rules.Rules.{Filled, Filed, BodiesRead, WithinLimits, FindsWrongBody}
+use Rattle.bodies.specs.declared.Heads.{Heads}
+use Rattle.rules.specs.rules.Rules.{Filled, Filed, BodiesRead, FindsWrongBody}
 use Rattle.rules.specs.reading.RuleBodies.{FirstWrong, ReadsRules}
 use Rattle.rules.proofs.rules.Judging.{signatures_length, judged}
 use Rattle.index.specs.layout.Layout.{max_sorts, max_constructors, max_nonterminals, sorts_at, constructors_at, nonterminals_at, all_sorts}
@@ -54,7 +54,7 @@ module _ (arities : List ℕ) (signatures : List Sort) where
       ∙ first_met ss l r (le_of_suc-le-suc k) (le_of_suc-le-suc m) (λ i n. h (suc i) (omega arith)) e
 
 module _ {file index : List ℕ} {sorts constructors nonterminals rules : ℕ} {rs : List Record} (fi : Filed file index sorts constructors nonterminals rules rs)
-    (ends : List ℕ) (r : ℕ) (answer : FirstWrong rs rules ends r) where
+    (ends : List ℕ) (r : Option ℕ) (answer : FirstWrong rs rules ends r) where
   sorts_enough : length (of_kind rule rs) ≤ length (signatures_of rs)
   unfolding count
   sorts_enough =
@@ -72,32 +72,23 @@ module _ {file index : List ℕ} {sorts constructors nonterminals rules : ℕ} {
       let d = fi.rules_there.counted in
       record {
         within = answer.within;
-        none_refused = λ e. all_passed (arities_of rs) (signatures_of rs) (signatures_of rs) (of_kind rule rs) sorts_enough (λ i h. answer.before.right i (omega arith));
-        first_refused = λ h. first_met (arities_of rs) (signatures_of rs) (signatures_of rs) (of_kind rule rs) r sorts_enough (omega arith) answer.before.right (answer.wrong_there h);
-        ends_are = λ e f i h l. answer.before.ends_are f i (omega arith) l;
+        none_refused = λ e. all_passed (arities_of rs) (signatures_of rs) (signatures_of rs) (of_kind rule rs) sorts_enough (λ i h. (answer.all e).right i (omega arith));
+        first_refused = λ f e. let b = answer.within f e in
+            first_met (arities_of rs) (signatures_of rs) (signatures_of rs) (of_kind rule rs) f sorts_enough (omega arith) (answer.before f e).right (answer.wrong_there f e);
+        ends_are = λ e f i h l. (answer.all e).ends_are f i h l;
       }
 
 -- the answer of the loop over the filled arrays
-pub finds : (file index : List ℕ) (sorts constructors nonterminals rules : ℕ) (z₁ z₂ z₃ z₄ froms tos trees arities signatures : List ℕ) (before after : List ℕ) (r : ℕ)
+pub finds : (file index : List ℕ) (sorts constructors nonterminals rules : ℕ) (z₁ z₂ z₃ z₄ : List ℕ) (heads : Heads) (before after : List ℕ) (r : Option ℕ)
     → length z₁ ≡ all_sorts → length z₂ ≡ all_sorts → length z₃ ≡ max_constructors → length z₄ ≡ max_nonterminals
-    → Filled 2 file index sorts_at 0 sorts 1 z₁ froms → Filled 2 file index sorts_at 2 sorts 1 z₂ tos → Filled 1 file index constructors_at 0 constructors 0 z₃ arities → Filled 2 file index nonterminals_at 0 nonterminals 0 z₄ signatures
-    → ((ss : List Sort) → SortArrays ss (sorts + 1) froms tos → TreeCodes ss trees)
-    → ReadsRules file index froms tos trees arities signatures rules before after r → FindsWrongBody file index sorts constructors nonterminals rules before after r
-finds file index sorts constructors nonterminals rules z₁ z₂ z₃ z₄ froms tos trees arities signatures before after r l₁ l₂ l₃ l₄ a b c d codes answer rs fi room =
-    refusal fi after r (answer rs (judged fi z₁ z₂ z₃ z₄ froms tos trees arities signatures l₁ l₂ l₃ l₄ a b c d codes) room)
+    → Filled 2 file index sorts_at 0 sorts 1 z₁ heads.sorts.froms.now → Filled 2 file index sorts_at 2 sorts 1 z₂ heads.sorts.tos.now → Filled 1 file index constructors_at 0 constructors 0 z₃ heads.arities.now
+    → Filled 2 file index nonterminals_at 0 nonterminals 0 z₄ heads.signatures.now
+    → ((ss : List Sort) → SortArrays ss (sorts + 1) heads.sorts.froms.now heads.sorts.tos.now → TreeCodes ss heads.trees.now)
+    → ReadsRules file index heads rules before after r → FindsWrongBody file index sorts constructors nonterminals rules before after r
+finds file index sorts constructors nonterminals rules z₁ z₂ z₃ z₄ heads before after r l₁ l₂ l₃ l₄ a b c d codes answer rs fi room =
+    refusal fi after r (answer rs (judged fi z₁ z₂ z₃ z₄ heads l₁ l₂ l₃ l₄ a b c d codes) room)
 
 -- no file has that many records
-pub finds_not : (file index : List ℕ) (sorts constructors nonterminals rules : ℕ) (before after : List ℕ) (r : ℕ)
-    → (sorts ≤ max_sorts → constructors ≤ max_constructors → nonterminals ≤ max_nonterminals → rules ≤ nonterminals → ⊥) → FindsWrongBody file index sorts constructors nonterminals rules before after r
-finds_not file index sorts constructors nonterminals rules before after r z rs fi room = absurd (z fi.few_sorts fi.few_constructors fi.few_nonterminals fi.few_rules)
-
--- one count is beyond its limit
-pub beyond_limits : (sorts constructors nonterminals rules : ℕ) → (sorts ≤ max_sorts → constructors ≤ max_constructors → nonterminals ≤ max_nonterminals → rules ≤ nonterminals → ⊥) → WithinLimits sorts constructors nonterminals rules false
-beyond_limits sorts constructors nonterminals rules z = record { within = λ e. absurd (true≢false (sym e)); beyond = λ e. z }
-
--- the last count decides
-pub last_limit : (sorts constructors nonterminals rules : ℕ) → sorts ≤ max_sorts → constructors ≤ max_constructors → nonterminals ≤ max_nonterminals → WithinLimits sorts constructors nonterminals rules (leb rules nonterminals)
-last_limit sorts constructors nonterminals rules a b c = record {
-  within = λ e. (a, b, c, leb-true rules nonterminals e);
-  beyond = λ e a b c d. let l = leb-false rules nonterminals e in omega arith;
-}
+pub finds_not : (file index : List ℕ) (sorts constructors nonterminals rules : ℕ) (before after : List ℕ) (r : Option ℕ)
+    → ((sorts ≤ max_sorts) × (constructors ≤ max_constructors) × (nonterminals ≤ max_nonterminals) × (rules ≤ nonterminals) → ⊥) → FindsWrongBody file index sorts constructors nonterminals rules before after r
+finds_not file index sorts constructors nonterminals rules before after r z rs fi room = absurd (z (fi.few_sorts, fi.few_constructors, fi.few_nonterminals, fi.few_rules))

@@ -1,6 +1,6 @@
 -- What our own crates promise each other; nothing here has to be believed.
 -- The bodies of the rules of a file, one after another.
-use Rattle.std.specs.Prelude.{ℕ, ◌+◌, ◌/◌, ◌<◌, ◌≤◌, ◌≡◌, Bool, true, false, List, [], ◌∷◌, map, length, get_or, take, drop}
+use Rattle.std.specs.Prelude.{ℕ, ◌+◌, ◌/◌, ◌<◌, ◌≤◌, ◌≡◌, Bool, true, false, Option, Some, None, List, [], ◌∷◌, map, length, get_or, take, drop}
 use Rattle.scheme.specs.Sorts.{o}
 use Rattle.scheme.specs.Terms.{nodes}
 use Rattle.scheme.specs.Prefix.{terms}
@@ -11,6 +11,7 @@ use Rattle.casefile.specs.Tables.{sorts_of, arities_of, signatures_of, nodes_of,
 use Rattle.casefile.specs.Refusals.{wrong_body}
 use Rattle.index.specs.layout.Layout.{max_nonterminals, max_body}
 use Rattle.index.specs.entries.Index.{Indexed}
+use Rattle.bodies.specs.declared.Heads.{Heads}
 use Rattle.bodies.specs.Bodies.{BodyTables}
 
 -- the nodes of a given number of bodies, four bytes a node
@@ -39,34 +40,35 @@ abbrev pub end_at : List Record → ℕ → ℕ → ℕ
 end_at rs f i = i + nodes (first_term (terms (drop i (nodes_of (rule_of rs f)))))
 
 -- the arrays hold what the bodies of a given number of rules are judged by, and the index has the rules
-pub record Judged (file index froms tos trees arities signatures : List ℕ) (rules : ℕ) (rs : List Record) : Type 0 where
+pub record Judged (file index : List ℕ) (heads : Heads) (rules : ℕ) (rs : List Record) : Type 0 where
   pub there : Indexed file index rule rules rs
   pub few : rules ≤ max_nonterminals
   pub some_nodes : (f : ℕ) → f < rules → 4 ≤ length (rule_of rs f)
   pub few_nodes : (f : ℕ) → f < rules → length (rule_of rs f) ≤ max_body
-  pub setting : (f : ℕ) → f < rules → BodyTables (sorts_of rs) (arities_of rs) (numbers_of rs) (rule_of rs f) froms tos trees arities signatures (get_or signatures f 0)
-  pub sort_is : (f : ℕ) → f < rules → get_or (sorts_of rs) (get_or signatures f 0) o ≡ get_or (signatures_of rs) f o
+  pub setting : (f : ℕ) → f < rules → BodyTables (sorts_of rs) (arities_of rs) (numbers_of rs) (rule_of rs f) heads (get_or heads.signatures.now f 0)
+  pub sort_is : (f : ℕ) → f < rules → get_or (sorts_of rs) (get_or heads.signatures.now f 0) o ≡ get_or (signatures_of rs) f o
 
--- rule f was read: r is the number of its nodes where its body is accepted, and then `after` says where each subterm ends; else r is 0
-pub record RuleRead (file index froms tos trees arities signatures : List ℕ) (f : ℕ) (before after : List ℕ) (r : ℕ) : Type 0 where
+-- rule f was read: r is the number of its nodes where its body is accepted, and then `after` says where each subterm ends; else r is none
+pub record RuleRead (file index : List ℕ) (heads : Heads) (f : ℕ) (before after : List ℕ) (r : Option ℕ) : Type 0 where
   pub long : length after ≡ length before
-  pub within : r ≤ length before
-  pub fits : (rules : ℕ) (rs : List Record) → Judged file index froms tos trees arities signatures rules rs → f < rules → length (rule_of rs f) / 4 ≤ length before
-      → (r ≡ 0 → ⊥) → (r ≡ length (rule_of rs f) / 4) × (wrong_at rs f ≡ false) × ((i : ℕ) → i < length (rule_of rs f) / 4 → get_or after i 0 ≡ end_at rs f i)
-  pub fails : (rules : ℕ) (rs : List Record) → Judged file index froms tos trees arities signatures rules rs → f < rules → length (rule_of rs f) / 4 ≤ length before
-      → r ≡ 0 → wrong_at rs f ≡ true
+  pub within : (n : ℕ) → r ≡ Some n → n ≤ length before
+  pub fits : (rules : ℕ) (rs : List Record) → Judged file index heads rules rs → f < rules → length (rule_of rs f) / 4 ≤ length before
+      → (n : ℕ) → r ≡ Some n → (n ≡ length (rule_of rs f) / 4) × (wrong_at rs f ≡ false) × ((i : ℕ) → i < length (rule_of rs f) / 4 → get_or after i 0 ≡ end_at rs f i)
+  pub fails : (rules : ℕ) (rs : List Record) → Judged file index heads rules rs → f < rules → length (rule_of rs f) / 4 ≤ length before
+      → r ≡ None → wrong_at rs f ≡ true
 
 -- the rules before f are accepted, and `ends` has the ends of their subterms
 pub record Accepted (rs : List Record) (f : ℕ) (ends : List ℕ) : Type 0 where
   pub right : (g : ℕ) → g < f → wrong_at rs g ≡ false
   pub ends_are : (g i : ℕ) → g < f → i < length (rule_of rs g) / 4 → get_or ends (first_node rs g + i) 0 ≡ end_at rs g i
 
--- r is the number of the first rule whose body is turned away, or the number of rules where all are accepted
-pub record FirstWrong (rs : List Record) (rules : ℕ) (ends : List ℕ) (r : ℕ) : Type 0 where
-  pub within : r ≤ rules
-  pub before : Accepted rs r ends
-  pub wrong_there : r < rules → wrong_at rs r ≡ true
+-- r is the number of the first rule whose body is turned away, or none where all are accepted
+pub record FirstWrong (rs : List Record) (rules : ℕ) (ends : List ℕ) (r : Option ℕ) : Type 0 where
+  pub within : (f : ℕ) → r ≡ Some f → f < rules
+  pub before : (f : ℕ) → r ≡ Some f → Accepted rs f ends
+  pub wrong_there : (f : ℕ) → r ≡ Some f → wrong_at rs f ≡ true
+  pub all : r ≡ None → Accepted rs rules ends
 
-abbrev pub ReadsRules : List ℕ → List ℕ → List ℕ → List ℕ → List ℕ → List ℕ → List ℕ → ℕ → List ℕ → List ℕ → ℕ → Type 0
-ReadsRules file index froms tos trees arities signatures rules before after r =
-    (rs : List Record) → Judged file index froms tos trees arities signatures rules rs → nodes_in (payloads rule rs) ≤ length before → FirstWrong rs rules after r
+abbrev pub ReadsRules : List ℕ → List ℕ → Heads → ℕ → List ℕ → List ℕ → Option ℕ → Type 0
+ReadsRules file index heads rules before after r =
+    (rs : List Record) → Judged file index heads rules rs → nodes_in (payloads rule rs) ≤ length before → FirstWrong rs rules after r

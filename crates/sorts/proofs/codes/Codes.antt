@@ -1,10 +1,11 @@
 -- Sorts by code: the code of a listed sort is its number; constructors' sorts, one after another.
 use Prim.Native.Nat.{ℕ, zero, suc, ◌+◌, ◌<◌, ◌≤◌}
-use mathlib.Core.Path.{◌≡◌, refl, sym, ap, ◌∙◌}
+use mathlib.Core.Path.{◌≡◌, refl, sym, ap, subst, ◌∙◌}
 use mathlib.Core.Bool.{Bool, true, false, ◌&&◌}
 use mathlib.Core.List.{List, [], ◌∷◌}
 use native.Mathlib.Omega.{arith}
 use borrow.Author.Tests.{eq-eqb, ne_eqb, eqb-true}
+use Rattle.std.specs.Prelude.{Option, Some, None}
 use lib.Dec.{eqb}
 use lib.ListN.{length, get_or}
 use Rattle.scheme.specs.Sorts.{Sort, o, ◌⇒◌, tree_sort}
@@ -31,6 +32,15 @@ arrow_no a b to t e f x y =
     let i : t ≡ true = e ∙ rw (g, h) refl in
     let z : ◌≡◌ {A = ℕ} 0 1 = cc in
     omega arith
+
+module _ {froms tos : List ℕ} {n to : ℕ} where
+  -- the sort looked for is found
+  pub arrow_found : {i : ℕ} → i < n → 0 < i → get_or froms i 0 ≡ 0 → get_or tos i 0 ≡ to → ArrowTo froms tos n to (Some i)
+  arrow_found {i} h p x y = record { is = λ k e. let same : i ≡ k = cc in subst (λ k. (k < n) × (0 < k) × (get_or froms k 0 ≡ 0) × (get_or tos k 0 ≡ to)) same (h, p, x, y); none_is = λ e. absurd (cc) }
+
+  -- no sort is it
+  pub arrow_none : ((i : ℕ) → 0 < i → i < n → get_or froms i 0 ≡ 0 → get_or tos i 0 ≡ to → ⊥) → ArrowTo froms tos n to None
+  arrow_none absent = record { is = λ k e. absurd (cc); none_is = λ e. absent }
 
 module _ {sorts : List Sort} {n : ℕ} {froms tos : List ℕ} (w : SortArrays sorts n froms tos) where
   -- a code below the number of sorts is a number
@@ -75,10 +85,10 @@ module _ {sorts : List Sort} {n : ℕ} {froms tos : List ℕ} (w : SortArrays so
       (λ i l g. let (p, q, r, s) = arrow_parts (tree_sort m) i (omega (arith, w.count)) g in u (get_or tos i 0) (omega (arith, w.count)) (s ∙ f))
 
   -- where it is listed
-  pub next_listed : (m code r r' : ℕ) → code < 1000 → ArrowTo froms tos n code r → r < n → (r < 65536 → r' ≡ r) → Code sorts code (tree_sort m) → Code sorts r' (tree_sort (suc m))
+  pub next_listed : (m code r r' : ℕ) {found : Option ℕ} → code < 1000 → ArrowTo froms tos n code found → found ≡ Some r → (r < 65536 → r' ≡ r) → Code sorts code (tree_sort m) → Code sorts r' (tree_sort (suc m))
   unfolding tree_sort
-  next_listed m code r r' h a k e d =
-      let (p, q, t) = a.is k in
+  next_listed m code r r' h a is e d =
+      let (k, p, q, t) = a.is r is in
       let (x, y) = code_listed d h in
       let made = w.made r p k in
       let s = w.start in
@@ -88,9 +98,9 @@ module _ {sorts : List Sort} {n : ℕ} {froms tos : List ℕ} (w : SortArrays so
       rw er (listed (omega (arith, w.count)) (cc))
 
   -- where it is not, and the one before is
-  pub next_missing : (m code r other : ℕ) → m < 4 → other ≡ 1001 + m → code < 1000 → ArrowTo froms tos n code r → n ≤ r → Code sorts code (tree_sort m) → Code sorts other (tree_sort (suc m))
+  pub next_missing : (m code other : ℕ) {found : Option ℕ} → m < 4 → other ≡ 1001 + m → code < 1000 → ArrowTo froms tos n code found → found ≡ None → Code sorts code (tree_sort m) → Code sorts other (tree_sort (suc m))
   unfolding tree_sort
-  next_missing m code r other h e k a g d =
+  next_missing m code other h e k a g d =
       let (x, y) = code_listed d k in
       unlisted (suc m) (omega arith) (omega arith) refl
       (λ i l f. let (p, q, b, s) = arrow_parts (tree_sort m) i (omega (arith, w.count)) f in

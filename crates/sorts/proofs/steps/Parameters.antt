@@ -22,7 +22,7 @@ Along froms tos own j s left =
     (sorts : List Sort) → SortArrays sorts (length sorts) froms tos → own < length sorts → j < length (arguments (get_or sorts own o))
     → (s < length sorts) × (left < length (arguments (get_or sorts s o))) × (get_or (arguments (get_or sorts s o)) left o ≡ get_or (arguments (get_or sorts own o)) j o)
 
-pub along_start : (froms tos : List ℕ) (own j : ℕ) → Along froms tos own j own j
+along_start : (froms tos : List ℕ) (own j : ℕ) → Along froms tos own j own j
 along_start froms tos own j sorts w h k = (h, k, refl)
 
 -- one argument on
@@ -37,10 +37,19 @@ next_argument {sorts} {n} {froms} {tos} w s (suc l) x p h k e =
     let z : suc l - 1 ≡ l = omega arith in
     (omega arith, omega arith, ap (λ i. get_or (arguments (get_or sorts (get_or tos s 0) o)) i o) z ∙ e')
 
-pub along_next : (froms tos : List ℕ) (own j s left r : ℕ) → Along froms tos own j s left → 0 < left → r ≡ get_or tos s 0 → Along froms tos own j r (left - 1)
+along_next : (froms tos : List ℕ) (own j s left r : ℕ) → Along froms tos own j s left → 0 < left → r ≡ get_or tos s 0 → Along froms tos own j r (left - 1)
 along_next froms tos own j s left r a p er sorts w h k =
     let (x, y, z) = a sorts w h k in
     rw er (next_argument w s left (get_or (arguments (get_or sorts own o)) j o) p x y z)
+
+-- the same by how many arguments are behind: none at the start, and one more after each step
+pub along_none : (froms tos : List ℕ) (own j : ℕ) → Along froms tos own j own (j - 0)
+along_none froms tos own j = let z : j ≡ j - 0 = omega arith in subst (Along froms tos own j own) z (along_start froms tos own j)
+
+pub along_more : (froms tos : List ℕ) (own j s k r : ℕ) → Along froms tos own j s (j - k) → k < j → r ≡ get_or tos s 0 → Along froms tos own j r (j - (k + 1))
+along_more froms tos own j s k r a h e =
+    let z : j - k - 1 ≡ j - (k + 1) = omega arith in
+    subst (Along froms tos own j r) z (along_next froms tos own j s (j - k) r a (omega arith) e)
 
 pub along_end : (froms tos : List ℕ) (own j s left r : ℕ) → Along froms tos own j s left → left ≡ 0 → r ≡ get_or froms s 0 → ParameterSort froms tos own j r
 along_end froms tos own j s left r a z er sorts w h k =
@@ -59,7 +68,7 @@ pub record Listing (froms tos : List ℕ) (own s j : ℕ) (sorts : List ℕ) : T
 
 module _ (froms tos : List ℕ) (own : ℕ) where
   pub list_none : (sorts : List ℕ) → length sorts ≡ 8 → Listing froms tos own own 0 sorts
-  list_none sorts l = record { eight = l; done = λ e k. absurd (omega arith); ahead = λ m k. let z : m ≡ m - 0 = omega arith in subst (Along froms tos own m own) z (along_start froms tos own m) }
+  list_none sorts l = record { eight = l; done = λ e k. absurd (omega arith); ahead = λ m k. along_none froms tos own m }
 
   module _ (s j : ℕ) (sorts : List ℕ) (l : Listing froms tos own s j sorts) where
     pub list_more : (v t : ℕ) → j < 8 → v ≡ get_or froms s 0 → t ≡ get_or tos s 0 → Listing froms tos own t (j + 1) (set sorts j v)
@@ -67,7 +76,7 @@ module _ (froms tos : List ℕ) (own : ℕ) where
         record {
           eight = length-set sorts j v ∙ l.eight;
           done = λ e k. go e k (ℕ_discrete e j);
-          ahead = λ m k. let z : m - j - 1 ≡ m - (j + 1) = omega arith in subst (Along froms tos own m t) z (along_next froms tos own m s (m - j) t (l.ahead m (omega arith)) (omega arith) et);
+          ahead = λ m k. along_more froms tos own m s j t (l.ahead m (omega arith)) (omega arith) et;
         }
       where
         here : ParameterSort froms tos own j v

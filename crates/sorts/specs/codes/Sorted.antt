@@ -1,6 +1,6 @@
 -- What our own crates promise each other; nothing here has to be believed.
 -- Sorts by number: a listed sort by its number, a constructor's sort that is not listed by a number of its own.
-use Rattle.std.specs.Prelude.{ℕ, suc, ◌+◌, ◌<◌, ◌≤◌, ◌≡◌, List, length, get_or}
+use Rattle.std.specs.Prelude.{ℕ, suc, ◌+◌, ◌<◌, ◌≤◌, ◌≡◌, Option, Some, None, List, length, get_or}
 use Rattle.scheme.specs.Sorts.{Sort, o, ◌⇒◌, arguments, tree_sort}
 
 -- the n sorts that two arrays list: sort 0 is o, sort i is from sort froms[i] to sort tos[i], and no two are the same
@@ -28,19 +28,19 @@ pub record Coded (sorts : List Sort) (froms tos trees : List ℕ) : Type 0 where
   pub table : SortArrays sorts (length sorts) froms tos
   pub constructors : TreeCodes sorts trees
 
--- a sort s with an argument of sort t off: 2000 where s takes no such argument, the code of the sort that is left where it does
-pub data Off (sorts : List Sort) (s t : Sort) (r : ℕ) : Type 0 where
-  misfit : r ≡ 2000 → ((b : Sort) → s ≡ t ⇒ b → ⊥) → Off sorts s t r
-  off : r < 2000 → (b : Sort) → s ≡ t ⇒ b → Code sorts r b → Off sorts s t r
+-- a sort s with an argument of sort t off: none where s takes no such argument, the code of the sort that is left where it does
+pub data Off (sorts : List Sort) (s t : Sort) (r : Option ℕ) : Type 0 where
+  misfit : r ≡ None → ((b : Sort) → s ≡ t ⇒ b → ⊥) → Off sorts s t r
+  off : (code : ℕ) → r ≡ Some code → code < 2000 → (b : Sort) → s ≡ t ⇒ b → Code sorts code b → Off sorts s t r
 
-abbrev pub Applied : List ℕ → List ℕ → List ℕ → ℕ → ℕ → ℕ → Type 0
+abbrev pub Applied : List ℕ → List ℕ → List ℕ → ℕ → ℕ → Option ℕ → Type 0
 Applied froms tos trees head argument r =
     (sorts : List Sort) (s t : Sort) → Coded sorts froms tos trees → Code sorts head s → Code sorts argument t → Off sorts s t r
 
--- r is the number of the sort from o to sort `to`, or no such sort is listed and r is n
-pub record ArrowTo (froms tos : List ℕ) (n to r : ℕ) : Type 0 where
-  pub is : r < n → (0 < r) × (get_or froms r 0 ≡ 0) × (get_or tos r 0 ≡ to)
-  pub none_is : n ≤ r → (i : ℕ) → 0 < i → i < n → get_or froms i 0 ≡ 0 → get_or tos i 0 ≡ to → ⊥
+-- r is the number of the sort from o to sort `to`, or no such sort is listed and r is none
+pub record ArrowTo (froms tos : List ℕ) (n to : ℕ) (r : Option ℕ) : Type 0 where
+  pub is : (i : ℕ) → r ≡ Some i → (i < n) × (0 < i) × (get_or froms i 0 ≡ 0) × (get_or tos i 0 ≡ to)
+  pub none_is : r ≡ None → (i : ℕ) → 0 < i → i < n → get_or froms i 0 ≡ 0 → get_or tos i 0 ≡ to → ⊥
 
 -- r is the code of the sort of constructors of m + 1 arguments, made of that of m arguments; 1001 + m is to stand for it where it is not listed
 abbrev pub NextTree : List ℕ → List ℕ → ℕ → ℕ → ℕ → ℕ → Type 0

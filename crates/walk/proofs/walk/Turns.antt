@@ -1,5 +1,5 @@
 -- The walk under way: how it starts, what a record does to it, how it ends, and how a turn ends.
-use Prim.Native.Nat.{ℕ, zero, suc, ◌+◌, ◌<◌, ◌≤◌}
+use Prim.Native.Nat.{ℕ, suc, ◌+◌, ◌<◌, ◌≤◌}
 use native.Mathlib.Omega.{arith}
 use native.Mathlib.Nat.{zero-add}
 use mathlib.Core.Path.{◌≡◌, refl, sym, ap, ap₂, subst, ◌∙◌}
@@ -15,10 +15,15 @@ use Rattle.scheme.specs.Lists.{choose◌then◌else◌, last_or, select}
 use Rattle.scheme.specs.Sorts.{o, arguments}
 use Rattle.casefile.specs.Fields.{word}
 use Rattle.casefile.specs.Records.{Record, record_at, end, next, records_of, listed}
+use Rattle.std.specs.Prelude.{Some, None, Result, Ok, Err, MatchResult}
+use Rattle.std.specs.Result.{IsErrAnd}
 use Rattle.records.specs.cursor.Reading.{read_at, part_of}
-use Rattle.records.specs.reader.Parts.{payload_of_spec}
-use Rattle.records.specs.declared.cursor.Cursor.{Cursor}
-use Rattle.records.specs.declared.cursor.Read.TheVariants as read
+use Rattle.records.specs.declared.cursor.Record
+use Rattle.records.specs.declared.refusal.Refusal
+use Rattle.records.specs.declared.refusal.Fault.{Fault}
+use Rattle.records.specs.declared.refusal.Fault.TheVariants.{WrongKind}
+use Rattle.records.specs.refusal.Numbers.{number_of, code_of}
+use Rattle.records.proofs.refusal.Numbers.{number_some}
 use Rattle.records.proofs.cursor.Reading.{RecordRead, read_record_law, read_refused, read_end}
 use Rattle.casefile.specs.Kinds.{Kind, sort, constructor, nonterminal, rule, states, transition, type, binding, path, number, kind_of, payloads, count, of_kind}
 use Rattle.casefile.specs.Tables.{grow, sorts_of, signatures_of}
@@ -28,6 +33,7 @@ use Rattle.casefile.proofs.Passed.{Tested, passed_tested}
 use Rattle.casefile.specs.Promises.{records_from, Passed, nothing, also}
 use Rattle.casefile.proofs.Plans.{signatures_length}
 use Rattle.walk.proofs.kinds.Dispatch.{sorts_length}
+use Rattle.walk.proofs.kinds.Taking.{number_is}
 use Rattle.scheme.proofs.Lists.{or_false, and_false, last_more}
 use Rattle.index.specs.layout.Layout.{max_file, max_sorts, max_constructors, max_nonterminals, max_transitions, max_types, max_bindings, hashes, hashes_at, places_at, kinds, all_sorts}
 use Rattle.index.specs.entries.Codes.{code_for}
@@ -35,21 +41,14 @@ use Rattle.index.specs.entries.Index.{base, Indexed}
 use Rattle.index.specs.entries.Chains.{hash_of_spec}
 use Rattle.index.proofs.chains.Hashing.{hash_few}
 use Rattle.index.proofs.chains.Chaining.{latest_few}
-use Rattle.walk.specs.declared.walk.Walked.{Walked}
-use Rattle.walk.specs.declared.walk.Walked.TheVariants as walked
 use Rattle.index.specs.entries.Known.{room, Known}
 use Rattle.walk.specs.kinds.Codes.{code_as}
 use Rattle.walk.specs.kinds.Taking.{Taken}
 use Rattle.index.specs.enter.Entering.{Clears, stored, lens_after, chains_after}
-use Rattle.walk.specs.declared.walk.Turned.{Turned}
-use Rattle.walk.specs.walk.Walking.{Walking, WalkEnds, end_of, ended, TurnsTo, PassesTo, WalksTo}
+use Rattle.walk.specs.walk.Walking.{Walking, WalkEnds, TurnsTo, PassesTo, WalksTo}
 use Rattle.walk.proofs.walk.Chains.{chained_none}
 use Rattle.walk.proofs.walk.Known.{known_more, known_sort, known_type, chained_before, number_few}
 use Rattle.index.proofs.enter.Storing.{number_inj, stored_set, lens_length, lens_other, chains_other, chains_set, chains_length}
-
--- what was read is no record
-abbrev pub NoRecord : Rattle.records.specs.declared.cursor.Read.Read → Type 0
-NoRecord g = (place start len kind : ℕ) (next : Cursor) → g ≡ read.Record place start len kind next → ⊥
 
 -- no record yet
 none_indexed : (file index : List ℕ) (k : Kind) (n : ℕ) → n ≡ 0 → Indexed file index k n []
@@ -170,24 +169,6 @@ last_kind_law : (rs : List Record) (r : Record) → last_kind (rs ++ (r ∷ []))
 unfolding last_kind last_or
 last_kind_law rs r = ap (last_or 0) (map-append (λ (r : Record). r.kind) rs (r ∷ [])) ∙ last_more 0 (map (λ (r : Record). r.kind) rs) r.kind
 
-some_kind : (a b : Kind) → some a ≡ some b → a ≡ b
-some_kind a b e = cc
-
--- the number of a known kind
-number_of : (n : ℕ) (k : Kind) → kind_of n ≡ some k → n ≡ number k
-unfolding kind_of number
-number_of zero k e = absurd (let z : ◌≡◌ {A = ℕ} 0 1 = cc in omega arith)
-number_of (suc zero) k e = ap number (some_kind sort k e)
-number_of (suc (suc zero)) k e = ap number (some_kind constructor k e)
-number_of (suc (suc (suc zero))) k e = ap number (some_kind nonterminal k e)
-number_of (suc (suc (suc (suc zero)))) k e = ap number (some_kind rule k e)
-number_of (suc (suc (suc (suc (suc zero))))) k e = ap number (some_kind states k e)
-number_of (suc (suc (suc (suc (suc (suc zero)))))) k e = ap number (some_kind transition k e)
-number_of (suc (suc (suc (suc (suc (suc (suc zero))))))) k e = ap number (some_kind type k e)
-number_of (suc (suc (suc (suc (suc (suc (suc (suc zero)))))))) k e = ap number (some_kind binding k e)
-number_of (suc (suc (suc (suc (suc (suc (suc (suc (suc zero))))))))) k e = ap number (some_kind path k e)
-number_of (suc (suc (suc (suc (suc (suc (suc (suc (suc (suc n)))))))))) k e = absurd (let z : ◌≡◌ {A = ℕ} 0 1 = cc in omega arith)
-
 room_few : (k : Kind) → room k ≤ 1024
 room_few sort = omega arith
 room_few constructor = omega arith
@@ -200,14 +181,16 @@ room_few binding = omega arith
 room_few path = omega arith
 
 module _ {file index lens counts : List ℕ} {at last : ℕ} (w : Walking file index lens counts at last) where
-  -- the walk ends
-  pub ends : (g : Rattle.records.specs.declared.cursor.Read.Read) → NoRecord g → g ≡ read_at file at → (r : Walked) → r ≡ end_of g → WalkEnds file index lens counts r
+  -- the walk ends, with a record that is cut or with every record read
+  pub ends_refused : (x : Refusal.Refusal) → Err x ≡ read_at file at → WalkEnds file index lens counts (Err x)
+  unfolding WalkEnds case_from
+  ends_refused x e = λ flags.
+      let rr = read_refused file at x (sym e) in
+      sym (w.same flags) ∙ ap (λ z. case_from flags z w.rs) rr.walk_is ∙ ap (λ f. refused_case (record { number = number_of f; place = x.place })) (sym rr.fault_is)
+
+  pub ends_read : Ok None ≡ read_at file at → WalkEnds file index lens counts (Ok tt)
   unfolding WalkEnds case_from listed
-  ends (read.Record place start len kind c) h e r er = absurd (h place start len kind c refl)
-  ends (read.Refused n p) h e r er = subst (WalkEnds file index lens counts) (sym er) (λ flags.
-      let rr = read_refused file at n p (sym e) in
-      sym (w.same flags) ∙ ap (λ z. case_from flags z w.rs) rr.walk_is ∙ ap (λ x. refused_case (record { number = x; place = p })) (sym rr.number_is))
-  ends read.End h e r er = subst (WalkEnds file index lens counts) (sym er) (record { passed = subst Passed is w.passed; known = subst (Known file index lens counts) is w.known; left = λ flags. sym (w.same flags) ∙ ap (λ z. case_from flags z w.rs) done ∙ ap (λ z. unless_refused (refuse_whole z flags) (accepted_case z (payloads path z))) is })
+  ends_read e = record { passed = subst Passed is w.passed; known = subst (Known file index lens counts) is w.known; left = λ flags. sym (w.same flags) ∙ ap (λ z. case_from flags z w.rs) done ∙ ap (λ z. unless_refused (refuse_whole z flags) (accepted_case z (payloads path z))) is }
     where
       done : records_from file at ≡ end
       done = read_end file at (sym e)
@@ -215,9 +198,18 @@ module _ {file index lens counts : List ℕ} {at last : ℕ} (w : Walking file i
       is : w.rs ≡ listed (records_of file)
       is = sym (append-nil w.rs) ∙ ap (λ z. w.rs ++ listed z) (sym done) ∙ w.all
 
-  module _ (place start len kind : ℕ) (c : Cursor) (e : read.Record place start len kind c ≡ read_at file at) where
-    rr : RecordRead file at place start len kind c
-    rr = read_record_law file at place start len kind c (sym e)
+  module _ (got : Record.Record) (e : Ok (Some got) ≡ read_at file at) where
+    abbrev place : ℕ
+    place = got.place
+
+    abbrev start : ℕ
+    start = got.start
+
+    abbrev kind : ℕ
+    kind = got.kind
+
+    rr : RecordRead file at got
+    rr = read_record_law file at got (sym e)
 
     r : Record
     r = record_at file place
@@ -231,50 +223,50 @@ module _ {file index lens counts : List ℕ} {at last : ℕ} (w : Walking file i
     r_place = refl
 
     -- one step of the walk
-    stepped : records_from file at ≡ next r (records_from file c.at)
+    stepped : records_from file at ≡ next r (records_from file got.next.at)
     unfolding r
     stepped = rr.walk_is
 
     refuses : (x : Refusal) → refuse_record w.rs r ≡ some x → (flags : ℕ) → case_from flags (records_of file) [] ≡ refused_case x
     unfolding case_from unless_refused
-    refuses x f flags = sym (w.same flags) ∙ ap (λ z. case_from flags z w.rs) stepped ∙ ap (λ z. unless_refused z (case_from flags (records_from file c.at) (w.rs ++ (r ∷ [])))) f
+    refuses x f flags = sym (w.same flags) ∙ ap (λ z. case_from flags z w.rs) stepped ∙ ap (λ z. unless_refused z (case_from flags (records_from file got.next.at) (w.rs ++ (r ∷ [])))) f
 
-    as_place : (n : ℕ) → refuse_record w.rs r ≡ some (record { number = n; place = r.place }) → WalkEnds file index lens counts (walked.Refused n place)
+    as_place : (f : Fault) → refuse_record w.rs r ≡ some (record { number = number_of f; place = r.place }) → WalkEnds file index lens counts (Err (record { fault = f; place = place }))
     unfolding WalkEnds
-    as_place n f = refuses (record { number = n; place = place }) (f ∙ ap (λ z. some (record { number = n; place = z })) r_place)
+    as_place f g = refuses (record { number = number_of f; place = place }) (g ∙ ap (λ z. some (record { number = number_of f; place = z })) r_place)
 
     -- a kind lower than the one before
-    pub falls : kind < last → WalkEnds file index lens counts (walked.Refused 3 place)
+    pub falls : kind < last → WalkEnds file index lens counts (Err (record { fault = WrongKind; place = place }))
     unfolding refuse_record
-    falls h = as_place 3 (simp (lt-ltb r.kind (last_kind w.rs) (let a = w.lastly in let b = r_kind in omega arith)))
+    falls h = as_place WrongKind (simp (lt-ltb r.kind (last_kind w.rs) (let a = w.lastly in let b = r_kind in omega arith)))
 
-    r_payload : (p : List ℕ) → p ≡ part_of file start len → p ≡ r.payload
+    r_payload : (p : List ℕ) → p ≡ part_of file start got.len → p ≡ r.payload
     unfolding r
     r_payload p ep = ep ∙ rr.payload_is
 
     not_lower : last ≤ kind → last_kind w.rs ≤ r.kind
     not_lower h = let a = w.lastly in let b = r_kind in omega arith
 
-    code_of : (p : List ℕ) (n : ℕ) → p ≡ part_of file start len → n ≡ code_as w.rs p (kind_of kind) → n ≡ code_as w.rs r.payload (kind_of r.kind)
-    code_of p n ep en = en ∙ ap₂ (λ x y. code_as w.rs x (kind_of y)) (r_payload p ep) (sym r_kind)
+    code_is : (p : List ℕ) (n : ℕ) → p ≡ part_of file start got.len → n ≡ code_as w.rs p (kind_of kind) → n ≡ code_as w.rs r.payload (kind_of r.kind)
+    code_is p n ep en = en ∙ ap₂ (λ x y. code_as w.rs x (kind_of y)) (r_payload p ep) (sym r_kind)
 
     -- a record that meets one of 3 to 7
-    pub turned : (p : List ℕ) (n : ℕ) → p ≡ part_of file start len → last ≤ kind → n ≡ code_as w.rs p (kind_of kind) → (n ≡ 0 → ⊥) → WalkEnds file index lens counts (walked.Refused n place)
-    turned p n ep up en ne = as_place n (refused_code w.rs r (not_lower up) n (code_of p n ep en) ne)
+    pub turned : (p : List ℕ) (f : Fault) → p ≡ part_of file start got.len → last ≤ kind → number_of f ≡ code_as w.rs p (kind_of kind) → WalkEnds file index lens counts (Err (record { fault = f; place = place }))
+    turned p f ep up en = as_place f (refused_code w.rs r (not_lower up) (number_of f) (code_is p (number_of f) ep en) (λ z. let some = number_some f in omega arith))
 
     -- a record that passes
-    module _ (p index' lens' counts' : List ℕ) (ep : p ≡ part_of file start len) (up : last ≤ kind) (ez : 0 ≡ code_as w.rs p (kind_of kind)) (few : length file ≤ max_file)
+    module _ (p index' lens' counts' : List ℕ) (ep : p ≡ part_of file start got.len) (up : last ≤ kind) (ez : 0 ≡ code_as w.rs p (kind_of kind)) (few : length file ≤ max_file)
         (ei : (k : Kind) → kind ≡ number k → index' ≡ chains_after (stored index (base k + get_or counts kind 0) start) kind (get_or counts kind 0) p)
         (el : lens' ≡ lens_after lens kind (get_or counts kind 0) p) (ec : counts' ≡ stored counts kind (get_or counts kind 0 + 1)) where
       passes : (refuse_record w.rs r ≡ none) × ((k : Kind) × (kind_of r.kind ≡ some k))
-      passes = passed_code w.rs r (not_lower up) (code_of p 0 ep ez)
+      passes = passed_code w.rs r (not_lower up) (code_is p 0 ep ez)
 
       k : Kind
       k = passes.1.0
 
       is_kind : kind ≡ number k
       unfolding k
-      is_kind = sym r_kind ∙ number_of r.kind passes.1.0 passes.1.1
+      is_kind = sym r_kind ∙ number_is r.kind passes.1.0 passes.1.1
 
       now_kind : eqb r.kind (number k) ≡ true
       now_kind = eq-eqb r.kind (number k) (r_kind ∙ is_kind)
@@ -354,7 +346,7 @@ module _ {file index lens counts : List ℕ} {at last : ℕ} (w : Walking file i
               (el ∙ ap₂ (λ x y. lens_after lens kind (get_or counts x 0) y) is_kind (r_payload p ep) ∙ simp (eq-eqb kind 1 (is_kind ∙ e)) (stored_set lens (n + 1) len (omega arith)))
               (known_sort file index lens counts w.rs w.known r place start r_is rr.fits rr.start_is k (r_kind ∙ is_kind) many w.index_long w.counts_long is_sort len listed-to refl w.lens_long)
 
-      pub goes_on : Walking file index' lens' counts' c.at kind
+      pub goes_on : Walking file index' lens' counts' got.next.at kind
       unfolding case_from unless_refused listed
       goes_on =
           record {
@@ -363,45 +355,50 @@ module _ {file index lens counts : List ℕ} {at last : ℕ} (w : Walking file i
             passed = also r w.passed passes.0;
             lastly = last_kind_law w.rs r ∙ r_kind;
             inside = rr.next_fits;
-            same = λ flags. sym (ap (λ z. unless_refused z (case_from flags (records_from file c.at) next_records)) passes.0) ∙ sym (ap (λ z. case_from flags z w.rs) stepped) ∙ w.same flags;
-            all = append_assoc w.rs (r ∷ []) (listed (records_from file c.at)) ∙ sym (ap (λ z. w.rs ++ listed z) stepped) ∙ w.all;
+            same = λ flags. sym (ap (λ z. unless_refused z (case_from flags (records_from file got.next.at) next_records)) passes.0) ∙ sym (ap (λ z. case_from flags z w.rs) stepped) ∙ w.same flags;
+            all = append_assoc w.rs (r ∷ []) (listed (records_from file got.next.at)) ∙ sym (ap (λ z. w.rs ++ listed z) stepped) ∙ w.all;
             index_long = subst (λ z. places_at ≤ z) (sym (ap length index_is ∙ chains_length (set index (base k + n) start) kind n r.payload ∙ length-set index (base k + n) start)) w.index_long;
             lens_long = ap length el ∙ lens_length lens kind (get_or counts kind 0) p ∙ w.lens_long;
             counts_long = ap length counts_is ∙ length-set counts (number k) (n + 1) ∙ w.counts_long;
           }
 
 -- How a turn ends, from what its functions promise.
-module _ {file index lens counts : List ℕ} {last : ℕ} where
-  -- the walk is over
-  over_at : (g : Rattle.records.specs.declared.cursor.Read.Read) (p index' lens' counts' : List ℕ) (t : Turned) (w : Walked) → t ≡ ended w
-      → ((at : ℕ) → g ≡ read_at file at → p ≡ payload_of_spec file g → length file ≤ max_file → Walking file index lens counts at last → WalkEnds file index' lens' counts' w) → TurnsTo file g p last index lens counts index' lens' counts' t
-  over_at g p index' lens' counts' t w e h = subst (TurnsTo file g p last index lens counts index' lens' counts') (sym e) (record { comes_to = h })
+module _ {file index lens counts : List ℕ} {last : ℕ} (got : Record.Record) where
+  -- a kind lower than the one before
+  pub turn_falls : got.kind < last → (x : Refusal.Refusal) → x ≡ record { fault = WrongKind; place = got.place } → TurnsTo file got last index lens counts index lens counts (Err x)
+  turn_falls h x e = record { comes_to = λ at eg few w. subst (λ z. WalkEnds file index lens counts (Err z)) (sym e) (falls w got eg h) }
 
-  pub turn_stops : (g : Rattle.records.specs.declared.cursor.Read.Read) (p : List ℕ) → NoRecord g → (t : Turned) → t ≡ ended (end_of g) → TurnsTo file g p last index lens counts index lens counts t
-  turn_stops g p h t e = over_at g p index lens counts t (end_of g) e (λ at eg ep few w. ends w g h eg (end_of g) refl)
+  module _ (p index' lens' counts' : List ℕ) (ep : p ≡ part_of file got.start got.len) (up : last ≤ got.kind) where
+    -- a record that meets one of 3 to 7
+    pub turn_refuses : (f : Fault) → Taken file index lens counts got.kind got.start p index' lens' counts' (number_of f) → (x : Refusal.Refusal) → x ≡ record { fault = f; place = got.place } → TurnsTo file got last index lens counts index' lens' counts' (Err x)
+    turn_refuses f taken x e = record {
+      comes_to = λ at eg few w.
+          let some = number_some f in
+          let ends = turned w got eg p f ep up (taken.code w.rs w.known w.passed) in
+          let stay = taken.stay (λ z. omega arith) in
+          subst (λ z. WalkEnds file index' lens' counts' (Err z)) (sym e) (rw (stay.0, stay.1, stay.2) ends);
+    }
 
-  module _ (g : Rattle.records.specs.declared.cursor.Read.Read) (p : List ℕ) (place start len kind : ℕ) (c : Cursor) (is : g ≡ read.Record place start len kind c) where
-    pub turn_falls : kind < last → (t : Turned) → t ≡ ended (walked.Refused 3 place) → TurnsTo file g p last index lens counts index lens counts t
-    turn_falls h t e = over_at g p index lens counts t (walked.Refused 3 place) e (λ at eg ep few w. falls w place start len kind c (sym is ∙ eg) h)
+    -- a record that passes
+    pub turn_goes_on : Taken file index lens counts got.kind got.start p index' lens' counts' 0 → TurnsTo file got last index lens counts index' lens' counts' (Ok tt)
+    turn_goes_on taken = record {
+      comes_to = λ at eg.
+          let rr = read_record_law file at got (sym eg) in
+          let told = taken.entered refl in
+          record {
+            less = (let a = rr.inside in let b = rr.next_is in let d = rr.next_fits in let f = rr.onward in omega arith);
+            walking = λ few w. goes_on w got eg p index' lens' counts' ep up (taken.code w.rs w.known w.passed) few told.index_is told.lens_are told.counts_are;
+          };
+    }
 
-    module _ (n : ℕ) (index' lens' counts' : List ℕ) (up : last ≤ kind) (taken : Taken file index lens counts kind start p index' lens' counts' n) where
-      pub turn_refuses : (n ≡ 0 → ⊥) → (t : Turned) → t ≡ ended (walked.Refused n place) → TurnsTo file g p last index lens counts index' lens' counts' t
-      unfolding WalkEnds
-      turn_refuses ne t e = over_at g p index' lens' counts' t (walked.Refused n place) e (λ at eg ep few w. turned w place start len kind c (sym is ∙ eg) p n (ep ∙ ap (payload_of_spec file) is) up (taken.code w.rs w.known w.passed) ne)
+  -- what a turn answers, from the code of its record
+  pub turn_ends : (p index' lens' counts' : List ℕ) → p ≡ part_of file got.start got.len → last ≤ got.kind → (t : Result Unit Fault) (r : Result Unit Refusal.Refusal) → Taken file index lens counts got.kind got.start p index' lens' counts' (code_of t)
+      → MatchResult t (λ x. r ≡ Ok x) (λ f. IsErrAnd r (λ x. x ≡ record { fault = f; place = got.place })) → TurnsTo file got last index lens counts index' lens' counts' r
+  turn_ends p index' lens' counts' ep up (Ok x) r taken e = subst (TurnsTo file got last index lens counts index' lens' counts') (sym e) (turn_goes_on p index' lens' counts' ep up taken)
+  turn_ends p index' lens' counts' ep up (Err f) (Ok x) taken e = absurd e
+  turn_ends p index' lens' counts' ep up (Err f) (Err y) taken e = turn_refuses p index' lens' counts' ep up f taken y e
 
-      pub turn_goes_on : n ≡ 0 → TurnsTo file g p last index lens counts index' lens' counts' (record { over = false; walked = walked.Read; next = c.at; kind = kind })
-      turn_goes_on ez = record {
-        comes_to = λ at eg ep.
-            let rr = read_record_law file at place start len kind c (sym (sym is ∙ eg)) in
-            let told = taken.entered ez in
-            record {
-              less = (let a = rr.inside in let b = rr.next_is in let d = rr.next_fits in let f = rr.onward in omega arith);
-              walking = λ few w. goes_on w place start len kind c (sym is ∙ eg) p index' lens' counts' (ep ∙ ap (payload_of_spec file) is) up (sym ez ∙ taken.code w.rs w.known w.passed) few told.index_is told.lens_are told.counts_are;
-            };
-      }
-
--- The walk, from what its functions promise.
-pub whole_walk : (file index index' lens lens' counts counts' index'' lens'' counts'' : List ℕ) (t : Turned) → Clears counts 0 kinds counts' → lens' ≡ stored lens 0 0 → Clears index hashes_at hashes index'
-    → PassesTo file index' lens' counts' index'' lens'' counts'' t → WalksTo file index lens counts index'' lens'' counts'' t.walked
-whole_walk file index index' lens lens' counts counts' index'' lens'' counts'' t ec el empty passes = λ hi hl hc few.
+pub whole_walk : (file index index' lens lens' counts counts' index'' lens'' counts'' : List ℕ) (r : Result Unit Refusal.Refusal) → Clears counts 0 kinds counts' → lens' ≡ stored lens 0 0 → Clears index hashes_at hashes index'
+    → PassesTo file index' lens' counts' index'' lens'' counts'' r → WalksTo file index lens counts index'' lens'' counts'' r
+whole_walk file index index' lens lens' counts counts' index'' lens'' counts'' r ec el empty passes = λ hi hl hc few.
     passes few (starts file index' lens lens' counts counts' (subst (λ z. places_at ≤ z) (sym empty.long) hi) (empty.zeros (omega arith)) hl hc ec el)

@@ -9,11 +9,10 @@ use Rattle.index.specs.enter.Entering.{stored, lens_after, chains_after}
 use Rattle.index.specs.entries.Known.{Known}
 use Rattle.walk.specs.kinds.Codes.{code_as}
 
--- the index and the counts with one entry more behind n others of a kind, whose entries begin at `base`, where the code is 0; r is the code
-pub record Adds (index counts : List ℕ) (kind base n code start : ℕ) (index' counts' : List ℕ) (r : ℕ) : Type 0 where
-  pub same : r ≡ code
-  pub added : code ≡ 0 → (index' ≡ stored index (base + n) start) × (counts' ≡ stored counts kind (n + 1))
-  pub stay : (code ≡ 0 → ⊥) → (index' ≡ index) × (counts' ≡ counts)
+-- the index and the counts with one entry more of a kind, behind the others
+pub record Adds (index counts : List ℕ) (k : Kind) (start : ℕ) (index' counts' : List ℕ) : Type 0 where
+  pub index_is : index' ≡ stored index (base k + get_or counts (number k) 0) start
+  pub counts_are : counts' ≡ stored counts (number k) (get_or counts (number k) 0 + 1)
 
 -- a record of a kind with the payload p, which begins at start, is entered behind the others of its kind
 pub record Entered (index lens counts : List ℕ) (kind start : ℕ) (p index' lens' counts' : List ℕ) : Type 0 where

@@ -1,22 +1,22 @@
 -- What our own crates promise each other; nothing here has to be believed.
 -- The walk over a file, and how it ends.
-use Rattle.std.specs.Prelude.{ℕ, ◌-◌, ◌<◌, ◌≤◌, ◌≡◌, Bool, true, false, List, [], ◌++◌, length}
-use Rattle.casefile.specs.Records.{Record, records_of, listed}
+use Rattle.std.specs.Prelude.{ℕ, ◌-◌, ◌<◌, ◌≤◌, ◌≡◌, List, [], ◌++◌, length, Some, Result, Ok, Err}
+use Rattle.casefile.specs.Records
+use Rattle.casefile.specs.Records.{records_of, listed}
 use Rattle.records.specs.cursor.Reading.{read_at}
-use Rattle.records.specs.reader.Parts.{payload_of_spec}
+use Rattle.records.specs.declared.cursor.Record.{Record}
+use Rattle.records.specs.declared.refusal.Refusal.{Refusal}
+use Rattle.records.specs.refusal.Numbers.{refusal_as}
 use Rattle.casefile.specs.Kinds.{Kind, payloads}
 use Rattle.casefile.specs.Refusals.{last_kind, refuse_whole}
 use Rattle.casefile.specs.Cases.{refused_case, unless_refused, accepted_case, case_from}
 use Rattle.casefile.specs.Promises.{records_from, Passed}
 use Rattle.index.specs.layout.Layout.{max_file, places_at, kinds, all_sorts}
 use Rattle.index.specs.entries.Known.{Known}
-use Rattle.walk.specs.declared.walk.Walked.{Walked}
-use Rattle.walk.specs.declared.walk.Walked.TheVariants.{Refused, Read}
-use Rattle.walk.specs.declared.walk.Turned.{Turned}
 
 -- the walk is under way: the tables hold the records before `at`, whose last kind is `last`, and what is left of the file decides
 pub record Walking (file index lens counts : List ℕ) (at last : ℕ) : Type 0 where
-  pub rs : List Record
+  pub rs : List Records.Record
   pub known : Known file index lens counts rs
   pub passed : Passed rs
   pub lastly : last_kind rs ≡ last
@@ -34,42 +34,28 @@ pub record AllRead (file index lens counts : List ℕ) : Type 0 where
   pub left : (flags : ℕ) → case_from flags (records_of file) [] ≡ unless_refused (refuse_whole (listed (records_of file)) flags) (accepted_case (listed (records_of file)) (payloads Kind.path (listed (records_of file))))
 
 -- what the walk answers: a refusal by 2 to 7, or that every record passed
-unfoldable pub WalkEnds : List ℕ → List ℕ → List ℕ → List ℕ → Walked → Type 0
-WalkEnds file index lens counts (Refused n p) = (flags : ℕ) → case_from flags (records_of file) [] ≡ refused_case (record { number = n; place = p })
-WalkEnds file index lens counts Read = AllRead file index lens counts
-
--- how a walk ends where no record is read
-abbrev pub end_of : Rattle.records.specs.declared.cursor.Read.Read → Walked
-end_of (Rattle.records.specs.declared.cursor.Read.Read.Record place start len kind c) = Read
-end_of (Rattle.records.specs.declared.cursor.Read.Read.Refused n p) = Refused n p
-end_of Rattle.records.specs.declared.cursor.Read.Read.End = Read
-
--- a turn with which the walk is over
-abbrev pub ended : Walked → Turned
-ended w = record { over = true; walked = w; next = 0; kind = 0 }
+unfoldable pub WalkEnds : List ℕ → List ℕ → List ℕ → List ℕ → Result Unit Refusal → Type 0
+WalkEnds file index lens counts (Err r) = (flags : ℕ) → case_from flags (records_of file) [] ≡ refused_case (refusal_as r)
+WalkEnds file index lens counts (Ok x) = AllRead file index lens counts
 
 -- the walk goes on behind a record: the place moves, and the tables hold one record more
 pub record GoesOn (file index lens counts index' lens' counts' : List ℕ) (at last next kind : ℕ) : Type 0 where
   pub less : length file - next < length file - at
   pub walking : length file ≤ max_file → Walking file index lens counts at last → Walking file index' lens' counts' next kind
 
--- how one turn ends at a place: the end of the walk, or that it goes on
-abbrev pub ends_or : Bool → Type 0 → Type 0 → Type 0
-ends_or true a b = a
-ends_or false a b = b
+-- how one turn ends at a place, with a record that was read there: the end of the walk, or that it goes on
+abbrev pub TurnEnds : List ℕ → List ℕ → List ℕ → List ℕ → List ℕ → List ℕ → List ℕ → ℕ → ℕ → Record → Result Unit Refusal → Type 0
+TurnEnds file index lens counts index' lens' counts' at last got (Err r) = length file ≤ max_file → Walking file index lens counts at last → WalkEnds file index' lens' counts' (Err r)
+TurnEnds file index lens counts index' lens' counts' at last got (Ok x) = GoesOn file index lens counts index' lens' counts' at last got.next.at got.kind
 
-abbrev pub TurnEnds : List ℕ → List ℕ → List ℕ → List ℕ → List ℕ → List ℕ → List ℕ → ℕ → ℕ → Turned → Type 0
-TurnEnds file index lens counts index' lens' counts' at last t =
-    ends_or t.over (length file ≤ max_file → Walking file index lens counts at last → WalkEnds file index' lens' counts' t.walked) (GoesOn file index lens counts index' lens' counts' at last t.next t.kind)
-
--- the promise of a turn, at whatever place its answer was read, with the payload that goes with the answer
-pub record TurnsTo (file : List ℕ) (got : Rattle.records.specs.declared.cursor.Read.Read) (payload : List ℕ) (last : ℕ) (index lens counts index' lens' counts' : List ℕ) (t : Turned) : Type 0 where
-  pub comes_to : (at : ℕ) → got ≡ read_at file at → payload ≡ payload_of_spec file got → TurnEnds file index lens counts index' lens' counts' at last t
+-- the promise of a turn, at whatever place its record was read
+pub record TurnsTo (file : List ℕ) (got : Record) (last : ℕ) (index lens counts index' lens' counts' : List ℕ) (r : Result Unit Refusal) : Type 0 where
+  pub comes_to : (at : ℕ) → Ok (Some got) ≡ read_at file at → TurnEnds file index lens counts index' lens' counts' at last got r
 
 -- the promise of a pass: all turns from the start of a file on
-abbrev pub PassesTo : List ℕ → List ℕ → List ℕ → List ℕ → List ℕ → List ℕ → List ℕ → Turned → Type 0
-PassesTo file index lens counts index' lens' counts' t = length file ≤ max_file → Walking file index lens counts 0 0 → WalkEnds file index' lens' counts' t.walked
+abbrev pub PassesTo : List ℕ → List ℕ → List ℕ → List ℕ → List ℕ → List ℕ → List ℕ → Result Unit Refusal → Type 0
+PassesTo file index lens counts index' lens' counts' r = length file ≤ max_file → Walking file index lens counts 0 0 → WalkEnds file index' lens' counts' r
 
 -- the promise of the walk, for tables of the right sizes
-abbrev pub WalksTo : List ℕ → List ℕ → List ℕ → List ℕ → List ℕ → List ℕ → List ℕ → Walked → Type 0
+abbrev pub WalksTo : List ℕ → List ℕ → List ℕ → List ℕ → List ℕ → List ℕ → List ℕ → Result Unit Refusal → Type 0
 WalksTo file index lens counts index' lens' counts' r = places_at ≤ length index → length lens ≡ all_sorts → length counts ≡ kinds → length file ≤ max_file → WalkEnds file index' lens' counts' r

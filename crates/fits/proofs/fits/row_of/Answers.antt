@@ -1,5 +1,4 @@
 -- `row_of` meets its contract: a state's row or an arrow's, by the length of the payload.
-use borrow.Author.Rules.{rules}
 use Rattle.fits.proofs.fits.Filling.{row_state, row_arrow}
 use Rattle.fits.proofs.fits.row_of.Goals as goal
 
@@ -11,6 +10,5 @@ returns-then-len-eq1 c =
 pub returns : goal.returns
 returns c =
     let a = c.args in
-    let u = c.unions_of-unions.ensures in
-    row_arrow _ _ a.froms.now a.tos.now _ _ _ a.fit.now c.place_at-place.ensures.value c.length_at-len.ensures c.if-len-eq1.false _ _ _
-    c.arrow_sorts-sorts.ensures u.0 u.1
+    let u = c.row_with.ensures in
+    row_arrow _ _ a.froms.now a.tos.now _ _ _ a.fit.now c.place_at-place.ensures.value c.length_at-len.ensures c.if-len-eq1.false _ _ u.same c.arrow_sorts.ensures u.results u.arguments

@@ -1,5 +1,6 @@
 -- `fits_sort` meets its contract.
-use borrow.Author.Rules.{rules}
+use mathlib.Core.Path.{ap}
+use Rattle.fits.specs.declared.masks.Row.{Row}
 use Rattle.fits.proofs.misfits.Misfits.{tree_tested, unlisted_tested, listed_tested}
 use Rattle.fits.proofs.misfits.fits_sort.Goals as goal
 
@@ -10,4 +11,4 @@ pub returns-then-s-gt-MAX_SORTS : goal.returns-then-s-gt-MAX_SORTS
 returns-then-s-gt-MAX_SORTS c = unlisted_tested _ _ c.args.fit.now _ _ _ c.if-s-gt-MAX_SORTS.true
 
 pub returns : goal.returns
-returns c = listed_tested _ _ c.args.fit.now _ _ _ c.if-s-eq0.false c.mask_at-sorts.ensures
+returns c = listed_tested _ _ c.args.fit.now _ _ _ c.if-s-eq0.false (ap (λ (row : Row). row.sorts) c.row_at.ensures)

@@ -1,11 +1,10 @@
-use Rattle.intake.proofs.plan.Contents.{counts_none, counts_empty, counts_by}
+-- `counts_wrong` meets its contract.
+use borrow.Author.Rules.{rules}
+use Rattle.intake.proofs.plan.Contents.{counted_as}
 use Rattle.intake.proofs.plan.counts_wrong.Goals as goal
 
-pub returns-then-states-eq0 : goal.returns-then-states-eq0
-returns-then-states-eq0 c = λ file index lens rs kn. counts_none kn _ _ _ c.place_at-states.ensures.value c.place_at-nonterminals.ensures.value c.place_at-rules.ensures.value c.if-states-eq0.true
-
 pub returns-then-nonterminals-eq0 : goal.returns-then-nonterminals-eq0
-returns-then-nonterminals-eq0 c = λ file index lens rs kn. counts_empty kn _ _ _ c.place_at-states.ensures.value c.place_at-nonterminals.ensures.value c.place_at-rules.ensures.value c.if-states-eq0.false c.if-nonterminals-eq0.true
+returns-then-nonterminals-eq0 c = λ file index lens rs kn. rw (counted_as kn _ _ _ c.count_of-states.ensures.value c.count_of-nonterminals.ensures.value c.count_of-rules.ensures.value) (search rules)
 
-pub returns : goal.returns
-returns c = λ file index lens rs kn. counts_by kn _ _ _ c.place_at-states.ensures.value c.place_at-nonterminals.ensures.value c.place_at-rules.ensures.value c.if-states-eq0.false c.if-nonterminals-eq0.false
+pub returns-else-nonterminals-eq0 : goal.returns-else-nonterminals-eq0
+returns-else-nonterminals-eq0 c = λ file index lens rs kn. rw (counted_as kn _ _ _ c.count_of-states.ensures.value c.count_of-nonterminals.ensures.value c.count_of-rules.ensures.value) (search rules)

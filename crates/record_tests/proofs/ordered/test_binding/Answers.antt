@@ -1,6 +1,6 @@
 -- `test_binding` meets its contract.
 use Prim.Native.Nat.{ℕ, ◌<◌}
-use mathlib.Core.Path.{◌≡◌}
+use mathlib.Core.Path.{◌≡◌, ◌∙◌}
 use lib.ListN.{length}
 use Rattle.casefile.specs.Fields.{word}
 use mathlib.Core.List.{List}
@@ -14,6 +14,7 @@ use Rattle.casefile.specs.Refusals.{wrong_length, too_many, too_large, out_of_ra
 use Rattle.index.specs.layout.Layout.{max_bindings}
 use Rattle.index.specs.entries.Codes.{code_for}
 use Rattle.index.proofs.entries.Earlier.{first_binding, next_binding}
+use Rattle.record_tests.proofs.ordered.Pairs.{before_is}
 use Rattle.record_tests.proofs.ordered.test_binding.Goals as goal
 
 -- where 4 to 6 are not met, 7 decides
@@ -46,14 +47,14 @@ returns-then-n-eq0 c rs ix fit e t =
     let d = decided rs c.args.p.now c.if-p-ne4.false c.if-n-ge-MAX_BINDINGS.false c.word_at-f.ensures.value c.word_at-t.ensures.value c.if-nonterminals-f.false c.if-types-t.false ix.counted e t in
     rw (first_binding c.args.p.now ix c.if-n-eq0.true) at d
 
-pub returns-then-precedes : goal.returns-then-precedes
-returns-then-precedes c rs ix fit e t =
+pub returns-then-lt : goal.returns-then-lt
+returns-then-lt c rs ix fit e t =
     let d = decided rs c.args.p.now c.if-p-ne4.false c.if-n-ge-MAX_BINDINGS.false c.word_at-f.ensures.value c.word_at-t.ensures.value c.if-nonterminals-f.false c.if-types-t.false ix.counted e t in
-    let o = next_binding c.args.p.now (omega arith) c.precedes.ensures ix fit c.place_at-last.ensures.value c.word_at-g.ensures.value c.word_at-u.ensures.value c.word_at-f.ensures.value c.word_at-t.ensures.value in
-    rw (o, c.if-precedes.true) at d
+    let o = next_binding c.args.p.now (omega arith) (c.lt.ensures ∙ before_is _ _ _ _) ix fit c.place_at-last.ensures.value c.word_at-g.ensures.value c.word_at-u.ensures.value c.word_at-f.ensures.value c.word_at-t.ensures.value in
+    rw (o, c.if-lt.true) at d
 
-pub returns-else-precedes : goal.returns-else-precedes
-returns-else-precedes c rs ix fit e t =
+pub returns-else-lt : goal.returns-else-lt
+returns-else-lt c rs ix fit e t =
     let d = decided rs c.args.p.now c.if-p-ne4.false c.if-n-ge-MAX_BINDINGS.false c.word_at-f.ensures.value c.word_at-t.ensures.value c.if-nonterminals-f.false c.if-types-t.false ix.counted e t in
-    let o = next_binding c.args.p.now (omega arith) c.precedes.ensures ix fit c.place_at-last.ensures.value c.word_at-g.ensures.value c.word_at-u.ensures.value c.word_at-f.ensures.value c.word_at-t.ensures.value in
-    rw (o, c.if-precedes.false) at d
+    let o = next_binding c.args.p.now (omega arith) (c.lt.ensures ∙ before_is _ _ _ _) ix fit c.place_at-last.ensures.value c.word_at-g.ensures.value c.word_at-u.ensures.value c.word_at-f.ensures.value c.word_at-t.ensures.value in
+    rw (o, c.if-lt.false) at d

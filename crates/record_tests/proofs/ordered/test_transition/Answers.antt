@@ -1,6 +1,6 @@
 -- `test_transition` meets its contract.
 use Prim.Native.Nat.{ℕ, ◌+◌, ◌<◌}
-use mathlib.Core.Path.{◌≡◌, ◌∙◌}
+use mathlib.Core.Path.{◌≡◌, ap, ◌∙◌}
 use mathlib.Core.Bool.{Bool, false}
 use lib.ListN.{length, drop, get_or}
 use Rattle.casefile.specs.Fields.{byte}
@@ -18,6 +18,8 @@ use Rattle.index.specs.entries.Codes.{code_for}
 use Rattle.index.specs.entries.Index.{Indexed}
 use Rattle.index.specs.entries.Tests.{Fitting}
 use Rattle.index.proofs.entries.Earlier.{first_transition, next_transition, arities_length, arity_there}
+use Rattle.record_tests.proofs.ordered.Pairs.{before_is}
+use Rattle.record_tests.proofs.ordered.Targets.{behind}
 use Rattle.record_tests.proofs.ordered.test_transition.Goals as goal
 
 -- test 6, where state and constructor are in range, is that of the targets
@@ -57,25 +59,25 @@ returns-then-states-q c rs ix fit e is fits =
 pub returns-then-wrong_targets : goal.returns-then-wrong_targets
 unfolding code_for wrong_length too_many too_large
 returns-then-wrong_targets c rs ix fit e is fits =
-    let r = ranges rs c.args.p.now c.byte_at-q.ensures.value c.byte_at-a.ensures.value c.if-states-q.false c.if-constructors-a.false c.place_at.ensures.value c.byte_at-arity.ensures.value c.wrong_targets.ensures e is fits in
+    let r = ranges rs c.args.p.now c.byte_at-q.ensures.value c.byte_at-a.ensures.value c.if-states-q.false c.if-constructors-a.false c.place_at.ensures.value c.byte_at-arity.ensures.value (c.wrong_targets.ensures ∙ ap (wrong_targets_spec _ _) (behind 2 c.args.p.now)) e is fits in
     simp (eq-eqb _ 6 c.if-p-ne6.false, ix.counted, lt-leb max_transitions _ c.if-n-ge-MAX_TRANSITIONS.false, r, c.if-wrong_targets.true)
 
 pub returns-then-n-eq0 : goal.returns-then-n-eq0
 returns-then-n-eq0 c rs ix fit e is fits =
-    let r = ranges rs c.args.p.now c.byte_at-q.ensures.value c.byte_at-a.ensures.value c.if-states-q.false c.if-constructors-a.false c.place_at.ensures.value c.byte_at-arity.ensures.value c.wrong_targets.ensures e is fits in
+    let r = ranges rs c.args.p.now c.byte_at-q.ensures.value c.byte_at-a.ensures.value c.if-states-q.false c.if-constructors-a.false c.place_at.ensures.value c.byte_at-arity.ensures.value (c.wrong_targets.ensures ∙ ap (wrong_targets_spec _ _) (behind 2 c.args.p.now)) e is fits in
     let d = decided rs c.args.p.now c.if-p-ne6.false c.if-n-ge-MAX_TRANSITIONS.false ix.counted (r ∙ c.if-wrong_targets.false) in
     rw (first_transition c.args.p.now ix c.if-n-eq0.true) at d
 
-pub returns-then-precedes : goal.returns-then-precedes
-returns-then-precedes c rs ix fit e is fits =
-    let r = ranges rs c.args.p.now c.byte_at-q.ensures.value c.byte_at-a.ensures.value c.if-states-q.false c.if-constructors-a.false c.place_at.ensures.value c.byte_at-arity.ensures.value c.wrong_targets.ensures e is fits in
+pub returns-then-lt : goal.returns-then-lt
+returns-then-lt c rs ix fit e is fits =
+    let r = ranges rs c.args.p.now c.byte_at-q.ensures.value c.byte_at-a.ensures.value c.if-states-q.false c.if-constructors-a.false c.place_at.ensures.value c.byte_at-arity.ensures.value (c.wrong_targets.ensures ∙ ap (wrong_targets_spec _ _) (behind 2 c.args.p.now)) e is fits in
     let d = decided rs c.args.p.now c.if-p-ne6.false c.if-n-ge-MAX_TRANSITIONS.false ix.counted (r ∙ c.if-wrong_targets.false) in
-    let o = next_transition c.args.p.now (omega arith) c.precedes.ensures ix fit c.place_at-last.ensures.value c.byte_at-r.ensures.value c.byte_at-b.ensures.value c.byte_at-q.ensures.value c.byte_at-a.ensures.value in
-    rw (o, c.if-precedes.true) at d
+    let o = next_transition c.args.p.now (omega arith) (c.lt.ensures ∙ before_is _ _ _ _) ix fit c.place_at-last.ensures.value c.byte_at-r.ensures.value c.byte_at-b.ensures.value c.byte_at-q.ensures.value c.byte_at-a.ensures.value in
+    rw (o, c.if-lt.true) at d
 
-pub returns-else-precedes : goal.returns-else-precedes
-returns-else-precedes c rs ix fit e is fits =
-    let r = ranges rs c.args.p.now c.byte_at-q.ensures.value c.byte_at-a.ensures.value c.if-states-q.false c.if-constructors-a.false c.place_at.ensures.value c.byte_at-arity.ensures.value c.wrong_targets.ensures e is fits in
+pub returns-else-lt : goal.returns-else-lt
+returns-else-lt c rs ix fit e is fits =
+    let r = ranges rs c.args.p.now c.byte_at-q.ensures.value c.byte_at-a.ensures.value c.if-states-q.false c.if-constructors-a.false c.place_at.ensures.value c.byte_at-arity.ensures.value (c.wrong_targets.ensures ∙ ap (wrong_targets_spec _ _) (behind 2 c.args.p.now)) e is fits in
     let d = decided rs c.args.p.now c.if-p-ne6.false c.if-n-ge-MAX_TRANSITIONS.false ix.counted (r ∙ c.if-wrong_targets.false) in
-    let o = next_transition c.args.p.now (omega arith) c.precedes.ensures ix fit c.place_at-last.ensures.value c.byte_at-r.ensures.value c.byte_at-b.ensures.value c.byte_at-q.ensures.value c.byte_at-a.ensures.value in
-    rw (o, c.if-precedes.false) at d
+    let o = next_transition c.args.p.now (omega arith) (c.lt.ensures ∙ before_is _ _ _ _) ix fit c.place_at-last.ensures.value c.byte_at-r.ensures.value c.byte_at-b.ensures.value c.byte_at-q.ensures.value c.byte_at-a.ensures.value in
+    rw (o, c.if-lt.false) at d

@@ -1,25 +1,16 @@
-use mathlib.Core.Path.{refl}
-use native.Mathlib.Omega.{arith}
-use Rattle.record_tests.proofs.rule_record.Cells.{wrong_miss, wrong_hit, wrong_done}
+use mathlib.Core.Path.{◌∙◌}
+use borrow.Author.Tests.{tests}
+use Rattle.std.proofs.Common.{rules}
+use Rattle.std.proofs.lemmas.Iterator.Search.{any_from_yields_List}
+use Rattle.casefile.specs.Tables.{cells_of}
+use Rattle.casefile.specs.Refusals.{wrong_cell_spec}
+use Rattle.record_tests.specs.rule_record.Cells.{cell_from}
+use Rattle.record_tests.proofs.Parts.{any_is, parts_yielded}
+use Rattle.record_tests.proofs.rule_record.Cells.{short_cells, cells_more}
 use Rattle.record_tests.proofs.rule_record.wrong_cells.Goals as goal
 
-pub loop-i-init : goal.loop-i-init
-loop-i-init c = (omega arith, refl)
-
-pub overflow_sub-p : goal.overflow_sub-p
-overflow_sub-p c = omega arith
-
-pub returns-then-wrong_cell : goal.returns-then-wrong_cell
-returns-then-wrong_cell c = wrong_hit _ _ _ _ _ _ (omega arith) c.wrong_cell.ensures c.if-wrong_cell.true c.loop-i.invariant.1
-
-pub overflow_add-i : goal.overflow_add-i
-overflow_add-i c = omega arith
-
-pub loop-i-smaller : goal.loop-i-smaller
-loop-i-smaller c = omega arith
-
-pub loop-i-preserved : goal.loop-i-preserved
-loop-i-preserved c = (omega arith, wrong_miss _ _ _ _ _ _ (omega arith) c.wrong_cell.ensures c.if-wrong_cell.false c.loop-i.invariant.1)
-
 pub returns : goal.returns
-returns c = wrong_done _ _ _ _ c.loop-i.i c.loop-i.invariant.1 (omega arith)
+returns c =
+    let wrong = wrong_cell_spec c.args.constructors c.args.nonterminals c.args.parameters in
+    let y = parts_yielded 4 (λ p. cell_from p 0) cells_of short_cells cells_more c.args.p.now c.chunks_exact.ensures.rest c.chunks_exact.ensures.size in
+    any_from_yields_List wrong _ _ _ c.any.ensures.ran y (λ x b q k. search (rules, tests)) ∙ any_is wrong (cells_of c.args.p.now)

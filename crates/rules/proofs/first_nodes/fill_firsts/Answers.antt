@@ -1,11 +1,9 @@
 -- `fill_firsts` meets its contract. The invariant: the entries below f are in the table, `at` is the first node of rule f, and
 -- no rule below f has more nodes than `most`.
-use Prim.Native.Nat.{◌-◌}
 use native.Mathlib.Omega.{arith}
 use mathlib.Core.Path.{◌∙◌}
 use lib.ListN.{length-set}
-use Rattle.rules.proofs.first_nodes.Numbering.{Sofar, numbers_none, not_numbered, numbers_more, numbers_all}
-use borrow.Author.Rules.{rules}
+use Rattle.rules.proofs.first_nodes.Numbering.{numbers_none, not_numbered, numbers_more, numbers_all}
 use Rattle.index.specs.layout.Layout.{most_nodes_at}
 use Rattle.rules.proofs.first_nodes.fill_firsts.Goals as goal
 
@@ -28,7 +26,7 @@ pub overflow_add-at : goal.overflow_add-at
 overflow_add-at c = omega (arith, c.loop-f.invariant.counting.small, c.loop-f.invariant.counting.few, c.nodes_of-n.ensures.few)
 
 pub loop-f-preserved : goal.loop-f-preserved
-loop-f-preserved c = numbers_more c.loop-f.invariant _ c.loop-f-test.true c.nodes_of-n.ensures _ c.larger-most.ensures
+loop-f-preserved c = numbers_more c.loop-f.invariant _ c.loop-f-test.true c.nodes_of-n.ensures _ c.max-most.ensures
 
 pub overflow_cast-firsts-2 : goal.overflow_cast-firsts-2
 overflow_cast-firsts-2 c = omega (arith, c.loop-f.invariant.most_small)

@@ -1,8 +1,6 @@
 -- `nodes_in_all` meets its contract. The invariant: the rules below f have `all` nodes.
-use Prim.Native.Nat.{◌-◌}
 use native.Mathlib.Omega.{arith}
-use Rattle.rules.proofs.first_nodes.Numbering.{Counted, counted_none, counted_more, counted_all, not_counted}
-use borrow.Author.Rules.{rules}
+use Rattle.rules.proofs.first_nodes.Numbering.{counted_none, counted_more, counted_all, not_counted}
 use Rattle.rules.proofs.first_nodes.nodes_in_all.Goals as goal
 
 pub returns-then-rules-gt-MAX_NONTERMINALS : goal.returns-then-rules-gt-MAX_NONTERMINALS

@@ -1,6 +1,5 @@
 -- `nodes_of` meets its contract.
 use Rattle.rules.proofs.first_nodes.Numbering.{nodes_none, nodes_long, nodes_counted}
-use borrow.Author.Rules.{rules}
 use Rattle.rules.proofs.first_nodes.nodes_of.Goals as goal
 
 pub returns-then-f-gt-LAST_NONTERMINAL : goal.returns-then-f-gt-LAST_NONTERMINAL

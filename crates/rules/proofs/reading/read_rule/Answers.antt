@@ -1,6 +1,4 @@
-use borrow.Author.Tests.{not-true, not-false}
 use Rattle.rules.proofs.reading.OneRule.{rule_none, rule_long, rule_room, rule_wrong, rule_right}
-use borrow.Author.Rules.{rules}
 use Rattle.rules.proofs.reading.read_rule.Goals as goal
 
 pub returns-then-f-gt-LAST_NONTERMINAL : goal.returns-then-f-gt-LAST_NONTERMINAL

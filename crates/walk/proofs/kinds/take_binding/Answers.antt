@@ -1,12 +1,15 @@
 -- `take_binding` meets its contract.
 use mathlib.Core.Path.{refl}
+use borrow.Author.Rules.{rules}
 use Rattle.casefile.specs.Kinds.{Kind, number}
 use Rattle.walk.proofs.kinds.Dispatch.{of_binding}
-use Rattle.walk.proofs.kinds.Taking.{plain_added}
+use Rattle.walk.proofs.kinds.Taking.{refused, plain_added}
 use Rattle.walk.proofs.kinds.take_binding.Goals as goal
+
+pub returns-in_err-test_binding : goal.returns-in_err-test_binding
+unfolding number
+returns-in_err-test_binding c = λ lens. refused Kind.binding (λ rs known ok. of_binding _ _ lens _ rs known ok _ _ _ c.count_of-n.ensures.value _ _ c.count_of-nonterminals.ensures.value c.count_of-types.ensures.value c.test_binding.ensures) c.in_err-test_binding.was (search rules)
 
 pub returns : goal.returns
 unfolding number
-returns c =
-    let counted = c.place_at-n.ensures.value in
-    λ lens. plain_added _ _ lens _ _ _ Kind.binding _ (λ rs known ok. of_binding _ _ lens _ rs known ok _ _ _ counted _ _ c.place_at-nonterminals.ensures.value c.place_at-types.ensures.value c.test_binding-number.ensures) _ _ counted c.add_entry.ensures refl refl
+returns c = λ lens. plain_added Kind.binding (λ rs known ok. of_binding _ _ lens _ rs known ok _ _ _ c.count_of-n.ensures.value _ _ c.count_of-nonterminals.ensures.value c.count_of-types.ensures.value c.test_binding.ensures) c.in_ok-test_binding.was c.add_entry.ensures refl refl

@@ -6,10 +6,10 @@ use Rattle.index.specs.layout.Layout.{max_file}
 use Rattle.walk.specs.walk.Walking.{Walking}
 use Rattle.walk.proofs.walk.pass.Given as goal
 
-abbrev pub invariant-loop-r : goal.invariant-loop-r
-invariant-loop-r l =
-    (l.r.file.now ≡ l.fn.file)
-    × (length l.fn.file ≤ max_file → Walking l.fn.file l.fn.index l.fn.lens l.fn.counts 0 0 → Walking l.fn.file l.index l.lens l.counts l.r.at l.last)
+abbrev pub invariant-loop-record : goal.invariant-loop-record
+invariant-loop-record l =
+    (l.reader.file.now ≡ l.fn.file)
+    × (length l.fn.file ≤ max_file → Walking l.fn.file l.fn.index l.fn.lens l.fn.counts 0 0 → Walking l.fn.file l.index l.lens l.counts l.reader.at l.last)
 
-abbrev pub decreases-loop-r : goal.decreases-loop-r
-decreases-loop-r l = length l.fn.file - l.r.at
+abbrev pub decreases-loop-record : goal.decreases-loop-record
+decreases-loop-record l = length l.fn.file - l.reader.at

@@ -1,12 +1,10 @@
--- `Cursor::next` meets its contract. The invariant: what is read from the place in hand on is what is read from the cursor on. The
--- measure: the bytes that are left.
-use Prim.Native.Nat.{◌+◌, ◌-◌}
-use mathlib.Core.Path.{◌≡◌, refl, sym, ap, ◌∙◌}
+-- `Cursor::next` meets its contract.
+use Prim.Native.Nat.{◌+◌}
+use mathlib.Core.Path.{◌≡◌, sym, ap, ◌∙◌}
 use mathlib.Core.Bool.{true, false}
 use native.Mathlib.Omega.{arith}
-use lib.ListN.{length}
 use borrow.Author.Tests.{not-false, not-true}
-use borrow.Author.Rules.{rules}
+use Rattle.std.specs.Prelude.{Err}
 use Rattle.casefile.specs.Fields.{word}
 use Rattle.casefile.specs.Records.{is_remark}
 use Rattle.casefile.proofs.Walk.{whole_fits, whole_cut}
@@ -14,16 +12,10 @@ use Rattle.records.specs.cursor.Reading.{read_at}
 use Rattle.records.proofs.cursor.Reading.{read_past, read_whole, read_cut, read_remark}
 use Rattle.records.proofs.cursor.Cursor.next.Goals as goal
 
-pub loop-at-init : goal.loop-at-init
-loop-at-init c = refl
-
-pub overflow_add-len : goal.overflow_add-len
-overflow_add-len c = let few = c.word_at-len.ensures.bound in omega arith
-
 pub returns-then-file-at : goal.returns-then-file-at
 returns-then-file-at c =
     let len = c.word_at-len.ensures.value in
-    c.cut.ensures ∙ sym (c.loop-at.invariant ∙ read_cut _ _ (omega arith) (whole_cut _ _ (omega arith)))
+    ap Err c.at.ensures ∙ sym (c.loop-at.invariant ∙ read_cut _ _ (omega arith) (whole_cut _ _ (omega arith)))
 
 pub returns-then-counts : goal.returns-then-counts
 returns-then-counts c =
@@ -34,9 +26,6 @@ returns-then-counts c =
     let few = c.word_at-kind.ensures.bound in
     let no-remark : is_remark (word file (at + 2)) ≡ false = not-true _ (rw kind at (sym (c.counts.ensures few) ∙ c.if-counts.true)) in
     rw (len, kind) (sym (c.loop-at.invariant ∙ read_whole file at (omega arith) (whole_fits _ _ (omega arith)) no-remark))
-
-pub loop-at-smaller : goal.loop-at-smaller
-loop-at-smaller c = omega arith
 
 pub loop-at-preserved : goal.loop-at-preserved
 loop-at-preserved c =
