@@ -3,34 +3,23 @@
 use Prim.Native.Nat.{ℕ, ◌+◌, ◌-◌, ◌*◌, ◌/◌, ◌%◌, ◌<◌, ◌≤◌}
 use native.Mathlib.Omega.{arith}
 use native.Mathlib.Decide.{ℕ_discrete}
-use mathlib.Core.Path.{◌≡◌, refl, sym, ap, ◌∙◌}
+use mathlib.Core.Path.{◌≡◌, sym, ap, ◌∙◌}
 use mathlib.Core.Logic.{◌⊎◌, inl, inr}
 use mathlib.Core.Bool.{Bool, true, false}
 use mathlib.Core.List.{List}
-use borrow.Author.Tests.{eqb-true}
 use lib.Bits.{bit_and, bit_or}
-use lib.Dec.{eqb}
 use lib.ListN.{length, get_or}
 use Rattle.scheme.specs.Flags.{bit}
 use Rattle.marks.specs.Marks.{bit_of}
 use Rattle.marks.proofs.Bits.{bit_small, bit_two, zero_bit, and_bit, or_bit, minus_bit}
-use Rattle.answers.specs.Answers.{cell_at, Covered, IsCell, Stamped, Says, Looks, Under, Learns}
+use Rattle.std.specs.Prelude.{Option, Some}
+use Rattle.answers.specs.Answers.{cell_at, Covered, IsCell, Says, Looks, Under, Learns}
 use Rattle.answers.specs.declared.Outlook.{Outlook}
 use Rattle.answers.proofs.Cells.{same_place, written, written_long, written_other, written_first, written_second, written_third}
 
 -- a test whose number is above those of all answers has none
 pub fresh : (memo : List ℕ) (wide stamp at goal : ℕ) (b : Bool) → Under memo stamp → Says memo wide stamp at goal b → ⊥
 fresh memo wide stamp at goal b u s = let low = u (at * wide + goal / 32) in let is = s.stamped in omega arith
-
--- the test of the first word of a cell
-pub not_stamped : (memo : List ℕ) (cell stamp : ℕ) → Stamped memo cell stamp false
-not_stamped memo cell stamp = record { in_cells = λ e. absurd (never e); room = λ e. absurd (never e); first = λ e. absurd (never e) }
-  where
-    never : false ≡ true → ⊥
-    never e = let z : ◌≡◌ {A = ℕ} 0 1 = cc in omega arith
-
-pub stamped_is : (memo : List ℕ) (cell stamp : ℕ) → cell < 25344 → cell + 3 ≤ length memo → Stamped memo cell stamp (eqb (get_or memo cell 0) stamp)
-stamped_is memo cell stamp h room = record { in_cells = λ e. h; room = λ e. room; first = eqb-true (get_or memo cell 0) stamp }
 
 -- an answer, read from its cell
 pub says : (memo : List ℕ) (wide stamp at goal cell : ℕ) (b : Bool) → Covered wide at goal → cell ≡ cell_at wide at goal → get_or memo cell 0 ≡ stamp → bit_of (goal % 32) (get_or memo (cell + 1) 0) ≡ 1 → bit_of (goal % 32) (get_or memo (cell + 2) 0) ≡ bit b → Says memo wide stamp at goal b
@@ -46,19 +35,12 @@ says memo wide stamp at goal cell b c e s k a =
 word_cell : (wide at goal h : ℕ) → h / 32 ≡ goal / 32 → Covered wide at goal → Covered wide at h × (cell_at wide at goal ≡ cell_at wide at h)
 word_cell wide at goal h e c = (record { narrow = c.narrow; node_in = c.node_in; goal_in = omega (arith, c.goal_in) }, ap (λ x. (at * wide + x) * 3) (sym e))
 
-pub looks_nothing : (memo : List ℕ) (wide stamp at goal : ℕ) (r : Outlook) → r.had ≡ 0 → r.lacked ≡ 0 → Looks memo wide stamp at goal r
-looks_nothing memo wide stamp at goal r a b =
-    record {
-      yes = λ h w e. let z = ap (bit_of (h % 32)) a in let n = zero_bit (h % 32) in absurd (omega arith);
-      no = λ h w e. let z = ap (bit_of (h % 32)) b in let n = zero_bit (h % 32) in absurd (omega arith);
-    }
-
-module _ (memo : List ℕ) (wide stamp at goal cell : ℕ) (i : IsCell wide at goal cell) (t : Bool) (true-is : t ≡ true) (m : Stamped memo cell stamp t) (r : Outlook) where
+module _ (memo : List ℕ) (wide stamp at goal cell : ℕ) (there : Option ℕ) (i : IsCell (length memo) wide at goal there) (e : there ≡ Some cell) (first : get_or memo cell 0 ≡ stamp) (r : Outlook) where
   answered : (h : ℕ) (b : Bool) → h / 32 ≡ goal / 32 → bit_of (h % 32) (get_or memo (cell + 1) 0) ≡ 1 → bit_of (h % 32) (get_or memo (cell + 2) 0) ≡ bit b → Says memo wide stamp at h b
   answered h b l k a =
-      let here-cell = i.cell (m.in_cells true-is) in
+      let here-cell = i.cell cell e in
       let c = word_cell wide at goal h l here-cell.0 in
-      says memo wide stamp at h cell b c.0 (here-cell.1 ∙ c.1) (m.first true-is) k a
+      says memo wide stamp at h cell b c.0 (here-cell.1 ∙ c.1) first k a
 
   pub looks : r.had ≡ bit_and (get_or memo (cell + 1) 0) (get_or memo (cell + 2) 0) → r.lacked ≡ get_or memo (cell + 1) 0 - bit_and (get_or memo (cell + 1) 0) (get_or memo (cell + 2) 0) → Looks memo wide stamp at goal r
   unfolding bit
@@ -76,9 +58,6 @@ module _ (memo : List ℕ) (wide stamp at goal cell : ℕ) (i : IsCell wide at g
             let k = bit_small (h % 32) (get_or memo (cell + 1) 0) in
             answered h false l (omega arith) (omega arith);
       }
-
-pub learns_nothing : (memo : List ℕ) (wide stamp at goal known had : ℕ) → Learns memo wide stamp at goal known had memo
-learns_nothing memo wide stamp at goal known had = record { long = refl; told = λ s j h c y. inl y; under = λ bound l u. u }
 
 -- the words of a cell that a test goes on with: those of the same test, or none
 pub record Kept (memo : List ℕ) (cell stamp old said : ℕ) : Type 0 where
@@ -179,6 +158,6 @@ module _ (memo : List ℕ) (wide stamp at goal cell known had old said : ℕ) (v
   entered : Learns memo wide stamp at goal known had after
   entered = record { long = written_long memo cell stamp second third; told = λ s j h c y. told_all s j h c y (ℕ_discrete (cell_at wide j h) cell); under = under_after }
 
-pub learns : (memo : List ℕ) (wide stamp at goal cell known had old said : ℕ) → IsCell wide at goal cell → cell < 25344 → cell + 3 ≤ length memo → Kept memo cell stamp old said ⊎ (old ≡ 0)
+pub learns : (memo : List ℕ) (wide stamp at goal cell known had old said : ℕ) (there : Option ℕ) → IsCell (length memo) wide at goal there → there ≡ Some cell → Kept memo cell stamp old said ⊎ (old ≡ 0)
     → Learns memo wide stamp at goal known had (written memo cell stamp (bit_or old known) (joined said known had))
-learns memo wide stamp at goal cell known had old said i h room kept = entered memo wide stamp at goal cell known had old said (i.cell h).0 (i.cell h).1 room kept
+learns memo wide stamp at goal cell known had old said there i e kept = let c = i.cell cell e in entered memo wide stamp at goal cell known had old said c.0 c.1 c.2 kept

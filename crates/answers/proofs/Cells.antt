@@ -3,20 +3,11 @@
 use Prim.Native.Nat.{ℕ, suc, ◌+◌, ◌*◌, ◌<◌, ◌≤◌}
 use native.Mathlib.Omega.{arith}
 use native.Mathlib.Decide.{dec_lt}
-use native.Mathlib.Nat.{suc-mul, mul-le-mul, mul-le-mul_right}
-use mathlib.Core.Path.{◌≡◌, refl, sym, ap, ◌∙◌}
+use native.Mathlib.Nat.{suc-mul, mul-le-mul_right}
+use mathlib.Core.Path.{◌≡◌, sym, ap, ◌∙◌}
 use mathlib.Core.List.{List}
 use lib.ListN.{length, get_or, set, length-set}
 use lib.Seq.{get_or-set_same, get_or-set_other}
-use Rattle.answers.specs.Answers.{cell_at, Covered, IsCell}
-
-pub product_small : (wide at : ℕ) → at < 256 → wide ≤ 33 → at * wide ≤ 8415
-product_small wide at h k = mul-le-mul {n₁ = at} {m₁ = wide} {n₂ = 255} {m₂ = 33} (omega arith) k
-
-pub is_cell : (wide at goal : ℕ) → Covered wide at goal → IsCell wide at goal (cell_at wide at goal)
-is_cell wide at goal c =
-    let small = product_small wide at c.node_in c.narrow in
-    record { within = omega (arith, c.goal_in, c.narrow); cell = λ h. (c, refl) }
 
 -- the cells of later nodes stand behind those of earlier ones
 later : (wide at g at' g' : ℕ) → g < wide → at < at' → at * wide + g ≡ at' * wide + g' → ⊥

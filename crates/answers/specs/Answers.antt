@@ -1,6 +1,6 @@
 -- What our own crates promise each other; nothing here has to be believed.
 -- What a test remembers of the nodes of a body, as bits.
-use Rattle.std.specs.Prelude.{ℕ, ◌+◌, ◌*◌, ◌/◌, ◌%◌, ◌<◌, ◌≤◌, ◌≡◌, ◌⊎◌, Bool, true, false, List, length, get_or}
+use Rattle.std.specs.Prelude.{ℕ, ◌+◌, ◌*◌, ◌/◌, ◌%◌, ◌<◌, ◌≤◌, ◌≡◌, ◌⊎◌, Bool, true, false, List, length, get_or, Option, Some}
 use Rattle.scheme.specs.Flags.{bit}
 use Rattle.index.specs.layout.Layout.{max_nodes, word_bits, cell_words, max_cells}
 use Rattle.marks.specs.Marks.{bit_of}
@@ -16,16 +16,9 @@ pub record Covered (wide at goal : ℕ) : Type 0 where
   pub node_in : at < max_nodes
   pub goal_in : goal / word_bits < wide
 
--- r is where the cell begins, or a place behind all cells
-pub record IsCell (wide at goal r : ℕ) : Type 0 where
-  pub within : r ≤ max_nodes * max_cells * cell_words
-  pub cell : r < max_nodes * max_cells * cell_words → Covered wide at goal × (r ≡ cell_at wide at goal)
-
--- where r is true, there is a cell at a place, all in the memo, and it begins with the number of a test
-pub record Stamped (memo : List ℕ) (cell stamp : ℕ) (r : Bool) : Type 0 where
-  pub in_cells : r ≡ true → cell < max_nodes * max_cells * cell_words
-  pub room : r ≡ true → cell + cell_words ≤ length memo
-  pub first : r ≡ true → get_or memo cell 0 ≡ stamp
+-- r is where the cell begins, all of it in a memo of a given length; none where there is no such cell
+pub record IsCell (long wide at goal : ℕ) (r : Option ℕ) : Type 0 where
+  pub cell : (n : ℕ) → r ≡ Some n → Covered wide at goal × (n ≡ cell_at wide at goal) × (n + cell_words ≤ long)
 
 -- the memo has an answer of test number `stamp` for a node and a goal
 pub record Says (memo : List ℕ) (wide stamp at goal : ℕ) (b : Bool) : Type 0 where

@@ -2,59 +2,48 @@
 
 // What a test remembers of a node. Goals stand by 32 in cells of three words: the number of the test, the goals that are known, and
 // the known ones that the node has.
-ghost use Rattle.answers.specs.Answers.{IsCell, Stamped, Looks, Learns};
+ghost use Rattle.answers.specs.Answers.{IsCell, Looks, Learns};
 
-use index::layout::{ANSWERS, CELL, MAX_CELLS, MAX_NODES, WORD};
+use index::layout::{CELL, MAX_CELLS, MAX_NODES, WORD};
 
 // What a node is remembered to have of 32 goals, and what it is remembered to lack, as bits.
-#[derive(Drop)]
+#[derive(Clone, Copy, PartialEq, Eq)]
 pub struct Outlook {
     pub had: u32,
     pub lacked: u32,
 }
 
-// Where the cell of a node and a goal begins, if each node has `wide` cells; behind all cells where there is none.
-fn cell_of(wide: usize, at: usize, goal: usize) -> usize
-    ensures { IsCell wide at goal result }
+// Where the cell of a node and a goal begins, if each node has `wide` cells; none where a memo of a given length has no such cell.
+fn cell_of(length: usize, wide: usize, at: usize, goal: usize) -> Option<usize>
+    ensures { IsCell length wide at goal result }
 {
-    if MAX_CELLS < wide {
-        return ANSWERS;
+    if MAX_CELLS < wide || MAX_NODES <= at || wide <= goal / WORD {
+        return None;
     }
-    if MAX_NODES <= at {
-        return ANSWERS;
+    let cell = (at * wide + goal / WORD) * CELL;
+    if length < cell + CELL {
+        None
+    } else {
+        Some(cell)
     }
-    if wide <= goal / WORD {
-        return ANSWERS;
-    }
-    (at * wide + goal / WORD) * CELL
-}
-
-// Whether there is a cell at a place, and it begins with the number of a test.
-fn is_stamped(memo: &[u32], cell: usize, stamp: u32) -> bool
-    ensures { Stamped memo.now cell stamp result }
-{
-    if ANSWERS <= cell {
-        return false;
-    }
-    if memo.len() < cell + CELL {
-        return false;
-    }
-    memo[cell] == stamp
 }
 
 // What test number `stamp` remembers of a node and the goals that stand in one cell with a goal.
 pub fn outlook_of(memo: &[u32], wide: usize, stamp: u32, at: usize, goal: usize) -> Outlook
     ensures { Looks memo.now wide stamp at goal result }
 {
-    let cell = cell_of(wide, at, goal);
-    if !is_stamped(memo, cell, stamp) {
-        return Outlook { had: 0, lacked: 0 };
+    let nothing = Outlook { had: 0, lacked: 0 };
+    let Some(cell) = cell_of(memo.len(), wide, at, goal) else {
+        return nothing;
+    };
+    if memo[cell] != stamp {
+        return nothing;
     }
     let known = memo[cell + 1];
-    let both = known & memo[cell + 2];
+    let had = known & memo[cell + 2];
     Outlook {
-        had: both,
-        lacked: known - both,
+        had,
+        lacked: known - had,
     }
 }
 
@@ -71,19 +60,14 @@ pub fn learn(
 )
     ensures { Learns memo.old wide stamp at goal known had memo.new }
 {
-    let cell = cell_of(wide, at, goal);
-    if ANSWERS <= cell {
+    let Some(cell) = cell_of(memo.len(), wide, at, goal) else {
         return;
-    }
-    if memo.len() < cell + CELL {
-        return;
-    }
-    let mut old: u32 = 0;
-    let mut said: u32 = 0;
-    if memo[cell] == stamp {
-        old = memo[cell + 1];
-        said = memo[cell + 2];
-    }
+    };
+    let (old, said) = if memo[cell] == stamp {
+        (memo[cell + 1], memo[cell + 2])
+    } else {
+        (0, 0)
+    };
     memo[cell] = stamp;
     memo[cell + 1] = old | known;
     memo[cell + 2] = (said - (said & known)) | (had & known);

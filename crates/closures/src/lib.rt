@@ -2,3 +2,4 @@
 
 pub mod closures;
 pub mod fronts;
+pub mod heads;

@@ -1,4 +1,5 @@
 // The bindings of a file, grouped by nonterminal.
+ghost use Rattle.std.specs.Prelude.{◌≤◌};
 ghost use Rattle.goals.specs.groups.Groups.{Seeks, Fills};
 
 use index::entries::place_at;
@@ -7,19 +8,16 @@ use records::fields::word_at;
 
 // The number of the first binding, from one on, whose nonterminal is f or a later one; n where there is none.
 fn first_from(file: &[u8], index: &[u16], n: usize, from: usize, f: usize) -> usize
+    requires few { n ≤ 1024 }
+    requires within { from ≤ n }
     ensures { Seeks file.now index.now n from f result }
 {
-    if MAX_BINDINGS < n {
-        return 0;
-    }
-    let mut i = from;
-    while i < n {
+    for i in from..n {
         if f <= word_at(file, place_at(index, BINDINGS_AT + i)) {
             return i;
         }
-        i = i + 1;
     }
-    i
+    n
 }
 
 // Fills a table up to entry `last`, the number of nonterminals: entry f gets the number of the first binding whose nonterminal
@@ -28,17 +26,12 @@ fn first_from(file: &[u8], index: &[u16], n: usize, from: usize, f: usize) -> us
 pub fn fill_groups(file: &[u8], index: &[u16], n: usize, last: usize, groups: &mut [u16])
     ensures { Fills file.now index.now n last groups.old groups.new }
 {
-    if MAX_BINDINGS < n {
+    if MAX_BINDINGS < n || groups.len() <= last {
         return;
     }
-    if groups.len() <= last {
-        return;
-    }
-    let mut b: usize = 0;
-    let mut f: usize = 0;
-    while f <= last {
-        b = first_from(file, index, n, b, f);
-        groups[f] = b as u16;
-        f = f + 1;
+    let mut first: usize = 0;
+    for f in 0..last + 1 {
+        first = first_from(file, index, n, first, f);
+        groups[f] = first as u16;
     }
 }

@@ -6,14 +6,12 @@ use native.Mathlib.Decide.{dec_lt, ℕ_discrete}
 use mathlib.Core.Path.{◌≡◌, refl, sym, ap, subst, ◌∙◌}
 use mathlib.Core.Logic.{◌⊎◌, inl, inr}
 use mathlib.Core.List.{List}
-use borrow.Author.Tests.{eqb-true, eqb-false}
 use lib.Bits.{bit_and, bit_or}
 use lib.Count.{count_trailing_zeros}
-use lib.Dec.{eqb}
 use lib.ListN.{length, get_or, set, length-set, get_or-eq_default}
 use lib.Pow.{shr_lt}
 use lib.Seq.{get_or-set_same, get_or-set_other}
-use Rattle.marks.specs.Marks.{bit_of, In, Decides, Puts, TakesOut, FindsNext}
+use Rattle.marks.specs.Marks.{bit_of, In, Puts, TakesOut, FindsNext}
 use Rattle.marks.proofs.Bits.{bit_small, zero_bit, shift_bit, or_bit, or_none, minus_bit, power_same, power_other, shifted, shifted_is, zeros_below, zeros_end, zeros_few}
 
 -- 1 shifted to the left has one bit
@@ -61,18 +59,6 @@ stored P l i v h new old j = go (ℕ_discrete j i)
     go (yes e) = subst (λ x. P x (get_or (set l i v) x 0)) (sym e) (subst (P i) (sym (get_or-set_same l i v 0 h)) new)
 
 module _ (words : List ℕ) (at n : ℕ) where
-  pub word_none : length words ≤ at + n → 0 ≡ get_or words (at + n) 0
-  word_none h = sym (get_or-eq_default words 0 h)
-
-  -- the test of a bit
-  pub decided : (word : ℕ) → word ≡ get_or words (at + n / 32) 0 → Decides words at n (eqb (word / 2 ^ (n % 32) % 2) 1)
-  decided word e =
-      let same = ap (bit_of (n % 32)) e in
-      record {
-        yes = λ t. sym same ∙ eqb-true (bit_of (n % 32) word) 1 t;
-        no = λ f i. eqb-false (bit_of (n % 32) word) 1 f (same ∙ i);
-      }
-
   pub puts_past : length words ≤ at + n / 32 → Puts words at n words
   puts_past h = record { long = refl; put = λ l. absurd (omega arith); grows = λ i k l e. e; only = λ i k l e. inl e }
 
@@ -229,15 +215,6 @@ passed_quiet {words} {at} {from} {n} p first q = record { on = omega (arith, p.o
             let o = ap (λ x. bit_of (m % 32) (get_or words x 0)) is in
             let w = ap (bit_of (m % 32)) z ∙ zero_bit (m % 32) in
             omega arith
-
--- past the end of all words there is no number
-pub finds_past : {words : List ℕ} {at from : ℕ} → length words ≤ at → (end : ℕ) → FindsNext words at from end end
-finds_past {words} {at} h end =
-    record {
-      within = omega arith;
-      passed = λ m f l i. let z = zero_bit (m % 32) in let o = ap (bit_of (m % 32)) (get_or-eq_default words 0 {n = at + m / 32} (omega arith)) in omega arith;
-      found = λ l. absurd (omega arith);
-    }
 
 -- all numbers below the end are passed
 pub finds_end : {words : List ℕ} {at from n : ℕ} → Passed words at from n → (end : ℕ) → end ≤ n → FindsNext words at from end end

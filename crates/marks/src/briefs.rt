@@ -1,7 +1,7 @@
 // Sets with a brief: one word that has bit k where word k of the set may have a number. Such a set has as many words as a word has bits.
 ghost use Rattle.marks.specs.briefs.Briefs.{FindsMarked};
 
-use crate::word_in;
+use crate::{lowest, word_in};
 use index::layout::WORD;
 
 // The least number that is marked, from one on and below an end; the end where there is none.
@@ -12,11 +12,7 @@ pub fn next_marked(words: &[u32], at: usize, brief: usize, from: usize, end: usi
     while n < end {
         let rest = word_in(words, at, n / WORD) >> ((n % WORD) as u32);
         if rest != 0 {
-            let zeros = u32::trailing_zeros(rest) as usize;
-            if end - n <= zeros {
-                return end;
-            }
-            return n + zeros;
+            return lowest(rest, n, end);
         }
         let k = n / WORD + 1;
         let word = word_in(words, brief, 0);
@@ -27,7 +23,7 @@ pub fn next_marked(words: &[u32], at: usize, brief: usize, from: usize, end: usi
         if others == 0 {
             return end;
         }
-        n = (k + u32::trailing_zeros(others) as usize) * WORD;
+        n = (k + others.trailing_zeros() as usize) * WORD;
     }
     end
 }

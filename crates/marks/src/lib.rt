@@ -18,10 +18,7 @@ const QUIET_BITS: usize = QUIET_WORDS * WORD;
 pub fn word_in(words: &[u32], at: usize, i: usize) -> u32
     ensures { result ≡ get_or words.now (at + i) 0 }
 {
-    if words.len() <= at {
-        return 0;
-    }
-    if words.len() - at <= i {
+    if words.len() <= at || words.len() - at <= i {
         return 0;
     }
     words[at + i]
@@ -39,31 +36,22 @@ pub fn is_in(words: &[u32], at: usize, n: usize) -> bool
 pub fn put_in(words: &mut [u32], at: usize, n: usize)
     ensures { Puts words.old at n words.new }
 {
-    if words.len() <= at {
+    if words.len() <= at || words.len() - at <= n / WORD {
         return;
     }
-    if words.len() - at <= n / WORD {
-        return;
-    }
-    let i = at + n / WORD;
-    words[i] = words[i] | (1u32 << ((n % WORD) as u32));
+    words[at + n / WORD] |= 1u32 << ((n % WORD) as u32);
 }
 
 // Whether QUIET_WORDS words are there from one on, and no bit is in them.
 fn quiet(words: &[u32], i: usize) -> bool
     ensures { Quiet words.now i result }
 {
-    if words.len() < QUIET_WORDS {
-        return false;
-    }
-    if words.len() - QUIET_WORDS < i {
+    if words.len() < QUIET_WORDS || words.len() - QUIET_WORDS < i {
         return false;
     }
     let mut all: u32 = 0;
-    let mut k: usize = 0;
-    while k < QUIET_WORDS {
-        all = all | words[i + k];
-        k = k + 1;
+    for word in &words[i..i + QUIET_WORDS] {
+        all |= *word;
     }
     all == 0
 }
@@ -73,11 +61,8 @@ fn lowest(rest: u32, n: usize, end: usize) -> usize
     requires { n < end }
     ensures { result ≡ min end (n + count_trailing_zeros 32 rest) }
 {
-    let zeros = u32::trailing_zeros(rest) as usize;
-    if end - n <= zeros {
-        return end;
-    }
-    n + zeros
+    let zeros = rest.trailing_zeros() as usize;
+    n + zeros.min(end - n)
 }
 
 // The least number of the set at a place, from one on and below an end; the end where there is none. This is the search that is
@@ -99,12 +84,12 @@ pub fn next_beyond(words: &[u32], at: usize, from: usize, end: usize) -> usize
         if end - n <= skip {
             return end;
         }
-        n = n + skip;
+        n += skip;
         if quiet(words, at + n / WORD) {
             if end - n <= QUIET_BITS {
                 return end;
             }
-            n = n + QUIET_BITS;
+            n += QUIET_BITS;
         }
     }
     end
@@ -126,5 +111,5 @@ pub fn next_in(words: &[u32], at: usize, from: usize, end: usize) -> usize
     if end - from <= skip {
         return end;
     }
-    next_beyond(&*words, at, from + skip, end)
+    next_beyond(words, at, from + skip, end)
 }

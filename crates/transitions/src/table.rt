@@ -17,7 +17,8 @@ fn target_at(file: &[u8], at: usize) -> u8
     byte_at(file, at) as u8
 }
 
-// The table of the n transitions of a file; 255 stands where there is none.
+// The table of the n transitions of a file, the last one first, so that the first for a state and a constructor counts; 255
+// stands where there is none.
 pub fn moves(file: &[u8], index: &[u16], n: usize) -> Transitions
     ensures { Holds file.now index.now n result }
 {
@@ -25,9 +26,7 @@ pub fn moves(file: &[u8], index: &[u16], n: usize) -> Transitions
     if MAX_TRANSITIONS < n {
         return t;
     }
-    let mut k = n;
-    while 0 < k {
-        k = k - 1;
+    for k in (0..n).rev() {
         let at = place_at(index, TRANSITIONS_AT + k);
         let q = byte_at(file, at);
         let c = byte_at(file, at + 1);
@@ -35,10 +34,8 @@ pub fn moves(file: &[u8], index: &[u16], n: usize) -> Transitions
         let second = target_at(file, at + 3);
         let third = target_at(file, at + 4);
         let fourth = target_at(file, at + 5);
-        if q < MAX_STATES {
-            if c < MAX_CONSTRUCTORS {
-                t[q][c] = [first, second, third, fourth];
-            }
+        if q < MAX_STATES && c < MAX_CONSTRUCTORS {
+            t[q][c] = [first, second, third, fourth];
         }
     }
     t

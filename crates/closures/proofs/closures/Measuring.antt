@@ -4,29 +4,34 @@ use native.Mathlib.Omega.{arith}
 use mathlib.Core.Path.{◌≡◌, refl, sym, ap, ap₂, subst, ◌∙◌}
 use mathlib.Core.List.{List, append-nil}
 use lib.ListN.{get_or}
-use Rattle.scheme.specs.Terms.{Head, con, nt, par, Term, node, Terms, []ᵗ, ◌∷ᵗ◌, ◌++ᵗ◌, countᵗ, term_at, nodes, nodes_all, applied, put}
-use Rattle.scheme.specs.Prefix.{flat, flats}
+use Rattle.scheme.specs.Terms.{Head, par, Term, node, Terms, []ᵗ, ◌∷ᵗ◌, ◌++ᵗ◌, countᵗ, term_at, nodes, nodes_all, applied, put}
+use Rattle.scheme.specs.Prefix.{Node, flat, flats}
 use Rattle.scheme.proofs.Prefix.{append_nilᵗ}
 use Rattle.casefile.specs.Fields.{byte, word}
-use Rattle.closures.specs.closures.Nodes.{head_by, NodesAt}
+use Rattle.std.specs.Prelude.{Option, None, Some, unwrap_or}
+use Rattle.std.proofs.lemmas.Option.{MatchOption-at_some, MatchOption-at_none}
+use Rattle.closures.specs.heads.Heads.{head_as}
+use Rattle.closures.specs.declared.heads.Head.{Head as Code}
+use Rattle.closures.specs.declared.heads.Head.TheVariants.{Constructor, Nonterminal, Parameter}
+use Rattle.closures.specs.declared.closures.Closure.{Closure as Packed}
+use Rattle.closures.specs.closures.Nodes.{head_by, NodeAt, NodesAt}
 use Rattle.closures.specs.closures.Closures.{slot_of, lone, Closure, Frame}
 use Rattle.closures.specs.closures.Promises.{IsClosureAt, weight, weights, Weighs, Measures, Packs, Closes}
 use Rattle.closures.proofs.closures.Trees.{count_append, nodes_append, flats_append, none_left, term_in, term_past, weights_flat}
-use Rattle.closures.proofs.closures.Nodes.{at_node, at_one, at_next, nonterminal_tag, constructor_tag, parameter_tag}
+use Rattle.closures.proofs.closures.Nodes.{at_node, at_one, at_next}
 use Rattle.closures.proofs.closures.Closures.{closure_up, closure_size, closure_from}
 use Rattle.index.specs.layout.Layout.{node_units, place_units, block_units}
 
--- the head of a node by its tag
-head_below : (tag number : ℕ) (h : Head) → head_by tag number ≡ h → tag < 2 → (xs : Terms) → weight xs h ≡ 1
+-- a head that is no parameter counts one
+weight_other : (h : Code) → ((i : ℕ) → h ≡ Parameter i → ⊥) → (xs : Terms) → weight xs (head_as h) ≡ 1
 unfolding weight
-head_below tag number (con c) e k xs = refl
-head_below tag number (nt f) e k xs = refl
-head_below tag number (par i) e k xs = let z = (parameter_tag tag number i e).0 in absurd (omega arith)
+weight_other (Constructor c) k xs = refl
+weight_other (Nonterminal f) k xs = refl
+weight_other (Parameter i) k xs = absurd (k i refl)
 
-pub head_parameter : (tag number : ℕ) (h : Head) → head_by tag number ≡ h → 2 ≤ tag → h ≡ par number
-head_parameter tag number (con c) e k = let z = (constructor_tag tag number c e).0 in absurd (omega arith)
-head_parameter tag number (nt f) e k = let z = (nonterminal_tag tag number f e).0 in absurd (omega arith)
-head_parameter tag number (par i) e k = ap par (sym (parameter_tag tag number i e).1)
+-- a node whose head is a parameter
+parameter_here : (file : List ℕ) (at : ℕ) (h : Code) → head_as h ≡ head_by (byte file at) (word file (at + 1)) → (number : ℕ) → h ≡ Parameter number → (n : Node) → NodeAt file at n → n.head ≡ par number
+parameter_here file at h eh number e n here = sym (eh ∙ here.head_is) ∙ ap head_as e
 
 weight_past : (xs : Terms) (i : ℕ) → countᵗ xs ≤ i → weight xs (par i) ≡ 1
 unfolding weight nodes
@@ -48,27 +53,28 @@ module _ {file cells : List ℕ} {at block count : ℕ} where
   pub weigh_far : place_units ≤ at → Weighs file cells at block count 1
   weigh_far h = record { small = omega arith; weighs = λ n xs here frame few. absurd (omega (arith, here.near)) }
 
-  pub weigh_head : (tag : ℕ) → tag ≡ byte file at → tag < 2 → Weighs file cells at block count 1
-  weigh_head tag e h = record { small = omega arith; weighs = λ n xs here frame few. sym (head_below (byte file at) (word file (at + 1)) n.head here.head_is (omega arith) xs) }
+  module _ (h : Code) (eh : head_as h ≡ head_by (byte file at) (word file (at + 1))) where
+    pub weigh_head : ((i : ℕ) → h ≡ Parameter i → ⊥) → Weighs file cells at block count 1
+    weigh_head k = record { small = omega arith; weighs = λ n xs here frame few. sym (ap (weight xs) (sym (eh ∙ here.head_is)) ∙ weight_other h k xs) }
 
-  module _ (tag number : ℕ) (et : tag ≡ byte file at) (en : number ≡ word file (at + 1)) (h : 2 ≤ tag) where
-    pub weigh_free : count ≤ number → Weighs file cells at block count 1
-    weigh_free k =
-        record {
-          small = omega arith;
-          weighs = λ n xs here frame few.
-              let p : n.head ≡ par number = head_parameter (byte file at) (word file (at + 1)) n.head here.head_is (omega arith) ∙ ap par (sym en) in
-              sym (ap (weight xs) p ∙ weight_past xs number (let c = frame.counted in omega arith));
-        }
+    module _ (number : ℕ) (e : h ≡ Parameter number) (r : Option Packed) (is : IsClosureAt cells block count number r) where
+      pub weigh_free : r ≡ None → Weighs file cells at block count 1
+      weigh_free z =
+          record {
+            small = omega arith;
+            weighs = λ n xs here frame few.
+                let past : count ≤ number = MatchOption-at_none (count ≤ number) (λ v. (number < count) × (v.0 ≡ get_or cells (slot_of block count + number) 0)) z (is few frame.few) in
+                sym (ap (weight xs) (parameter_here file at h eh number e n here) ∙ weight_past xs number (let c = frame.counted in omega arith));
+          }
 
-    pub weigh_parameter : number < count → (v : ℕ) → IsClosureAt cells block count number v → Weighs file cells at block count (v % node_units)
-    weigh_parameter k v is =
-        record {
-          small = omega arith;
-          weighs = λ n xs here frame few.
-              let p : n.head ≡ par number = head_parameter (byte file at) (word file (at + 1)) n.head here.head_is (omega arith) ∙ ap par (sym en) in
-              parameter_size frame number v k (is few frame.few k) ∙ sym (ap (weight xs) p);
-        }
+      pub weigh_parameter : (v : Packed) → r ≡ Some v → (size : ℕ) → size ≡ v.0 % node_units → Weighs file cells at block count size
+      weigh_parameter v z size es =
+          record {
+            small = omega arith;
+            weighs = λ n xs here frame few.
+                let (k, cell) = MatchOption-at_some (count ≤ number) (λ v. (number < count) × (v.0 ≡ get_or cells (slot_of block count + number) 0)) v z (is few frame.few) in
+                es ∙ parameter_size frame number v.0 k cell ∙ sym (ap (weight xs) (parameter_here file at h eh number e n here));
+          }
 
 -- the terms that are left from a place on, of the term at the first
 pub record Left (file : List ℕ) (at : ℕ) (b : Term) (xs : Terms) (next need sum : ℕ) : Type 0 where
@@ -184,37 +190,32 @@ pub put_alone : (number : ℕ) (h : Head) (ts : Terms) → h ≡ par number → 
 unfolding put
 put_alone number h ts p n xs = ap₂ (λ (y : Head) (us : Terms). put xs (node y us)) p n ∙ applied_none (term_at xs number (node (par number) []ᵗ))
 
--- the closure of a parameter alone
-close_alone : {file cells : List ℕ} {block count : ℕ} (number r : ℕ) → number < count → IsClosureAt cells block count number r → (b : Term) (xs : Terms) → ((h : Head) (ts : Terms) → b ≡ node h ts → (h ≡ par number) × (ts ≡ []ᵗ)) → Frame file cells block count xs → block < block_units
-    → Closure file cells block r (put xs b)
-close_alone {file} {cells} {block} number r k is (node h ts) xs parts frame few =
-    let (p, n) = parts h ts refl in
-    subst (Closure file cells block r) (sym (put_alone number h ts p n xs)) (parameter_closure frame number r k (is few frame.few k))
+put_parameter : (file : List ℕ) (at : ℕ) (h : Code) → head_as h ≡ head_by (byte file at) (word file (at + 1)) → (number : ℕ) → h ≡ Parameter number → (arguments : ℕ) → arguments ≡ byte file (at + 3) → arguments ≡ 0 → (b : Term) (xs : Terms) → NodesAt file at (flat b)
+    → put xs b ≡ term_at xs number (node (par number) []ᵗ)
+put_parameter file at h eh number e arguments ea z (node x ts) xs here =
+    let (a, c) = at_node file at x ts here in
+    put_alone number x ts (parameter_here file at h eh number e (record { head = x; count = countᵗ ts }) a) (none_left ts (sym a.count_is ∙ sym ea ∙ z)) xs
 
 -- the closure of a term
 module _ {file cells : List ℕ} {at block count size : ℕ} where
-  pub close_packed : {r : ℕ} → Packs at block count size r → at < place_units → Closes file cells at block count size r
-  close_packed {r} p h =
+  pub close_packed : {r : ℕ} → Packs at block count size r → Closes file cells at block count size r
+  close_packed {r} p =
       record {
         closes = λ top b xs here frame below small full fits.
             let few = frame.few in
-            closure_from r block count at size (p.block_in (omega arith) (omega arith)) (p.count_in_law (omega arith)) (p.place_in_law h) (p.size_in fits) b xs here frame below full;
+            let near = nodes_near file at (b ∷ᵗ []ᵗ) (some_term b) (at_one file at b here) in
+            closure_from r block count at size (p.block_in (omega arith) (omega arith)) (p.count_in_law (omega arith)) (p.place_in_law near) (p.size_in fits) b xs here frame below full;
       }
 
-  pub close_far : {r : ℕ} → place_units ≤ at → Closes file cells at block count size r
-  close_far {r} h =
-      record { closes = λ top b xs here frame below small full fits. let f = nodes_near file at (b ∷ᵗ []ᵗ) (some_term b) (at_one file at b here) in absurd (omega arith) }
-
-  pub close_parameter : (tag arguments number : ℕ) → tag ≡ byte file at → arguments ≡ byte file (at + 3) → number ≡ word file (at + 1) → 2 ≤ tag → arguments ≡ 0 → number < count → {r : ℕ} → IsClosureAt cells block count number r
-      → Closes file cells at block count size r
-  close_parameter tag arguments number et ea en h z k {r} is =
-      record {
+  -- a parameter alone has its own closure
+  pub close_parameter : (h : Code) → head_as h ≡ head_by (byte file at) (word file (at + 1)) → (number : ℕ) → h ≡ Parameter number → (arguments : ℕ) → arguments ≡ byte file (at + 3) → arguments ≡ 0
+      → (packed : Packed) → Packs at block count size packed.0 → (r : Option Packed) → IsClosureAt cells block count number r → (v : Packed) → v ≡ unwrap_or r packed → Closes file cells at block count size v.0
+  close_parameter h eh number e arguments ea z packed p None is v ev = subst (λ (u : Packed). Closes file cells at block count size u.0) (sym ev) (close_packed p)
+  close_parameter h eh number e arguments ea z packed p (Some w) is v ev =
+      subst (λ (u : Packed). Closes file cells at block count size u.0) (sym ev)
+      (record {
         closes = λ top b xs here frame below small full fits.
             let l : block ≤ top = omega arith in
-            closure_up l
-            (close_alone number r k is b xs
-            (λ x ts e.
-            let (a, c) = at_node file at x ts (subst (λ (y : Term). NodesAt file at (flat y)) e here) in
-            (head_parameter (byte file at) (word file (at + 1)) x a.head_is (omega arith) ∙ ap par (sym en), none_left ts (sym a.count_is ∙ sym ea ∙ z)))
-            frame (omega arith));
-      }
+            let (k, cell) = is (omega arith) frame.few in
+            closure_up l (subst (Closure file cells block w.0) (sym (put_parameter file at h eh number e arguments ea z b xs here)) (parameter_closure frame number w.0 k cell));
+      })

@@ -1,7 +1,7 @@
 -- Nodes in a file: those of a term, then those of the next. Heads by tag and number.
-use Prim.Native.Nat.{ℕ, zero, suc, ◌+◌, ◌*◌, ◌≤◌}
+use Prim.Native.Nat.{ℕ, zero, suc, ◌+◌, ◌-◌, ◌*◌, ◌≤◌}
 use native.Mathlib.Omega.{arith}
-use mathlib.Core.Path.{◌≡◌, refl, sym, subst}
+use mathlib.Core.Path.{◌≡◌, refl, sym, ap, ap₂, subst, ◌∙◌}
 use mathlib.Core.List.{List, [], ◌∷◌, ◌++◌, append-nil}
 use lib.ListN.{length}
 use Rattle.scheme.specs.Terms.{Head, con, nt, par, Term, node, Terms, []ᵗ, ◌∷ᵗ◌, ◌++ᵗ◌, countᵗ, nodes}
@@ -54,3 +54,17 @@ unfolding head_of
 parameter_tag zero number i e = let z : ◌≡◌ {A = ℕ} 0 1 = cc in absurd (omega arith)
 parameter_tag (suc zero) number i e = let z : ◌≡◌ {A = ℕ} 0 1 = cc in absurd (omega arith)
 parameter_tag (suc (suc tag)) number i e = (omega arith, cc)
+
+-- the head with a tag and a number, by the tag
+module _ (tag number r : ℕ) (e : r ≡ number) where
+  pub constructor_by : tag ≡ 0 → con r ≡ head_by tag number
+  unfolding head_of
+  constructor_by z = ap₂ head_by (sym z) e
+
+  pub nonterminal_by : tag ≡ 1 → nt r ≡ head_by tag number
+  unfolding head_of
+  nonterminal_by z = ap₂ head_by (sym z) e
+
+  pub parameter_by : 2 ≤ tag → par r ≡ head_by tag number
+  unfolding head_of
+  parameter_by h = let z : suc (suc (tag - 2)) ≡ tag = omega arith in ap par e ∙ ap (λ n. head_by n number) z

@@ -2,7 +2,7 @@
 -- Their nodes are summed, with one for the head.
 use Prim.Native.Nat.{ℕ, ◌+◌, ◌-◌, ◌*◌, ◌/◌, ◌%◌, ◌<◌, ◌≤◌}
 use native.Mathlib.Omega.{arith}
-use mathlib.Core.Path.{◌≡◌, refl, sym, ap, ap₂, subst, ◌∙◌}
+use mathlib.Core.Path.{◌≡◌, refl, sym, ap, subst, ◌∙◌}
 use mathlib.Core.Bool.{Bool, true, false}
 use mathlib.Core.Logic.{◌⊎◌, inl, inr, ⊎_elim}
 use mathlib.Core.List.{List}
@@ -12,15 +12,20 @@ use lib.ListN.{length, get_or}
 use Rattle.scheme.specs.Terms.{Head, con, nt, par, Term, node, Terms, []ᵗ, ◌∷ᵗ◌, ◌++ᵗ◌, countᵗ, term_at, nodes, nodes_all, applied, put, puts}
 use Rattle.scheme.specs.Prefix.{flat, flats}
 use Rattle.casefile.specs.Fields.{byte, word}
+use Rattle.std.specs.Prelude.{Option, None, Some}
+use Rattle.closures.specs.heads.Heads.{head_as}
+use Rattle.closures.specs.declared.heads.Head.{Head as Code}
+use Rattle.closures.specs.declared.heads.Head.TheVariants.{Constructor, Nonterminal, Parameter}
+use Rattle.closures.specs.declared.closures.Closure.{Closure as Packed}
 use Rattle.closures.specs.closures.Nodes.{head_by, NodeAt, NodesAt}
 use Rattle.closures.specs.closures.Closures.{block_in_spec, slot_of, lone, Closure, Frame}
 use Rattle.closures.specs.closures.Promises.{IsClosureAt, Capped, Adds, Spreadable, Spreads}
 use Rattle.closures.proofs.closures.Trees.{count_append, nodes_append, append_assocᵗ, nodes_node, nodes_applied, nodes_put, count_puts, term_left, term_right, term_past}
-use Rattle.closures.proofs.closures.Nodes.{at_node, at_one, parameter_tag}
+use Rattle.closures.proofs.closures.Nodes.{at_node, at_one}
 use Rattle.closures.proofs.closures.Closures.{closure_kept, closure_parts, frame_kept}
 use Rattle.closures.proofs.closures.Capping.{capped_same, capped_as}
-use Rattle.closures.proofs.closures.Measuring.{head_parameter, parameter_closure, applied_none, put_alone, nodes_near, some_term}
-use Rattle.closures.specs.fronts.Fronts.{IsHead, argumentsᵗ, Gatherable, IsFront, Gathers}
+use Rattle.closures.proofs.closures.Measuring.{parameter_closure, applied_none, put_alone, nodes_near, some_term}
+use Rattle.closures.specs.fronts.Fronts.{argumentsᵗ, Gatherable, IsFront, Gathers}
 use Rattle.closures.specs.declared.fronts.Front.{Front}
 use Rattle.index.specs.layout.Layout.{node_units, place_units, count_units, block_units, count_unit, block_unit}
 
@@ -53,11 +58,11 @@ applied_alone : (h : Head) (us : Terms) → applied (node h []ᵗ) us ≡ node h
 unfolding applied ◌++ᵗ◌
 applied_alone h us = refl
 
-itself_below : (tag number : ℕ) (h : Head) → head_by tag number ≡ h → tag < 2 → (xs : Terms) → put xs (node h []ᵗ) ≡ node h []ᵗ
+itself_other : (h : Code) → ((i : ℕ) → h ≡ Parameter i → ⊥) → (xs : Terms) → put xs (node (head_as h) []ᵗ) ≡ node (head_as h) []ᵗ
 unfolding put
-itself_below tag number (con c) e k xs = refl
-itself_below tag number (nt f) e k xs = refl
-itself_below tag number (par i) e k xs = let z = (parameter_tag tag number i e).0 in absurd (omega arith)
+itself_other (Constructor c) k xs = refl
+itself_other (Nonterminal f) k xs = refl
+itself_other (Parameter i) k xs = absurd (k i refl)
 
 itself_past : (h : Head) (number : ℕ) → h ≡ par number → (xs : Terms) → countᵗ xs ≤ number → put xs (node h []ᵗ) ≡ node h []ᵗ
 itself_past h number e xs k = put_alone number h []ᵗ e refl xs ∙ term_past xs number (node (par number) []ᵗ) k ∙ ap (λ y. node y []ᵗ) (sym e)
@@ -139,12 +144,12 @@ gather_start file cells at block count top =
     }
 
 -- there is no such term
-gather_never : {file cells cells' : List ℕ} {at block count top : ℕ} {r : Front} → length cells' ≡ length cells → ((s : ℕ) → s < top * 8 → get_or cells' s 0 ≡ get_or cells s 0)
+gather_never : {file cells cells' : List ℕ} {at block count top : ℕ} {r : Option Front} → length cells' ≡ length cells → ((s : ℕ) → s < top * 8 → get_or cells' s 0 ≡ get_or cells s 0)
     → ((b : Term) (xs : Terms) → Gatherable file cells at block count top b xs → ⊥) → Gathers file cells cells' at block count top r
 gather_never long kept none = record { long = long; kept = kept; total = λ b xs p. absurd (none b xs p); gathers = λ b xs p. absurd (none b xs p) }
 
 -- too many blocks
-pub gather_high : {file cells : List ℕ} {at block count top : ℕ} {r : Front} → block_units ≤ top → Gathers file cells cells at block count top r
+pub gather_high : {file cells : List ℕ} {at block count top : ℕ} {r : Option Front} → block_units ≤ top → Gathers file cells cells at block count top r
 gather_high h = gather_never refl (λ s k. refl) (λ b xs p. omega (arith, p.few))
 
 -- a node with its arguments apart
@@ -169,9 +174,9 @@ opened {file} {cells} {top} {t} {free} {place} {under} {known} {total} (node h u
 open_here : {file cells : List ℕ} {top : ℕ} {t : Term} {free place under known total : ℕ} → Gathered file cells top t free place under known total → Opened file cells top t free place under known total
 open_here w = opened w.body w.params w.behind w.here w.frame w.lower w.holds w.is
 
-module _ {file cells₀ : List ℕ} {at block count top : ℕ} {cells : List ℕ} {free place under known total : ℕ} (w : Gathering file cells₀ at block count top cells free place under known total) where
+module _ {file cells₀ : List ℕ} {at block count₀ top : ℕ} {cells : List ℕ} {free place under known total : ℕ} (w : Gathering file cells₀ at block count₀ top cells free place under known total) where
   -- past the last place
-  pub gather_far : {r : Front} → place_units ≤ place → Gathers file cells₀ cells at block count top r
+  pub gather_far : {r : Option Front} → place_units ≤ place → Gathers file cells₀ cells at block count₀ top r
   gather_far h =
       gather_never w.long w.kept
       (λ b xs p.
@@ -181,7 +186,7 @@ module _ {file cells₀ : List ℕ} {at block count top : ℕ} {cells : List ℕ
 
   module _ (m : ℕ) (em : m ≡ byte file (place + 3)) where
     -- the arguments here are no more than there is room for
-    fits_block : (b : Term) (xs : Terms) → Gatherable file cells₀ at block count top b xs → m ≤ free
+    fits_block : (b : Term) (xs : Terms) → Gatherable file cells₀ at block count₀ top b xs → m ≤ free
     fits_block b xs p =
         let g = open_here (w.gathered b xs p) in
         let a = ap (λ t. countᵗ (argumentsᵗ t)) g.is in
@@ -189,7 +194,7 @@ module _ {file cells₀ : List ℕ} {at block count top : ℕ} {cells : List ℕ
         let d = arguments_put g.params g.head g.own in
         omega (arith, p.narrow, g.node_at.count_is, g.holds.many)
 
-    pub gather_over : {r : Front} → free < m → Gathers file cells₀ cells at block count top r
+    pub gather_over : {r : Option Front} → free < m → Gathers file cells₀ cells at block count₀ top r
     gather_over h = gather_never w.long w.kept (λ b xs p. let f = fits_block b xs p in omega arith)
 
     module _ (free' : ℕ) (h : m ≤ free) (ef : free' ≡ free - m) {cells' : List ℕ} (sum total' : ℕ) (spreads : Spreads file cells cells' (place + 4) m under known (top * 8 + free') sum) (adds : Adds total sum total') where
@@ -200,7 +205,7 @@ module _ {file cells₀ : List ℕ} {at block count top : ℕ} {cells : List ℕ
       kept_here s k = spreads.below s (omega arith)
 
       -- the node's arguments have closures before those behind
-      module _ (b : Term) (xs : Terms) (p : Gatherable file cells₀ at block count top b xs) where
+      module _ (b : Term) (xs : Terms) (p : Gatherable file cells₀ at block count₀ top b xs) where
         now : Opened file cells top (put xs b) free place under known total
         now = open_here (w.gathered b xs p)
 
@@ -244,78 +249,74 @@ module _ {file cells₀ : List ℕ} {at block count top : ℕ} {cells : List ℕ
         frame_now : Frame file cells' under known now.params
         frame_now = frame_kept top kept_here now.lower now.frame
 
-        head_now : head_by (byte file place) (word file (place + 1)) ≡ now.head
-        head_now = now.node_at.head_is
-
-        module _ (r : Front) (is : IsHead file place (8 - free') total' r) where
-          near : place < place_units
-          near = now.node_at.near
-
-          tag_of : r.tag ≡ byte file place
-          tag_of = is.tag_is near
-
-          number_of : r.number ≡ word file (place + 1)
-          number_of = is.number_is near
+        module _ (hd : Code) (eh : head_as hd ≡ head_by (byte file place) (word file (place + 1))) where
+          head_now : head_as hd ≡ now.head
+          head_now = eh ∙ now.node_at.head_is
 
           -- a head that stands for itself
-          module _ (e : put now.params (node now.head []ᵗ) ≡ node now.head []ᵗ) where
+          module _ (e : put now.params (node (head_as hd) []ᵗ) ≡ node (head_as hd) []ᵗ) where
             itself : put xs b ≡ node now.head (own ++ᵗ now.behind)
-            itself = is_now ∙ ap (λ t. applied t (own ++ᵗ now.behind)) e ∙ applied_alone now.head (own ++ᵗ now.behind)
+            itself =
+                is_now ∙ ap (λ t. applied t (own ++ᵗ now.behind)) (subst (λ y. put now.params (node y []ᵗ) ≡ node y []ᵗ) head_now e) ∙ applied_alone now.head (own ++ᵗ now.behind)
 
-            total_itself : Capped r.nodes (nodes (put xs b))
-            total_itself =
-                subst (λ v. Capped v (nodes (put xs b))) (sym is.nodes_is)
-                (capped_as (1 + nodes_all (own ++ᵗ now.behind)) (nodes (put xs b)) (let n = ap nodes itself ∙ nodes_node now.head (own ++ᵗ now.behind) in omega arith) holds_now.summed)
+            total_itself : Capped total' (nodes (put xs b))
+            total_itself = capped_as (1 + nodes_all (own ++ᵗ now.behind)) (nodes (put xs b)) (let n = ap nodes itself ∙ nodes_node now.head (own ++ᵗ now.behind) in omega arith) holds_now.summed
 
-            front_itself : nodes (put xs b) < node_units → IsFront file cells' top r (put xs b)
-            front_itself f =
-                record { head = now.head; arguments = own ++ᵗ now.behind; is = itself; head_is = ap₂ head_by tag_of number_of ∙ head_now; frame = holds_frame r.count is.count_is holds_now f }
+            front_itself : (count : ℕ) → count ≡ 8 - free' → nodes (put xs b) < node_units → IsFront file cells' top (record { head = hd; count = count; nodes = total' }) (put xs b)
+            front_itself count ec f = record { head = now.head; arguments = own ++ᵗ now.behind; is = itself; head_is = head_now; frame = holds_frame count ec holds_now f }
 
-          head_par : 2 ≤ r.tag → now.head ≡ par r.number
-          head_par k = head_parameter (byte file place) (word file (place + 1)) now.head head_now (let t = tag_of in omega arith) ∙ ap par (sym number_of)
+        closure_now : (number : ℕ) → par number ≡ head_by (byte file place) (word file (place + 1)) → (v : Packed) → IsClosureAt cells' under known number (Some v) → Closure file cells' under v.0 (put now.params (node now.head []ᵗ))
+        closure_now number ep v is =
+            let (l, cell) = is (let f = p.few in let g = now.lower in omega arith) frame_now.few in
+            subst (Closure file cells' under v.0) (sym (put_alone number now.head []ᵗ (sym (ep ∙ now.node_at.head_is)) refl now.params)) (parameter_closure frame_now number v.0 l cell)
 
-          closure_now : 2 ≤ r.tag → r.number < known → (v : ℕ) → IsClosureAt cells' under known r.number v → Closure file cells' under v (put now.params (node now.head []ᵗ))
-          closure_now k l v cell =
-              subst (Closure file cells' under v) (sym (put_alone r.number now.head []ᵗ (head_par k) refl now.params))
-              (parameter_closure frame_now r.number v l (cell (let f = p.few in let g = now.lower in omega arith) frame_now.few l))
+      module _ (hd : Code) (eh : head_as hd ≡ head_by (byte file place) (word file (place + 1))) where
+        module _ (count : ℕ) (ec : count ≡ 8 - free') where
+          gather_itself : ((b : Term) (xs : Terms) (p : Gatherable file cells₀ at block count₀ top b xs) → put (now b xs p).params (node (head_as hd) []ᵗ) ≡ node (head_as hd) []ᵗ)
+              → Gathers file cells₀ cells' at block count₀ top (Some (record { head = hd; count = count; nodes = total' }))
+          gather_itself e = record { long = spreads.long ∙ w.long; kept = kept_then; total = λ b xs p. total_itself b xs p hd eh (e b xs p); gathers = λ b xs p. front_itself b xs p hd eh (e b xs p) count ec }
 
-      module _ (r : Front) (is : IsHead file place (8 - free') total' r) where
-        gather_itself : ((b : Term) (xs : Terms) (p : Gatherable file cells₀ at block count top b xs) → put (now b xs p).params (node (now b xs p).head []ᵗ) ≡ node (now b xs p).head []ᵗ)
-            → Gathers file cells₀ cells' at block count top r
-        gather_itself e = record { long = spreads.long ∙ w.long; kept = kept_then; total = λ b xs p. total_itself b xs p r is (e b xs p); gathers = λ b xs p. front_itself b xs p r is (e b xs p) }
+          pub gather_head : ((i : ℕ) → hd ≡ Parameter i → ⊥) → Gathers file cells₀ cells' at block count₀ top (Some (record { head = hd; count = count; nodes = total' }))
+          gather_head k = gather_itself (λ b xs p. itself_other hd k (now b xs p).params)
 
-        pub gather_head : r.tag < 2 → Gathers file cells₀ cells' at block count top r
-        gather_head k = gather_itself (λ b xs p. itself_below (byte file place) (word file (place + 1)) (now b xs p).head (head_now b xs p) (let t = tag_of b xs p r is in omega arith) (now b xs p).params)
+      -- a parameter in front
+      module _ (number : ℕ) (ep : par number ≡ head_by (byte file place) (word file (place + 1))) (r : Option Packed) (is : IsClosureAt cells' under known number r) where
+        pub gather_free : r ≡ None → (count : ℕ) → count ≡ 8 - free' → Gathers file cells₀ cells' at block count₀ top (Some (record { head = Parameter number; count = count; nodes = total' }))
+        gather_free er count ec =
+            gather_itself (Parameter number) ep count ec
+            (λ b xs p.
+            let frame = frame_now b xs p in
+            let past : known ≤ number = subst (IsClosureAt cells' under known number) er is (let f = p.few in let g = (now b xs p).lower in omega arith) frame.few in
+            itself_past (par number) number refl (now b xs p).params (let c = frame.counted in omega arith))
 
-        module _ (k : 2 ≤ r.tag) where
-          pub gather_free : known ≤ r.number → Gathers file cells₀ cells' at block count top r
-          gather_free l = gather_itself (λ b xs p. itself_past (now b xs p).head r.number (head_par b xs p r is k) (now b xs p).params (let c = (frame_now b xs p).counted in omega arith))
+        module _ (v : Packed) (er : r ≡ Some v) where
+          closure_then : (b : Term) (xs : Terms) (p : Gatherable file cells₀ at block count₀ top b xs) → Closure file cells' under v.0 (put (now b xs p).params (node (now b xs p).head []ᵗ))
+          closure_then b xs p = closure_now b xs p number ep v (subst (IsClosureAt cells' under known number) er is)
 
-          module _ (l : r.number < known) (v : ℕ) (cell : IsClosureAt cells' under known r.number v) where
-            pub gather_rising : under ≤ v / block_unit → Gathers file cells₀ cells' at block count top r
-            gather_rising z =
-                gather_never (spreads.long ∙ w.long) kept_then
-                (λ b xs p.
-                let (b', xs', falls, here, frame, e) = closure_parts (closure_now b xs p r is k l v cell) in
-                omega arith)
+          pub gather_rising : under ≤ v.0 / block_unit → Gathers file cells₀ cells' at block count₀ top None
+          gather_rising z =
+              gather_never (spreads.long ∙ w.long) kept_then
+              (λ b xs p.
+              let (b', xs', falls, here, frame, same) = closure_parts (closure_then b xs p) in
+              omega arith)
 
-            pub gather_next : (place' known' under' : ℕ) → place' ≡ v / node_units % place_units → known' ≡ v / count_unit % count_units → under' ≡ v / block_unit
-                → Gathering file cells₀ at block count top cells' free' place' under' known' total'
-            gather_next place' known' under' e₁ e₂ e₃ =
-                record {
-                  long = spreads.long ∙ w.long;
-                  kept = kept_then;
-                  room = omega (arith, w.room);
-                  gathered = λ b xs p.
-                      let (b', xs', falls, here, frame, e) = closure_parts (closure_now b xs p r is k l v cell) in
-                      record {
-                        body = b';
-                        params = xs';
-                        behind = own b xs p ++ᵗ (now b xs p).behind;
-                        here = subst (λ q. NodesAt file q (flat b')) (sym e₁) here;
-                        frame = subst (λ u. Frame file cells' u known' xs') (sym e₃) (subst (λ n. Frame file cells' (block_in_spec v) n xs') (sym e₂) frame);
-                        lower = let g = (now b xs p).lower in omega arith;
-                        holds = holds_now b xs p;
-                        is = is_now b xs p ∙ ap (λ t. applied t (own b xs p ++ᵗ (now b xs p).behind)) e;
-                      };
-                }
+          pub gather_next : (place' known' under' : ℕ) → place' ≡ v.0 / node_units % place_units → known' ≡ v.0 / count_unit % count_units → under' ≡ v.0 / block_unit
+              → Gathering file cells₀ at block count₀ top cells' free' place' under' known' total'
+          gather_next place' known' under' e₁ e₂ e₃ =
+              record {
+                long = spreads.long ∙ w.long;
+                kept = kept_then;
+                room = omega (arith, w.room);
+                gathered = λ b xs p.
+                    let (b', xs', falls, here, frame, same) = closure_parts (closure_then b xs p) in
+                    record {
+                      body = b';
+                      params = xs';
+                      behind = own b xs p ++ᵗ (now b xs p).behind;
+                      here = subst (λ q. NodesAt file q (flat b')) (sym e₁) here;
+                      frame = subst (λ u. Frame file cells' u known' xs') (sym e₃) (subst (λ n. Frame file cells' (block_in_spec v.0) n xs') (sym e₂) frame);
+                      lower = let g = (now b xs p).lower in omega arith;
+                      holds = holds_now b xs p;
+                      is = is_now b xs p ∙ ap (λ t. applied t (own b xs p ++ᵗ (now b xs p).behind)) same;
+                    };
+              }

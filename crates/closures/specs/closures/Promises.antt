@@ -1,16 +1,17 @@
 -- What our own crates promise each other; nothing here has to be believed.
 -- What the functions on closures promise.
-use Rattle.std.specs.Prelude.{ℕ, ◌+◌, ◌*◌, ◌<◌, ◌≤◌, ◌≡◌, List, [], ◌∷◌, length, get_or}
+use Rattle.std.specs.Prelude.{ℕ, ◌+◌, ◌*◌, ◌<◌, ◌≤◌, ◌≡◌, List, [], ◌∷◌, length, get_or, Option, MatchOption}
 use Rattle.scheme.specs.Terms.{Head, con, nt, par, Term, node, Terms, []ᵗ, countᵗ, term_at, nodes, nodes_all, put, puts}
 use Rattle.scheme.specs.Prefix.{Node, flat, flats}
 use Rattle.closures.specs.closures.Nodes.{NodeAt, NodesAt}
 use Rattle.closures.specs.closures.Closures.{block_in_spec, count_in, place_in, size_in_spec, slot_of, lone, Closure, Frame}
+use Rattle.closures.specs.declared.closures.Closure.{Closure as Packed}
 use Rattle.closures.specs.declared.closures.Measured.{Measured}
 use Rattle.index.specs.layout.Layout.{max_term, node_units, place_units, block_units}
 
--- r is the number in cell i of the frame
-abbrev pub IsClosureAt : List ℕ → ℕ → ℕ → ℕ → ℕ → Type 0
-IsClosureAt cells block count i r = block < block_units → count ≤ 8 → i < count → r ≡ get_or cells (slot_of block count + i) 0
+-- r is the number in cell i of the frame; none past the last
+abbrev pub IsClosureAt : List ℕ → ℕ → ℕ → ℕ → Option Packed → Type 0
+IsClosureAt cells block count i r = block < block_units → count ≤ 8 → MatchOption r (count ≤ i) (λ v. (i < count) × (v.0 ≡ get_or cells (slot_of block count + i) 0))
 
 -- how many nodes a head of a body counts with terms put for the parameters, its arguments not counted
 unfoldable pub weight : Terms → Head → ℕ

@@ -2,14 +2,13 @@
 use Prim.Native.Nat.{ℕ, zero, suc, ◌+◌, ◌-◌, ◌<◌, ◌≤◌}
 use native.Mathlib.Nat.{add-zero}
 use native.Mathlib.Omega.{arith}
-use native.Mathlib.Decide.{dec_lt, ℕ_discrete}
 use mathlib.Core.Path.{◌≡◌, refl, sym, ap, subst, ◌∙◌}
 use mathlib.Core.Bool.{Bool, true, false, ◌&&◌, ◌||◌}
 use mathlib.Core.List.{List, []}
 use borrow.Author.Tests.{eqb-true, ltb-true, not-false}
 use lib.Dec.{eqb, ltb}
-use lib.ListN.{length, get_or, set, length-set}
-use lib.Seq.{get_or-set_same, get_or-set_other, get_or-take, length-take-le}
+use lib.ListN.{length, get_or}
+use lib.Seq.{get_or-take, length-take-le}
 use Rattle.casefile.specs.Fields.{word}
 use Rattle.casefile.specs.Records.{Record}
 use Rattle.casefile.specs.Kinds.{Kind, payloads}
@@ -20,7 +19,7 @@ use Rattle.casefile.proofs.TypeTable.{count_payloads}
 use Rattle.index.specs.layout.Layout.{bindings_at}
 use Rattle.index.specs.entries.Index.{Indexed}
 use Rattle.index.proofs.entries.Earlier.{in_order, follows_last}
-use Rattle.goals.specs.groups.Groups.{nonterminal_in, nonterminal_of, Sought, Fills, Sofar}
+use Rattle.goals.specs.groups.Groups.{nonterminal_in, nonterminal_of, Fills, Sofar}
 
 -- while a group is sought: the numbers before i were passed
 pub record Seeking (g : ℕ → ℕ) (n from f i : ℕ) : Type 0 where
@@ -28,65 +27,6 @@ pub record Seeking (g : ℕ → ℕ) (n from f i : ℕ) : Type 0 where
   pub behind : from ≤ i
   pub within : from ≤ n → i ≤ n
   pub passed : (j : ℕ) → from ≤ j → j < i → g j < f
-
-module _ (g : ℕ → ℕ) (n from f : ℕ) where
-  pub seek_none : n ≤ 1024 → Seeking g n from f from
-  seek_none h = record { few = h; behind = omega arith; within = λ k. k; passed = λ j a b. absurd (omega arith) }
-
-  module _ (i : ℕ) (s : Seeking g n from f i) where
-    pub seek_here : i < n → (w : ℕ) → w ≡ g i → f ≤ w → n ≤ 1024 → from ≤ n → Sought g n from f i
-    seek_here h w e l k m = record { behind = s.behind; within = s.within m; passed = s.passed; reached = λ z. omega (arith, e) }
-
-    pub seek_more : i < n → (w : ℕ) → w ≡ g i → w < f → Seeking g n from f (i + 1)
-    seek_more h w e l = record { few = s.few; behind = omega (arith, s.behind); within = λ k. omega arith; passed = λ j a b. go j a b (dec_lt j i) }
-      where
-        go : (j : ℕ) → from ≤ j → j < i + 1 → Dec (j < i) → g j < f
-        go j a b (yes k) = s.passed j a k
-        go j a b (no k) = let last : j ≡ i = omega arith in subst (λ z. g z < f) (sym last) (omega (arith, e))
-
-    pub seek_end : n ≤ i → n ≤ 1024 → from ≤ n → Sought g n from f i
-    seek_end h k m = record { behind = s.behind; within = s.within m; passed = s.passed; reached = λ z. absurd (omega arith) }
-
-module _ (g : ℕ → ℕ) (n : ℕ) (before : List ℕ) where
-  pub group_none : n ≤ 1024 → Sofar g n 0 0 before before
-  group_none h =
-      record {
-        long = refl;
-        few = h;
-        there = omega arith;
-        earlier = λ i k. absurd (omega arith);
-        entries = λ e k. absurd (omega arith);
-        lower = λ e i k. absurd (omega arith);
-        reached = λ e k. absurd (omega arith);
-      }
-
-  module _ (b f : ℕ) (groups : List ℕ) (so : Sofar g n b f before groups) (h : f < length groups) (r : ℕ) (s : Sought g n b f r) where
-    before_here : (i : ℕ) → i < r → g i < f
-    before_here i k = go (dec_lt i b)
-      where
-        go : Dec (i < b) → g i < f
-        go (yes l) = so.earlier i l
-        go (no l) = s.passed i (omega arith) k
-
-    -- what holds of each entry below f and of the new one, holds of each below f + 1
-    each : (P : ℕ → ℕ → Type 0) → ((e : ℕ) → e < f → P e (get_or groups e 0)) → P f r → (e : ℕ) → e < f + 1 → P e (get_or (set groups f r) e 0)
-    each P old new e k = go (ℕ_discrete e f)
-      where
-        go : Dec (e ≡ f) → P e (get_or (set groups f r) e 0)
-        go (yes z) = subst (λ x. P x (get_or (set groups f r) x 0)) (sym z) (subst (P f) (sym (get_or-set_same groups f r 0 h)) new)
-        go (no z) = subst (P e) (sym (get_or-set_other groups f e r 0 z)) (old e (let w = z in omega arith))
-
-    pub group_more : Sofar g n r (f + 1) before (set groups f r)
-    group_more =
-        record {
-          long = length-set groups f r ∙ so.long;
-          few = so.few;
-          there = s.within;
-          earlier = λ i k. let l = before_here i k in omega arith;
-          entries = each (λ e x. x ≤ n) so.entries s.within;
-          lower = λ e i k. each (λ e x. (i : ℕ) → i < x → g i < e) (λ e k i. so.lower e i k) before_here e k i;
-          reached = each (λ e x. x < n → e ≤ g x) so.reached s.reached;
-        }
 
 before_le : (a b c d : ℕ) → before a b c d ≡ true → a ≤ c
 unfolding before

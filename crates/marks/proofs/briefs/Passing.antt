@@ -1,5 +1,5 @@
 -- Numbers that are marked: a number whose word is not in the brief is passed with its word.
-use Prim.Native.Nat.{ℕ, ◌+◌, ◌-◌, ◌*◌, ◌/◌, ◌%◌, ◌^◌, ◌<◌, ◌≤◌}
+use Prim.Native.Nat.{ℕ, ◌+◌, ◌-◌, ◌*◌, ◌/◌, ◌%◌, ◌^◌, ◌<◌, ◌≤◌, min}
 use native.Mathlib.Omega.{arith}
 use native.Mathlib.Decide.{dec_lt}
 use mathlib.Core.Path.{◌≡◌, sym, ap, ◌∙◌}
@@ -24,9 +24,6 @@ pub record Passes (words : List ℕ) (at brief from n : ℕ) : Type 0 where
   pub on : from ≤ n
   pub none : (m : ℕ) → from ≤ m → m < n → Marked words at brief m → ⊥
 
-pub passes_none : (words : List ℕ) (at brief from : ℕ) → Passes words at brief from from
-passes_none words at brief from = record { on = omega arith; none = λ m h l. absurd (omega arith) }
-
 -- those that are not in the set are passed
 pub passes_on : {words : List ℕ} {at brief from n n' : ℕ} → Passes words at brief from n → Passed words at n n' → Passes words at brief from n'
 passes_on {words} {at} {brief} {from} {n} {n'} p q = record { on = omega (arith, p.on, q.on); none = λ m h l i. go m h l i (dec_lt m n) }
@@ -38,8 +35,8 @@ passes_on {words} {at} {brief} {from} {n} {n'} p q = record { on = omega (arith,
 pub marked_end : {words : List ℕ} {at brief from n : ℕ} → Passes words at brief from n → (end : ℕ) → end ≤ n → FindsMarked words at brief from end end
 marked_end p end h = record { within = omega arith; passed = λ m f l. p.none m f (omega arith); found = λ l. absurd (omega arith) }
 
-pub marked_here : {words : List ℕ} {at brief from n : ℕ} → Passes words at brief from n → (end : ℕ) → n ≤ end → FindsMarked words at brief from end n
-marked_here p end h = record { within = h; passed = p.none; found = λ l. p.on }
+pub marked_lowest : {words : List ℕ} {at brief from n : ℕ} → Passes words at brief from n → (end r : ℕ) → r ≡ min end n → FindsMarked words at brief from end r
+marked_lowest p end r e = record { within = omega arith; passed = λ m f l. p.none m f (omega arith); found = λ l. omega (arith, p.on) }
 
 -- behind k words, by the brief
 module _ {words : List ℕ} {at brief from n : ℕ} (k : ℕ) (p : Passes words at brief from n) (e : n ≡ k * 32) (word : ℕ) (is : word ≡ get_or words (brief + 0) 0) where

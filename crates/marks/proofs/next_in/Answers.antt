@@ -3,12 +3,6 @@ use native.Mathlib.Omega.{arith}
 use Rattle.marks.proofs.Sets.{passed_none, passed_word, finds_lowest, finds_end, finds_on}
 use Rattle.marks.proofs.next_in.Goals as goal
 
-pub returns-then-end-from : goal.returns-then-end-from
-returns-then-end-from c = finds_end (passed_none _ _ _) _ c.if-end-from.true
-
-pub lowest-requires : goal.lowest-requires
-lowest-requires c = omega (arith, c.if-end-from.false)
-
 pub returns-then-rest-ne0 : goal.returns-then-rest-ne0
 returns-then-rest-ne0 c = finds_lowest (passed_none _ _ _) _ c.word_in-word.ensures (omega arith) c.if-rest-ne0.true _ _ c.lowest.ensures
 

@@ -1,16 +1,18 @@
 -- An argument of the constructor in front with its target, by a row of the table.
-use Prim.Native.Nat.{ℕ, zero, suc, ◌<◌, ◌≤◌}
+use Prim.Native.Nat.{ℕ, zero, suc, ◌<◌, ◌≤◌, min}
+use native.Mathlib.Decide.{dec_lt}
 use native.Mathlib.Omega.{arith}
 use native.Mathlib.Nat.{le_of_suc-le-suc}
 use mathlib.Core.Path.{◌≡◌, refl, sym, ap, ◌∙◌}
 use mathlib.Core.List.{List, [], ◌∷◌}
 use mathlib.Core.Option.{none, some}
-use borrow.Author.Tests.{eq-eqb, ne_eqb}
 use lib.ListN.{length, get_or, take}
 use lib.Seq.{get_or-take}
 use Rattle.scheme.specs.Terms.{Term, Terms, []ᵗ, ◌∷ᵗ◌, countᵗ, term_at}
 use Rattle.scheme.specs.Replay.{argument, descend}
-use Rattle.transitions.specs.table.Moves.{targets_in}
+use Rattle.std.specs.Prelude.{None, Some}
+use Rattle.std.proofs.lemmas.Option.{none-some, same_Some}
+use Rattle.transitions.specs.rows.Rows.{targets_of}
 use Rattle.replay.specs.letters.Letters.{IsTargetOf}
 
 -- there are both
@@ -52,38 +54,26 @@ take_enough (suc n) i [] h k = absurd (omega arith)
 take_enough (suc n) zero (x ∷ l) h k = omega arith
 take_enough (suc n) (suc i) (x ∷ l) h k = let e = take_enough n i l (le_of_suc-le-suc h) (le_of_suc-le-suc k) in omega arith
 
-module _ (i : ℕ) (ts : Terms) (row : List ℕ) (arity : ℕ) where
-  stops : get_or row 0 0 ≡ 255 → descend i ts (targets_in arity row) ≡ none
-  unfolding targets_in descend
-  stops h = rw (eq-eqb (get_or row 0 0) 255 h)
+-- the argument and the target that a letter leads to
+pub descend_some : (i : ℕ) (ts : Terms) (targets : List ℕ) (arity : ℕ) (d : Term) → i < countᵗ ts → i < arity → i < length targets → descend i ts (targets_of arity (Some targets)) ≡ some (record { term = term_at ts i d; state = get_or targets i 0 })
+unfolding targets_of descend
+descend_some i ts targets arity d k l m =
+    argument_some i ts (take arity targets) d k (take_enough arity i targets l m)
+    ∙ ap (λ q. some (record { term = term_at ts i d; state = q })) (get_or-take arity targets i 0 l)
 
-  goes : (get_or row 0 0 ≡ 255 → ⊥) → descend i ts (targets_in arity row) ≡ argument i ts (take arity row)
-  unfolding targets_in descend
-  goes h = rw (ne_eqb (get_or row 0 0) 255 h)
+module _ {arity count i : ℕ} where
+  pub target_none : IsTargetOf None arity count i None
+  unfolding targets_of descend
+  target_none = record { goes = λ q e. absurd (none-some q e); stops = λ e ts c l. refl }
 
-  -- the argument and the target that a letter leads to
-  pub descend_some : (d : Term) → (get_or row 0 0 ≡ 255 → ⊥) → i < countᵗ ts → i < arity → i < length row → descend i ts (targets_in arity row) ≡ some (record { term = term_at ts i d; state = get_or row i 0 })
-  descend_some d h k l m =
-      goes h ∙ argument_some i ts (take arity row) d k (take_enough arity i row l m)
-      ∙ ap (λ q. some (record { term = term_at ts i d; state = q })) (get_or-take arity row i 0 l)
+  -- past the arguments that are held, those of the constructor and those of a row
+  pub target_past : (targets : List ℕ) → min count (min arity 4) ≤ i → IsTargetOf (Some targets) arity count i None
+  unfolding targets_of descend
+  target_past targets h = record { goes = λ q e. absurd (none-some q e); stops = λ e ts c l. by ts c l (dec_lt i count) }
+    where
+      by : (ts : Terms) → countᵗ ts ≡ count → length targets ≡ 4 → Dec (i < count) → argument i ts (take arity targets) ≡ none
+      by ts c l (yes k) = no_target i ts (take arity targets) (let a = take_few arity targets in let b = take_short arity targets in omega arith)
+      by ts c l (no k) = no_argument i ts (take arity targets) (omega arith)
 
-module _ {row : List ℕ} {arity count i : ℕ} where
-  -- no target, because the letter leads nowhere
-  no_way : ((ts : Terms) → countᵗ ts ≡ count → length row ≡ 4 → descend i ts (targets_in arity row) ≡ none) → IsTargetOf row arity count i 256
-  no_way w = record { goes = λ e. absurd (e refl); stops = λ e. w }
-
-  pub target_none : get_or row 0 0 ≡ 255 → IsTargetOf row arity count i 256
-  target_none h = no_way (λ ts c l. stops i ts row arity h)
-
-  module _ (there : get_or row 0 0 ≡ 255 → ⊥) where
-    pub target_past : count ≤ i → IsTargetOf row arity count i 256
-    target_past h = no_way (λ ts c l. goes i ts row arity there ∙ no_argument i ts (take arity row) (omega arith))
-
-    pub target_over : arity ≤ i → IsTargetOf row arity count i 256
-    target_over h = no_way (λ ts c l. goes i ts row arity there ∙ no_target i ts (take arity row) (let k = take_few arity row in omega arith))
-
-    pub target_four : 4 ≤ i → IsTargetOf row arity count i 256
-    target_four h = no_way (λ ts c l. goes i ts row arity there ∙ no_target i ts (take arity row) (let k = take_short arity row in omega arith))
-
-    pub target_there : i < count → i < arity → i < 4 → (r : ℕ) → r ≡ get_or row i 0 → r < 256 → IsTargetOf row arity count i r
-    target_there h k m r is byte = record { goes = λ e. (there, h, k, m, sym is); stops = λ e. absurd (omega arith) }
+  pub target_there : (targets : List ℕ) → i < count → i < arity → i < 4 → (r : ℕ) → r ≡ get_or targets i 0 → IsTargetOf (Some targets) arity count i (Some r)
+  target_there targets h k m r is = record { goes = λ q e. (targets, refl, h, k, m, sym is ∙ same_Some r q e); stops = λ e. absurd (none-some r (sym e)) }

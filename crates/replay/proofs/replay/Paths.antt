@@ -1,8 +1,7 @@
 -- The path of a file, by its tables.
-use Prim.Native.Nat.{ℕ, ◌+◌, ◌*◌, ◌/◌, ◌<◌, ◌≤◌}
+use Prim.Native.Nat.{ℕ, ◌+◌, ◌*◌, ◌<◌, ◌≤◌}
 use native.Mathlib.Omega.{arith}
-use mathlib.Core.Path.{◌≡◌, refl, sym, ap, subst, ◌∙◌}
-use mathlib.Core.Bool.{Bool, true, false, true≢false}
+use mathlib.Core.Path.{◌≡◌, sym, ap, subst, ◌∙◌}
 use mathlib.Core.List.{List, []}
 use borrow.Author.Tests.{ltb-false}
 use lib.Dec.{ltb}
@@ -23,7 +22,9 @@ use Rattle.transitions.specs.table.Moves
 use Rattle.index.proofs.Wholes.{whole_bodies}
 use Rattle.casefile.specs.PathCases.{replayed}
 use Rattle.replay.specs.replay.Replays.{Runs, ReplaysPath, Attempts}
-use Rattle.replay.specs.declared.replay.Replayed.{Replayed}
+use Rattle.std.specs.Prelude.{Result}
+use Rattle.records.specs.declared.refusal.Refusal.{Refusal}
+use Rattle.replay.specs.declared.replay.Refuted.{Refuted}
 
 -- "at most" 4,096 letters
 path_short : {rs : List Record} → Passed rs → 0 < length (payloads Kind.path rs) → length (get_or (payloads Kind.path rs) 0 []) ≤ max_letters
@@ -35,9 +36,9 @@ path_short {rs} ok h =
 
 -- the answer of the run over the path of a file, by how many letters there are cells for
 module _ {file index counts : List ℕ} {n rules constructors : ℕ} (en : n ≡ get_or counts 6 0) (er : rules ≡ get_or counts 4 0) (ec : constructors ≡ get_or counts 2 0)
-    {table : List (List (List ℕ))} (holds : Moves.Holds file index n table) (path : List ℕ) (ep : path ≡ entry_of file index path_at) {cells : List ℕ} {r : Replayed}
+    {table : List (List (List ℕ))} (holds : Moves.Holds file index n table) (path : List ℕ) (ep : path ≡ entry_of file index path_at) {cells : List ℕ} {r : Result Refuted Refusal}
     (run : Runs file index rules constructors table path cells r) where
-  pub replay_answer : (length path ≤ max_letters → length path * 8 + 8 ≤ length cells) → ReplaysPath file index counts r
+  replay_answer : (length path ≤ max_letters → length path * 8 + 8 ≤ length cells) → ReplaysPath file index counts r
   unfolding number
   replay_answer room =
       record {
@@ -64,25 +65,6 @@ module _ {file index counts : List ℕ} {n rules constructors : ℕ} (en : n ≡
             (room short) short ∙ ap (replayed (automaton_of rs) (plan_of rs)) e;
       }
 
-  -- there are cells for all letters
-  pub attempt_done : length path < length cells / 8 → Attempts file index counts (length cells) true r
-  attempt_done h = record { answered = λ y. replay_answer (λ few. omega arith); enough = λ y. absurd (true≢false y) }
-
--- there are not
-pub attempt_not : {file index counts : List ℕ} {cells : ℕ} (path : List ℕ) → path ≡ entry_of file index path_at → (r : Replayed) → cells / 8 ≤ length path → Attempts file index counts cells false r
-attempt_not {file} {index} {counts} {cells} path ep r h = record { answered = λ y. absurd (true≢false (sym y)); enough = λ y. subst (λ (p : List ℕ). cells / 8 ≤ length p) ep h }
-
--- with cells for all letters that a path may have the attempt is done
-pub answer_all : {file index counts : List ℕ} {cells : ℕ} {done : Bool} (r : Replayed) → Attempts file index counts cells done r → max_letters < cells / 8 → ReplaysPath file index counts r
-unfolding number
-answer_all {done = true} r a h = a.answered refl
-answer_all {file = file} {index = index} {counts = counts} {done = false} r a h =
-    record {
-      answer = λ lens rs flags known ok whole some.
-          let there : Indexed file index Kind.path (get_or counts 9 0) rs = known.entries Kind.path in
-          let e = entry_there there 0 (let c = there.counted in omega arith) in
-          let short = path_short ok (let l = count_payloads Kind.path rs in omega arith) in
-          let long = a.enough refl in
-          let same = ap (length {A = ℕ}) e in
-          absurd (omega arith);
-    }
+  -- with so many cells
+  pub attempt : (n : ℕ) → length cells ≡ n → Attempts file index counts n r
+  attempt n e = record { answered = λ enough. replay_answer (λ few. let room = enough (subst (λ (p : List ℕ). length p ≤ max_letters) ep few) in let same = ap (length {A = ℕ}) ep in omega arith) }

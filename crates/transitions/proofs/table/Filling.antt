@@ -2,7 +2,7 @@
 use Prim.Native.Nat.{ℕ, suc, ◌+◌, ◌-◌, ◌<◌, ◌≤◌}
 use native.Mathlib.Nat.{add-zero}
 use native.Mathlib.Omega.{arith}
-use native.Mathlib.Decide.{ℕ_discrete}
+use native.Mathlib.Decide.{ℕ_discrete, dec_lt}
 use mathlib.Core.Path.{◌≡◌, refl, sym, ap, ◌∙◌}
 use mathlib.Core.Bool.{◌&&◌}
 use mathlib.Core.List.{List, [], ◌∷◌}
@@ -113,7 +113,7 @@ module _ (file index : List ℕ) (n : ℕ) where
           rows = λ rs ok ix x y hx hy. put_row t so.shaped q c r lq lc x y ∙ ap (λ l. choose eqb q x && eqb c y then l else row_at t x y) same ∙ sym (here ok ix x y hx hy);
         }
 
-    pub sofar_state : max_states ≤ q → Sofar file index n t (k - 1)
+    sofar_state : max_states ≤ q → Sofar file index n t (k - 1)
     sofar_state l =
         record {
           count = omega (arith, so.count);
@@ -122,7 +122,7 @@ module _ (file index : List ℕ) (n : ℕ) where
           rows = λ rs ok ix x y hx hy. other_state q c x y (four_at file at) (row_at t x y) l hx ∙ sym (here ok ix x y hx hy);
         }
 
-    pub sofar_constructor : max_constructors ≤ c → Sofar file index n t (k - 1)
+    sofar_constructor : max_constructors ≤ c → Sofar file index n t (k - 1)
     sofar_constructor l =
         record {
           count = omega (arith, so.count);
@@ -130,3 +130,10 @@ module _ (file index : List ℕ) (n : ℕ) where
           shaped = so.shaped;
           rows = λ rs ok ix x y hx hy. other_constructor q c x y (four_at file at) (row_at t x y) l hy ∙ sym (here ok ix x y hx hy);
         }
+
+    pub sofar_other : (q < max_states → max_constructors ≤ c) → Sofar file index n t (k - 1)
+    sofar_other l = by (dec_lt q max_states)
+      where
+        by : Dec (q < max_states) → Sofar file index n t (k - 1)
+        by (yes h) = sofar_constructor (l h)
+        by (no h) = sofar_state (omega arith)

@@ -13,20 +13,8 @@ returns-then-next-ge-PLACE_UNITS c = measure_far c.loop-need.invariant c.if-next
 pub overflow_add-nodes : goal.overflow_add-nodes
 overflow_add-nodes c = let w = c.loop-need.invariant.sums in let v = c.weigh-nodes.ensures.small in omega arith
 
-pub overflow_sub-need : goal.overflow_sub-need
-overflow_sub-need c = omega arith
-
-pub overflow_add-next : goal.overflow_add-next
-overflow_add-next c = omega arith
-
 pub overflow_add-need : goal.overflow_add-need
 overflow_add-need c = let w = c.loop-need.invariant.needs in let v = c.byte_at.ensures.bound in omega arith
-
-pub overflow_add-next-in-loop-need : goal.overflow_add-next-in-loop-need
-overflow_add-next-in-loop-need c = omega arith
-
-pub loop-need-smaller : goal.loop-need-smaller
-loop-need-smaller c = omega arith
 
 pub loop-need-preserved : goal.loop-need-preserved
 loop-need-preserved c = measure_next c.loop-need.invariant c.loop-need-test.true _ _ c.weigh-nodes.ensures c.byte_at.ensures.value c.byte_at.ensures.bound _ _ _ refl refl refl

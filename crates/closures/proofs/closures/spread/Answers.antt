@@ -2,16 +2,11 @@
 use native.Mathlib.Omega.{arith}
 use mathlib.Core.Path.{refl}
 use Rattle.closures.proofs.closures.Spreading.{spread_start, spread_over, spread_end, spread_next}
+use Rattle.closures.proofs.closures.Capping.{adds_saturating}
 use Rattle.closures.proofs.closures.spread.Goals as goal
 
 pub returns-then-cells-low : goal.returns-then-cells-low
 returns-then-cells-low c = spread_over (omega arith)
-
-pub overflow_sub-cells : goal.overflow_sub-cells
-overflow_sub-cells c = omega arith
-
-pub returns-then-cells-low-2 : goal.returns-then-cells-low-2
-returns-then-cells-low-2 c = spread_over (omega arith)
 
 pub loop-i-init : goal.loop-i-init
 loop-i-init c = spread_start _ _ _ _ _ _ _
@@ -22,14 +17,8 @@ overflow_add-cells c = let l = c.loop-i.invariant.long in omega arith
 pub bounds-cells-low : goal.bounds-cells-low
 bounds-cells-low c = let l = c.loop-i.invariant.long in omega arith
 
-pub overflow_add-i : goal.overflow_add-i
-overflow_add-i c = omega arith
-
-pub loop-i-smaller : goal.loop-i-smaller
-loop-i-smaller c = omega arith
-
 pub loop-i-preserved : goal.loop-i-preserved
-loop-i-preserved c = let l = c.loop-i.invariant.long in spread_next c.loop-i.invariant c.loop-i-test.true (omega arith) _ _ c.measure_term-measured.ensures c.closure_of-closure.ensures _ c.capped-total.ensures _ refl
+loop-i-preserved c = let l = c.loop-i.invariant.long in spread_next c.loop-i.invariant c.loop-i-test.true (omega arith) _ _ c.measure_term-measured.ensures c.closure_of-closure.ensures _ (adds_saturating c.saturating_add-total.ensures) _ refl
 
 pub shape_of-cells : goal.shape_of-cells
 shape_of-cells c = c.loop-i.invariant.long

@@ -1,10 +1,6 @@
 -- `spread` meets its contract. The invariant: the first i closures are written, and their nodes summed.
-use Prim.Native.Nat.{◌-◌}
 use Rattle.closures.proofs.closures.Spreading.{Spreading}
 use Rattle.closures.proofs.closures.spread.Given as goal
 
 abbrev pub invariant-loop-i : goal.invariant-loop-i
-invariant-loop-i l = Spreading l.file l.initial.cells l.at l.m l.block l.count l.low l.cells l.i l.next l.total
-
-abbrev pub decreases-loop-i : goal.decreases-loop-i
-decreases-loop-i l = l.m - l.i
+invariant-loop-i l = Spreading l.file l.initial.cells l.at l.m l.frame.block l.frame.count l.low l.cells l.i l.next l.total

@@ -5,11 +5,11 @@ use Rattle.closures.proofs.closures.weigh.Goals as goal
 pub returns-then-at-ge-PLACE_UNITS : goal.returns-then-at-ge-PLACE_UNITS
 returns-then-at-ge-PLACE_UNITS c = weigh_far c.if-at-ge-PLACE_UNITS.true
 
-pub returns-then-byte_at-lt2 : goal.returns-then-byte_at-lt2
-returns-then-byte_at-lt2 c = weigh_head _ c.byte_at.ensures.value c.if-byte_at-lt2.true
+pub returns-in_default : goal.returns-in_default
+returns-in_default c = weigh_head _ c.head_at.ensures c.in_default.not-Parameter
 
-pub returns-then-count-number : goal.returns-then-count-number
-returns-then-count-number c = weigh_free _ _ c.byte_at.ensures.value c.word_at-number.ensures.value c.if-byte_at-lt2.false c.if-count-number.true
+pub returns-in-Some : goal.returns-in-Some
+returns-in-Some c = weigh_parameter _ c.head_at.ensures _ c.in-Parameter.is _ c.closure_at.ensures _ c.in-Some.is _ c.nodes.ensures
 
-pub returns : goal.returns
-returns c = weigh_parameter _ _ c.byte_at.ensures.value c.word_at-number.ensures.value c.if-byte_at-lt2.false c.if-count-number.false _ c.closure_at.ensures
+pub returns-in-None : goal.returns-in-None
+returns-in-None c = weigh_free _ c.head_at.ensures _ c.in-Parameter.is _ c.closure_at.ensures c.in-None.is

@@ -2,11 +2,11 @@
 use Rattle.replay.proofs.replay.Running.{arrive_not, arrive_goes, arrive_stuck}
 use Rattle.replay.proofs.replay.arrive.Goals as goal
 
-pub returns-then-held-ne0 : goal.returns-then-held-ne0
-returns-then-held-ne0 c = arrive_not _ _ _ _ c.if-held-ne0.true
+pub returns-in_default : goal.returns-in_default
+returns-in_default c = arrive_not _ _ _ _ c.in_default.not-Constructor
 
-pub returns-then-row : goal.returns-then-row
-returns-then-row c = arrive_goes _ _ _ _ c.if-held-ne0.false _ c.row_of-row.ensures c.if-row.true
+pub returns-then-is_some : goal.returns-then-is_some
+returns-then-is_some c = arrive_goes _ _ _ _ _ c.in-Constructor.is _ c.row_of.ensures c.if-is_some.ensures
 
 pub returns : goal.returns
-returns c = arrive_stuck _ _ _ _ c.if-held-ne0.false _ c.row_of-row.ensures c.if-row.false
+returns c = arrive_stuck _ _ _ _ _ c.in-Constructor.is _ c.row_of.ensures c.if-is_some.ensures

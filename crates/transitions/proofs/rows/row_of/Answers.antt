@@ -1,16 +1,13 @@
 -- `row_of` meets its contract.
 use native.Mathlib.Omega.{arith}
-use Rattle.transitions.proofs.rows.Rows.{row_past_states, row_past_constructors, row_past_all, row_there}
+use Rattle.transitions.proofs.rows.Rows.{row_past, row_none, row_there}
 use Rattle.transitions.proofs.rows.row_of.Goals as goal
 
 pub returns-then-state-ge-MAX_STATES : goal.returns-then-state-ge-MAX_STATES
-returns-then-state-ge-MAX_STATES c = row_past_states c.if-state-ge-MAX_STATES.true
+returns-then-state-ge-MAX_STATES c = row_past (λ l. omega arith)
 
-pub returns-then-constructors-c : goal.returns-then-constructors-c
-returns-then-constructors-c c = row_past_constructors c.if-constructors-c.true
+pub returns-then-row : goal.returns-then-row
+returns-then-row c = row_none c.if-state-ge-MAX_STATES.false c.if-c-ge-MAX_CONSTRUCTORS.false c.if-row.true
 
-pub returns-then-c-ge-MAX_CONSTRUCTORS : goal.returns-then-c-ge-MAX_CONSTRUCTORS
-returns-then-c-ge-MAX_CONSTRUCTORS c = row_past_all c.if-c-ge-MAX_CONSTRUCTORS.true (λ h. omega (arith, c.if-constructors-c.false))
-
-pub returns : goal.returns
-returns c = row_there c.if-state-ge-MAX_STATES.false c.if-c-ge-MAX_CONSTRUCTORS.false
+pub returns-else-row : goal.returns-else-row
+returns-else-row c = row_there c.if-state-ge-MAX_STATES.false c.if-c-ge-MAX_CONSTRUCTORS.false c.if-row.false
