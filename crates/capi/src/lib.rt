@@ -7,7 +7,8 @@ ghost use Rattle.plan_check.specs.Verdicts.{answer_as};
 
 use plan_check::{Verdict, judge};
 
-// The number of a verdict, 0 proved, 1 unproved, 2 refuted, 3 refused, and its values, 0 where there are fewer than three.
+// The number of a verdict, 0 proved, 1 unproved, 2 refuted, 3 refused, and its values, 0 where there are fewer than three. These are the
+// numbers of the C interface, and no `From` stands for this function: neither the verdict nor an array is a type of this crate.
 fn words_of(verdict: Verdict) -> [u64; 4]
     ensures { result ≡ words_of (answer_as verdict) }
 {

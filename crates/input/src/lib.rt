@@ -1,7 +1,7 @@
 // Reads a case file from standard input.
 #![tactic(auto)]
 
-ghost use Rattle.std.specs.Prelude.{◌≡◌, ◌≤◌, length, take};
+ghost use Rattle.std.specs.Prelude.{◌≡◌, ◌≤◌, IfSome, length, take};
 
 use std::io;
 use std::io::Read;
@@ -9,51 +9,33 @@ use std::io::Read;
 // How long a buffer for a case file is: more than the 60,000 bytes of the longest one, so that a longer one is seen to be longer.
 pub const BUFFER: usize = 65536;
 
-// Whether the input was read to its end or to the end of the buffer, and how many bytes of it stand there.
-#[derive(Drop)]
-pub struct Input {
-    pub whole: bool,
-    pub length: usize,
-}
-
-// Reads until the buffer is full, the input ends or a read fails. A read that does not fail and is not at the end gives a byte
-// at least, so that there are no more reads than the buffer has bytes.
-fn read_whole<R: Read>(reader: &mut R, buffer: &mut [u8]) -> Input
-    ensures { result.length ≤ length buffer.new }
+// Reads until the buffer is full, the input ends or a read fails; returns how many bytes stand at the start of the buffer, and
+// whether no read failed. A read that does not fail and is not at the end gives a byte at least, so that there are no more reads
+// than the buffer has bytes.
+pub fn fill<R: Read>(reader: &mut R, buffer: &mut [u8]) -> (usize, io::Result<()>)
+    ensures { result.0 ≤ length buffer.new }
 {
     let mut at: usize = 0;
     for _turn in 0..buffer.len() {
         match reader.read(&mut buffer[at..]) {
-            Ok(0) => {
-                return Input {
-                    whole: true,
-                    length: at,
-                };
-            }
+            Ok(0) => return (at, Ok(())),
             Ok(count) => at = at + count,
-            Err(_) => {
-                return Input {
-                    whole: false,
-                    length: 0,
-                };
-            }
+            Err(error) => return (at, Err(error)),
         }
     }
-    Input {
-        whole: true,
-        length: at,
-    }
+    (at, Ok(()))
 }
 
-// Reads standard input into a buffer, as much of it as there is room for. Where it cannot be read, a line on standard error says
-// so, and there is no file to judge.
-pub fn read_input<R: io::Input + Eprint>(rt: &R, buffer: &mut [u8]) -> Input
-    ensures in_buffer { result.length ≤ length buffer.new }
-    ensures prefix_len { result.length ≡ length (take result.length buffer.new) }
+// Reads standard input into a buffer, as much of it as there is room for; returns how many bytes stand there. Where it cannot be
+// read, a line on standard error says so, and there is no file to judge.
+pub fn read_input<R: io::Input + Eprint>(rt: &R, buffer: &mut [u8]) -> Option<usize>
+    ensures in_buffer { IfSome result (λ n. n ≤ length buffer.new) }
+    ensures prefix_len { IfSome result (λ n. n ≡ length (take n buffer.new)) }
 {
-    let input = read_whole(&mut rt.reader(), buffer);
-    if !input.whole {
+    let (length, read) = fill(&mut rt.reader(), buffer);
+    if read.is_err() {
         let _ = eprintln!(rt; "cannot read standard input");
+        return None;
     }
-    input
+    Some(length)
 }

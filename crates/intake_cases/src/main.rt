@@ -4,11 +4,8 @@
 #![tactic(auto)]
 
 use plan_check::Verdict;
-use std::env::Env;
 use std::io;
 use std::io::Write;
-use std::rt::Files;
-use test_files::{FILE_BUFFER, NAME_BUFFER};
 
 // The last refusal that needs no replay.
 const LAST: usize = 12;
@@ -43,30 +40,9 @@ fn judge<W: Write>(out: &mut W, name: &[u8], file: &[u8], lent: usize) -> io::Re
     say(out, name, verdict)
 }
 
-// The line of the file that argument i names; false where there is none.
-fn one<R: Env + Files + Print + Eprint>(rt: &R, i: usize) -> io::Result<bool> {
-    if 2000 < i {
-        return Ok(false);
-    }
-    let mut name = [0u8; NAME_BUFFER];
-    let mut file = [0u8; FILE_BUFFER];
-    let found = test_files::read_named(rt, i, &mut name, &mut file);
-    if !found.there {
-        return Ok(false);
-    }
-    let length = found.name;
-    let bytes = found.bytes;
-    let mut out = io::writer(rt);
-    let lent = test_files::number_argument(rt, i + 1);
-    judge(&mut out, &name[..length], &file[..bytes], lent)?;
-    Ok(true)
-}
-
 fn main(rt: HostRuntime) -> io::Result<()> {
-    for k in 0..1000 {
-        if !one(&rt, 2 * k + 1)? {
-            return Ok(());
-        }
-    }
-    Ok(())
+    test_files::for_each_named(&rt, 1000, 2, |name, file, i| {
+        let lent = test_files::number_argument(&rt, i.saturating_add(1));
+        judge(&mut io::writer(&rt), name, file, lent)
+    })
 }

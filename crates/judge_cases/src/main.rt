@@ -7,59 +7,40 @@
 #![tactic(auto)]
 
 use plan_check::Verdict;
-use std::env::Env;
 use std::io;
 use std::io::Write;
-use std::rt::Files;
-use test_files::{
-    FILE_BUFFER, FLAGS, NAME_BUFFER, fresh_flags, judge_lent, same, same_bytes, stem, untouched,
-    written,
-};
+use test_files::{FLAGS, fresh_flags, judge_lent, stem, untouched, written};
 
 // How many flags are printed at most.
 const SHOWN: usize = 64;
 
 // Whether each of the first n flags is 0 or 1.
 fn are_flags(flags: &[u8], n: usize) -> bool {
-    let mut i: usize = 0;
-    while i < flags.len() && i < n {
-        if 1 < flags[i] {
-            return false;
-        }
-        i = i + 1;
-    }
-    true
+    flags.iter().take(n).all(|flag| *flag <= 1)
 }
 
 // The sum of the numbers of the bindings, of n, whose flag is 1.
 fn sum_of_kept(flags: &[u8], n: usize) -> usize {
-    let mut sum: usize = 0;
-    let mut i: usize = 0;
-    while i < flags.len() && i < n {
-        if flags[i] == 1 {
-            sum = sum.wrapping_add(i);
-        }
-        i = i + 1;
-    }
-    sum
+    flags
+        .iter()
+        .take(n)
+        .enumerate()
+        .filter(|(_, flag)| **flag == 1)
+        .fold(0, |sum, (i, _)| sum.wrapping_add(i))
 }
 
 fn say_flag<W: Write>(out: &mut W, flag: u8) -> io::Result<()> {
-    if flag == 0 {
-        out.write_all(b"0")
-    } else if flag == 1 {
-        out.write_all(b"1")
-    } else {
-        out.write_all(b"?")
+    match flag {
+        0 => out.write_all(b"0"),
+        1 => out.write_all(b"1"),
+        _ => out.write_all(b"?"),
     }
 }
 
 // Prints the first flags, of n.
 fn say_first_flags<W: Write>(out: &mut W, flags: &[u8], n: usize) -> io::Result<()> {
-    let mut i: usize = 0;
-    while i < flags.len() && i < n && i < SHOWN {
-        say_flag(out, flags[i])?;
-        i = i + 1;
+    for flag in flags.iter().take(n.min(SHOWN)) {
+        say_flag(out, *flag)?;
     }
     Ok(())
 }
@@ -115,7 +96,7 @@ fn judge_exactly<W: Write>(
     let n = written(verdict);
     let mut others = fresh_flags();
     let again = judge_lent(file, &mut others, n);
-    if !same(verdict, again) || !same_bytes(flags, &others) {
+    if again != verdict || flags != others.as_slice() {
         say_mismatch(out, name, n, again)?;
     }
     Ok(())
@@ -132,7 +113,7 @@ fn judge_short<W: Write>(out: &mut W, name: &[u8], file: &[u8], n: usize) -> io:
         number: 12,
         place: 0,
     };
-    if !same(verdict, wanted) || !untouched(&flags, 0) {
+    if verdict != wanted || !untouched(&flags, 0) {
         say_mismatch(out, name, n - 1, verdict)?;
     }
     Ok(())
@@ -150,26 +131,8 @@ fn judge_case<W: Write>(out: &mut W, name: &[u8], file: &[u8]) -> io::Result<()>
     judge_short(out, name, file, written(verdict))
 }
 
-// Judges the file that argument i names; false where there is none.
-fn one<R: Env + Files + Print + Eprint>(rt: &R, i: usize) -> io::Result<bool> {
-    let mut name = [0u8; NAME_BUFFER];
-    let mut file = [0u8; FILE_BUFFER];
-    let found = test_files::read_named(rt, i, &mut name, &mut file);
-    if !found.there {
-        return Ok(false);
-    }
-    let length = found.name;
-    let bytes = found.bytes;
-    let mut out = io::writer(rt);
-    judge_case(&mut out, stem(&name[..length]), &file[..bytes])?;
-    Ok(true)
-}
-
 fn main(rt: HostRuntime) -> io::Result<()> {
-    for i in 1..1000 {
-        if !one(&rt, i)? {
-            return Ok(());
-        }
-    }
-    Ok(())
+    test_files::for_each_named(&rt, 999, 1, |name, file, _| {
+        judge_case(&mut io::writer(&rt), stem(name), file)
+    })
 }

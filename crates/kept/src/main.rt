@@ -54,11 +54,9 @@ fn of_bindings(verdict: Verdict) -> bool {
 // The buffer holds more than the 60,000 bytes of the longest case file, so that a longer one is seen to be longer.
 fn main(rt: HostRuntime) -> io::Result<()> {
     let mut file = [0u8; BUFFER];
-    let read = read_input(&rt, &mut file);
-    if !read.whole {
+    let Some(n) = read_input(&rt, &mut file) else {
         return Ok(());
-    }
-    let n = read.length;
+    };
     let mut flags = [0u8; MAX_BINDINGS];
     let verdict = plan_check::judge(&file[..n], &mut flags);
     let mut out = io::writer(&rt);

@@ -29,26 +29,7 @@ use Rattle.demands.proofs.Demands.{demand1, demand2, demand3}
 use Rattle.plan_check.specs.Verdicts.{answer_as}
 use Rattle.plan_check.specs.Promises.{of_bindings_spec, of_path_spec, JudgesBindingCase}
 use Rattle.plan_check.specs.declared.Verdict.{Verdict}
-use Rattle.plan_check.specs.declared.Verdict.TheVariants.{Proved, Unproved, Refuted, Refused}
-
--- the kept bindings, as a verdict
-pub bindings_proved : (b : Bool) (k t r : ℕ) → b ≡ true → Proved k t r ≡ of_bindings_spec b k t r
-unfolding of_bindings_spec
-bindings_proved b k t r e = sym (ap (λ x. of_bindings_spec x k t r) e)
-
-pub bindings_unproved : (b : Bool) (k t r : ℕ) → b ≡ false → Unproved k t r ≡ of_bindings_spec b k t r
-unfolding of_bindings_spec
-bindings_unproved b k t r e = sym (ap (λ x. of_bindings_spec x k t r) e)
-
--- the answer to a path, as a verdict
-module _ (p : Replayed) where
-  pub path_refuted : (n q c : ℕ) → p ≡ Refuted' n q c → Refuted n q c ≡ of_path_spec p
-  unfolding of_path_spec
-  path_refuted n q c e = sym (ap of_path_spec e)
-
-  pub path_refused : (n k : ℕ) → p ≡ Refused' n k → Refused n k ≡ of_path_spec p
-  unfolding of_path_spec
-  path_refused n k e = sym (ap of_path_spec e)
+use Rattle.plan_check.specs.declared.Verdict.TheVariants.{Refused}
 
 answer_path : (p : Replayed) → answer_as (of_path_spec p) ≡ (path_outcome (path_as p)).answer
 unfolding answer_as of_path_spec path_as path_outcome refusal

@@ -1,9 +1,10 @@
 -- The tables of a frame have room for every file of up to so many nodes, types and bindings; a file with no binding needs none.
-use Prim.Native.Nat.{ℕ, zero, suc, ◌+◌, ◌*◌, ◌/◌, ◌<◌, ◌≤◌}
+use Prim.Native.Nat.{ℕ, zero, suc, ◌+◌, ◌/◌, ◌≤◌}
 use native.Mathlib.Omega.{arith}
 use native.Mathlib.Nat.{mul-le-mul}
 use mathlib.Core.Path.{◌≡◌, refl, sym, subst}
 use mathlib.Core.Bool.{Bool, false}
+use mathlib.Core.Logic.{◌⊎◌, inl, inr}
 use mathlib.Core.List.{List, [], ◌∷◌}
 use lib.ListN.{length, get_or, replicate}
 use Rattle.scheme.specs.Lists.{any}
@@ -17,13 +18,15 @@ use Rattle.casefile.specs.Kinds.{Kind, number, payloads, count}
 use Rattle.casefile.specs.Tables.{bindings_of}
 use Rattle.casefile.specs.BindingCases.{shrunk}
 use Rattle.casefile.proofs.Plans.{bindings_many}
-use Rattle.index.specs.layout.Layout.{max_nonterminals, max_types, max_bindings, max_states, node_bytes, ends_size, index_size, rows_size, rows_at, row_cells, node_cells, word_bits, cell_words, place_limit, test_cells}
+use Rattle.index.specs.layout.Layout.{max_nonterminals, max_types, max_bindings, max_states, node_bytes, ends_size, index_size, rows_size, word_bits}
 use Rattle.index.specs.entries.Index.{Indexed}
 use Rattle.rules.specs.reading.RuleBodies.{nodes_in}
 use Rattle.rules.specs.first_nodes.FirstNodes.{CountsAll}
 use Rattle.rules.proofs.rules.Room.{file_room, count_few}
 use Rattle.binding_cases.specs.Judging.{IsShrunk, Lent, JudgesBindings}
-use Rattle.plan_check.specs.Promises.{of_bindings_spec, HasNodes, JudgesWithin, JudgesBindingCase}
+use Rattle.plan_check.specs.Promises.{of_bindings_spec, room_of, HasNodes, HasRoom, HasTables, JudgesWithin, JudgesBindingCase}
+use Rattle.plan_check.specs.declared.rooms.Frame.{Frame}
+use Rattle.plan_check.specs.declared.rooms.Frame.TheVariants.{All}
 use Rattle.plan_check.specs.declared.Verdict.{Verdict}
 use Rattle.plan_check.specs.declared.Verdict.TheVariants.{Unproved}
 
@@ -33,25 +36,8 @@ zeros zero i = refl
 zeros (suc n) zero = refl
 zeros (suc n) (suc i) = zeros n i
 
--- how many words tests read of so many types and bindings, and how many they write for so many hints, for bodies of a given number of
--- nodes
-abbrev pub read_of : ℕ → ℕ → ℕ
-read_of types bindings = test_cells + (types + max_states) * ((bindings + 31) / word_bits)
-
-abbrev pub write_of : ℕ → ℕ → ℕ → ℕ → ℕ
-write_of hints bindings nodes types = hints + bindings * ((bindings + 31) / word_bits + 1) + nodes * ((types + max_states + 31) / word_bits) * cell_words
-
--- tables that have room for so many nodes, types and bindings; each goal has a row
-pub record Roomy (nodes types bindings : ℕ) (index firsts table r w : List ℕ) (hints : ℕ) : Type 0 where
-  pub few_nodes : nodes ≤ ends_size
-  pub few_hints : hints < place_limit
-  pub index_long : index_size ≤ length index
-  pub firsts_long : rows_size ≤ length firsts
-  pub table_long : rows_at + (types + max_states) * row_cells + nodes * node_cells ≤ length table
-  pub read_long : read_of types bindings ≤ length r
-  pub write_long : hints + bindings * ((bindings + 31) / word_bits + 1) ≤ length w
-
-module _ {nodes types bindings : ℕ} {index firsts table r w : List ℕ} {hints : ℕ} (roomy : Roomy nodes types bindings index firsts table r w hints)
+module _ {nodes types bindings flat read write hints : ℕ} (enough : HasTables nodes types bindings flat read write hints) {firsts table r w : List ℕ}
+    (firsts_long : rows_size ≤ length firsts) (table_long : flat ≤ length table) (read_long : read ≤ length r) (write_long : write ≤ length w)
     (no_numbers : (i : ℕ) → get_or r i 0 ≡ 0) (no_answers : (i : ℕ) → get_or w i 0 ≡ 0) where
   lent_room : (rs : List Record) → nodes_in (payloads Kind.rule rs) ≤ nodes → count Kind.type rs ≤ types → count Kind.binding rs ≤ bindings → Lent rs firsts table r w hints
   lent_room rs n t b =
@@ -59,23 +45,23 @@ module _ {nodes types bindings : ℕ} {index firsts table r w : List ℕ} {hints
       let sets-fit = mul-le-mul {n₁ = count Kind.type rs + max_states} {n₂ = types + max_states} (omega arith) words in
       let users-fit = mul-le-mul b words in
       record {
-        firsts_long = roomy.firsts_long;
-        table_long = omega (arith, roomy.table_long);
-        read_long = omega (arith, roomy.read_long);
-        write_long = omega (arith, roomy.write_long);
-        few_hints = roomy.few_hints;
+        firsts_long = firsts_long;
+        table_long = omega (arith, enough.table_long, table_long);
+        read_long = omega (arith, enough.read_long, read_long);
+        write_long = omega (arith, enough.write_long, write_long);
+        few_hints = enough.few_hints;
         no_numbers = no_numbers;
         no_answers = no_answers;
       }
 
-  pub frame_judges : {file counts ends lent marks : List ℕ} {accepted : Bool} {kept total rounds : ℕ}
+  pub frame_judges : {file index counts ends lent marks : List ℕ} {accepted : Bool} {kept total rounds : ℕ} → index_size ≤ length index
       → JudgesBindings file index counts ends firsts table r w hints lent marks accepted kept total rounds
       → JudgesWithin nodes types bindings file index counts ends lent marks accepted kept total rounds
-  frame_judges {file} judges =
+  frame_judges {file} index_long judges =
       record {
         judged = λ n t b lens known ok ends_are whole.
             let rs = listed (records_of file) in
-            judges.judged lens rs known ok ends_are whole roomy.index_long (omega (arith, roomy.few_nodes)) (lent_room rs n t b);
+            judges.judged lens rs known ok ends_are whole index_long (omega (arith, enough.few_nodes)) (lent_room rs n t b);
       }
 
 -- no binding is offered
@@ -149,3 +135,12 @@ module _ {file index counts ends lent : List ℕ} where
             judges.judged (omega arith) (count_few known Kind.type) (count_few known Kind.binding) lens known ok;
         is_verdict = e;
       }
+
+  -- the frame that was chosen
+  pub chosen_judged : {frame : Frame} {most many total : ℕ} → HasNodes file index counts most → HasRoom (room_of frame) most many total ⊎ (frame ≡ All) → many ≡ get_or counts 7 0 → total ≡ get_or counts 8 0
+      → {marks : List ℕ} {accepted : Bool} {kept offered rounds : ℕ} {v : Verdict}
+      → JudgesWithin (room_of frame).nodes (room_of frame).types (room_of frame).bindings file index counts ends lent marks accepted kept offered rounds
+      → v ≡ of_bindings_spec accepted kept offered rounds → JudgesBindingCase file index counts ends lent marks v
+  chosen_judged has (inl room) et eb judges e = case_judged has room et eb judges e
+  chosen_judged has (inr last) et eb {marks} {accepted} {kept} {offered} {rounds} judges e =
+      all_judged (subst (λ f. JudgesWithin (room_of f).nodes (room_of f).types (room_of f).bindings file index counts ends lent marks accepted kept offered rounds) last judges) e

@@ -1,5 +1,5 @@
 -- What our own functions promise each other; nothing here has to be believed.
-use Rattle.std.specs.Prelude.{ℕ, ◌≤◌, ◌≡◌, Bool, true, false, List, [], ◌∷◌, length, get_or}
+use Rattle.std.specs.Prelude.{ℕ, ◌+◌, ◌*◌, ◌/◌, ◌<◌, ◌≤◌, ◌≡◌, Bool, List, length}
 use Rattle.std.proofs.Math.Option.{none}
 use Rattle.scheme.specs.Lists.{choose◌then◌else◌}
 use Rattle.casefile.specs.Records.{records_of, listed}
@@ -8,13 +8,16 @@ use Rattle.casefile.specs.Tables.{plan_of, automaton_of, bindings_of}
 use Rattle.casefile.specs.Refusals.{refuse_whole}
 use Rattle.casefile.specs.Promises.{Passed}
 use Rattle.casefile.specs.BindingCases.{shrunk}
-use Rattle.index.specs.layout.Layout.{max_file, tiny_nodes, tiny_types, tiny_bindings_spec, small_nodes, small_types, small_bindings_spec, modest_nodes, modest_types, modest_bindings_spec, plain_nodes, plain_types, plain_bindings_spec, broad_nodes, broad_types, broad_bindings_spec, middle_nodes, middle_types, middle_bindings_spec, wide_frame, wide_nodes, wide_types, wide_bindings_spec}
+use Rattle.index.specs.layout.Layout.{max_file, max_types, max_bindings, max_states, ends_size, place_limit, rows_at, row_cells, node_cells, word_bits, test_cells, tiny_nodes, tiny_types, tiny_bindings_spec, small_nodes, small_types, small_bindings_spec, modest_nodes, modest_types, modest_bindings_spec, plain_nodes, plain_types, plain_bindings_spec, broad_nodes, broad_types, broad_bindings_spec, middle_nodes, middle_types, middle_bindings_spec, wide_nodes, wide_types, wide_bindings_spec}
 use Rattle.index.specs.entries.Known.{Known}
 use Rattle.rules.specs.reading.RuleBodies.{nodes_in}
 use Rattle.intake.specs.plan.PlanTests.{EndsAre}
 use Rattle.replay.specs.declared.replay.Replayed.{Replayed}
 use Rattle.replay.specs.declared.replay.Replayed.TheVariants.{Refuted as Refuted', Refused as Refused'}
 use Rattle.binding_cases.specs.Judging.{IsShrunk}
+use Rattle.plan_check.specs.declared.rooms.Frame.{Frame}
+use Rattle.plan_check.specs.declared.rooms.Frame.TheVariants.{Tiny, Small, Modest, Plain, Broad, Middle, Wide, All}
+use Rattle.plan_check.specs.declared.rooms.Room.{Room}
 use Rattle.plan_check.specs.declared.Verdict.{Verdict}
 use Rattle.plan_check.specs.declared.Verdict.TheVariants.{Proved, Unproved, Refuted, Refused}
 
@@ -43,20 +46,29 @@ pub record JudgesWithin (nodes types bindings : ℕ) (file index counts ends len
 pub record HasNodes (file index counts : List ℕ) (nodes : ℕ) : Type 0 where
   pub few : (lens : List ℕ) → Known file index lens counts (listed (records_of file)) → Passed (listed (records_of file)) → nodes_in (payloads Kind.rule (listed (records_of file))) ≤ nodes
 
--- how many nodes, types and bindings each frame but the last has room for
-abbrev pub room_nodes : List ℕ
-room_nodes = tiny_nodes ∷ small_nodes ∷ modest_nodes ∷ plain_nodes ∷ broad_nodes ∷ middle_nodes ∷ wide_nodes ∷ []
+-- how many nodes, types and bindings each frame has room for; the last one for those of every file
+abbrev pub room_of : Frame → Room
+room_of Tiny = record { nodes = tiny_nodes; types = tiny_types; bindings = tiny_bindings_spec }
+room_of Small = record { nodes = small_nodes; types = small_types; bindings = small_bindings_spec }
+room_of Modest = record { nodes = modest_nodes; types = modest_types; bindings = modest_bindings_spec }
+room_of Plain = record { nodes = plain_nodes; types = plain_types; bindings = plain_bindings_spec }
+room_of Broad = record { nodes = broad_nodes; types = broad_types; bindings = broad_bindings_spec }
+room_of Middle = record { nodes = middle_nodes; types = middle_types; bindings = middle_bindings_spec }
+room_of Wide = record { nodes = wide_nodes; types = wide_types; bindings = wide_bindings_spec }
+room_of All = record { nodes = ends_size; types = max_types; bindings = max_bindings }
 
-abbrev pub room_types : List ℕ
-room_types = tiny_types ∷ small_types ∷ modest_types ∷ plain_types ∷ broad_types ∷ middle_types ∷ wide_types ∷ []
+-- there is room for so many nodes, types and bindings
+abbrev pub HasRoom : Room → ℕ → ℕ → ℕ → Type 0
+HasRoom room nodes types bindings = (nodes ≤ room.nodes) × (types ≤ room.types) × (bindings ≤ room.bindings)
 
-abbrev pub room_bindings : List ℕ
-room_bindings = tiny_bindings_spec ∷ small_bindings_spec ∷ modest_bindings_spec ∷ plain_bindings_spec ∷ broad_bindings_spec ∷ middle_bindings_spec ∷ wide_bindings_spec ∷ []
-
--- r says whether a frame has room for so many nodes, types and bindings; the last one has room for every file
-pub record HasRoom (frame nodes types bindings : ℕ) (r : Bool) : Type 0 where
-  pub room : r ≡ true → (f : ℕ) → frame ≡ f → f ≤ wide_frame → (nodes ≤ get_or room_nodes f 0) × (types ≤ get_or room_types f 0) × (bindings ≤ get_or room_bindings f 0)
-  pub last : r ≡ false → frame ≤ wide_frame
+-- tables of given sizes serve for so many nodes, types and bindings: the flat table has a row for each goal; what tests read and what
+-- they write, of which so many cells are hints
+pub record HasTables (nodes types bindings flat read write hints : ℕ) : Type 0 where
+  pub few_nodes : nodes ≤ ends_size
+  pub few_hints : hints < place_limit
+  pub table_long : rows_at + (types + max_states) * row_cells + nodes * node_cells ≤ flat
+  pub read_long : test_cells + (types + max_states) * ((bindings + 31) / word_bits) ≤ read
+  pub write_long : hints + bindings * ((bindings + 31) / word_bits + 1) ≤ write
 
 -- v is the verdict on the bindings of a file, by its tables, and the lent flags became `marks`
 pub record JudgesBindingCase (file index counts ends lent marks : List ℕ) (v : Verdict) : Type 0 where

@@ -1,8 +1,9 @@
 // Binding cases, each judged in a frame: tables with room for so many nodes, types and bindings. What the tables of answers have no room
 // for is worked out again; hints may be none.
-ghost use Rattle.index.specs.layout.Layout.{tiny_nodes, tiny_types, tiny_bindings_spec, small_nodes, small_types, small_bindings_spec, modest_nodes, modest_types, modest_bindings_spec, plain_nodes, plain_types, plain_bindings_spec, broad_nodes, broad_types, broad_bindings_spec, middle_nodes, middle_types, middle_bindings_spec, wide_nodes, wide_types, wide_bindings_spec, ends_size, max_types, max_bindings};
-ghost use Rattle.plan_check.specs.Promises.{JudgesWithin};
+ghost use Rattle.std.specs.Prelude.{ℕ, ◌<◌, ◌^◌};
+ghost use Rattle.plan_check.specs.Promises.{HasTables, JudgesWithin, room_of};
 
+use crate::rooms::Frame;
 use binding_cases::{Shrunken, judge_bindings};
 use index::layout::{
     ANSWERS, BROAD_ANSWERS, BROAD_SETS, BROAD_TABLE, BROAD_USERS, Counts, FEW_HINTS, HINTS, Index,
@@ -46,28 +47,33 @@ const ALL_READ: usize = TEST_CELLS + SETS;
 
 const ALL_WRITE: usize = HINTS + USERS + ANSWERS;
 
-// What is kept of the bindings of a file, in the tiny frame. What `firsts` holds does not matter, before or after; the index gets where
-// its transitions lie.
-pub(crate) fn tiny_bindings(
+// What is kept of the bindings of a file, in tables of given sizes: the flat table, what tests read and what they write, of which so many
+// cells are hints. What `firsts` holds does not matter, before or after; the index gets where its transitions lie. Each size stays a
+// function of its own, so that a small file does not pay for large tables.
+#[inline(never)]
+fn bindings_within<const FLAT: usize, const READ: usize, const WRITE: usize>(
     file: &[u8],
     index: &mut Index,
     counts: &Counts,
     ends: &[u16],
     firsts: &mut Rows,
+    hints: usize,
     flags: &mut [u8],
 ) -> Shrunken
-    ensures { JudgesWithin tiny_nodes tiny_types tiny_bindings_spec file.now index.old counts.now ends.now flags.old flags.new result.accepted result.kept result.total result.rounds }
+    requires { (FLAT < 2 ^ 32) × (READ < 2 ^ 32) × (WRITE < 2 ^ 32) }
+    ensures { (nodes types bindings : ℕ) → HasTables nodes types bindings FLAT READ WRITE hints → JudgesWithin nodes types bindings file.now index.old counts.now ends.now flags.old flags.new result.accepted result.kept result.total result.rounds }
 {
-    let mut t = [0u16; TINY_TABLE];
-    let mut r = [0u32; TINY_READ];
-    let mut w = [0u32; TINY_WRITE];
+    let mut t = [0u16; FLAT];
+    let mut r = [0u32; READ];
+    let mut w = [0u32; WRITE];
     judge_bindings(
-        file, index, counts, ends, firsts, &mut t, &mut r, &mut w, NO_HINTS, flags,
+        file, index, counts, ends, firsts, &mut t, &mut r, &mut w, hints, flags,
     )
 }
 
-// What is kept of the bindings of a file, in the small frame.
-pub(crate) fn small_bindings(
+// What is kept of the bindings of a file, in a frame.
+pub(crate) fn bindings_in(
+    frame: Frame,
     file: &[u8],
     index: &mut Index,
     counts: &Counts,
@@ -75,126 +81,32 @@ pub(crate) fn small_bindings(
     firsts: &mut Rows,
     flags: &mut [u8],
 ) -> Shrunken
-    ensures { JudgesWithin small_nodes small_types small_bindings_spec file.now index.old counts.now ends.now flags.old flags.new result.accepted result.kept result.total result.rounds }
+    ensures { let room = room_of frame in JudgesWithin room.nodes room.types room.bindings file.now index.old counts.now ends.now flags.old flags.new result.accepted result.kept result.total result.rounds }
 {
-    let mut t = [0u16; SMALL_TABLE];
-    let mut r = [0u32; SMALL_READ];
-    let mut w = [0u32; SMALL_WRITE];
-    judge_bindings(
-        file, index, counts, ends, firsts, &mut t, &mut r, &mut w, NO_HINTS, flags,
-    )
-}
-
-// What is kept of the bindings of a file, in the modest frame.
-pub(crate) fn modest_bindings(
-    file: &[u8],
-    index: &mut Index,
-    counts: &Counts,
-    ends: &[u16],
-    firsts: &mut Rows,
-    flags: &mut [u8],
-) -> Shrunken
-    ensures { JudgesWithin modest_nodes modest_types modest_bindings_spec file.now index.old counts.now ends.now flags.old flags.new result.accepted result.kept result.total result.rounds }
-{
-    let mut t = [0u16; MODEST_TABLE];
-    let mut r = [0u32; MODEST_READ];
-    let mut w = [0u32; MODEST_WRITE];
-    judge_bindings(
-        file, index, counts, ends, firsts, &mut t, &mut r, &mut w, NO_HINTS, flags,
-    )
-}
-
-// What is kept of the bindings of a file, in the plain frame.
-pub(crate) fn plain_bindings(
-    file: &[u8],
-    index: &mut Index,
-    counts: &Counts,
-    ends: &[u16],
-    firsts: &mut Rows,
-    flags: &mut [u8],
-) -> Shrunken
-    ensures { JudgesWithin plain_nodes plain_types plain_bindings_spec file.now index.old counts.now ends.now flags.old flags.new result.accepted result.kept result.total result.rounds }
-{
-    let mut t = [0u16; PLAIN_TABLE];
-    let mut r = [0u32; PLAIN_READ];
-    let mut w = [0u32; PLAIN_WRITE];
-    judge_bindings(
-        file, index, counts, ends, firsts, &mut t, &mut r, &mut w, NO_HINTS, flags,
-    )
-}
-
-// What is kept of the bindings of a file, in the broad frame.
-pub(crate) fn broad_bindings(
-    file: &[u8],
-    index: &mut Index,
-    counts: &Counts,
-    ends: &[u16],
-    firsts: &mut Rows,
-    flags: &mut [u8],
-) -> Shrunken
-    ensures { JudgesWithin broad_nodes broad_types broad_bindings_spec file.now index.old counts.now ends.now flags.old flags.new result.accepted result.kept result.total result.rounds }
-{
-    let mut t = [0u16; BROAD_TABLE];
-    let mut r = [0u32; BROAD_READ];
-    let mut w = [0u32; BROAD_WRITE];
-    judge_bindings(
-        file, index, counts, ends, firsts, &mut t, &mut r, &mut w, FEW_HINTS, flags,
-    )
-}
-
-// What is kept of the bindings of a file, in the middle frame.
-pub(crate) fn middle_bindings(
-    file: &[u8],
-    index: &mut Index,
-    counts: &Counts,
-    ends: &[u16],
-    firsts: &mut Rows,
-    flags: &mut [u8],
-) -> Shrunken
-    ensures { JudgesWithin middle_nodes middle_types middle_bindings_spec file.now index.old counts.now ends.now flags.old flags.new result.accepted result.kept result.total result.rounds }
-{
-    let mut t = [0u16; MIDDLE_TABLE];
-    let mut r = [0u32; MIDDLE_READ];
-    let mut w = [0u32; MIDDLE_WRITE];
-    judge_bindings(
-        file, index, counts, ends, firsts, &mut t, &mut r, &mut w, HINTS, flags,
-    )
-}
-
-// What is kept of the bindings of a file, in the wide frame.
-pub(crate) fn wide_bindings(
-    file: &[u8],
-    index: &mut Index,
-    counts: &Counts,
-    ends: &[u16],
-    firsts: &mut Rows,
-    flags: &mut [u8],
-) -> Shrunken
-    ensures { JudgesWithin wide_nodes wide_types wide_bindings_spec file.now index.old counts.now ends.now flags.old flags.new result.accepted result.kept result.total result.rounds }
-{
-    let mut t = [0u16; WIDE_TABLE];
-    let mut r = [0u32; WIDE_READ];
-    let mut w = [0u32; WIDE_WRITE];
-    judge_bindings(
-        file, index, counts, ends, firsts, &mut t, &mut r, &mut w, NO_HINTS, flags,
-    )
-}
-
-// What is kept of the bindings of a file, in the frame with room for every file.
-pub(crate) fn all_bindings(
-    file: &[u8],
-    index: &mut Index,
-    counts: &Counts,
-    ends: &[u16],
-    firsts: &mut Rows,
-    flags: &mut [u8],
-) -> Shrunken
-    ensures { JudgesWithin ends_size max_types max_bindings file.now index.old counts.now ends.now flags.old flags.new result.accepted result.kept result.total result.rounds }
-{
-    let mut t = [0u16; TABLE];
-    let mut r = [0u32; ALL_READ];
-    let mut w = [0u32; ALL_WRITE];
-    judge_bindings(
-        file, index, counts, ends, firsts, &mut t, &mut r, &mut w, HINTS, flags,
-    )
+    match frame {
+        Frame::Tiny => bindings_within::<TINY_TABLE, TINY_READ, TINY_WRITE>(
+            file, index, counts, ends, firsts, NO_HINTS, flags,
+        ),
+        Frame::Small => bindings_within::<SMALL_TABLE, SMALL_READ, SMALL_WRITE>(
+            file, index, counts, ends, firsts, NO_HINTS, flags,
+        ),
+        Frame::Modest => bindings_within::<MODEST_TABLE, MODEST_READ, MODEST_WRITE>(
+            file, index, counts, ends, firsts, NO_HINTS, flags,
+        ),
+        Frame::Plain => bindings_within::<PLAIN_TABLE, PLAIN_READ, PLAIN_WRITE>(
+            file, index, counts, ends, firsts, NO_HINTS, flags,
+        ),
+        Frame::Broad => bindings_within::<BROAD_TABLE, BROAD_READ, BROAD_WRITE>(
+            file, index, counts, ends, firsts, FEW_HINTS, flags,
+        ),
+        Frame::Middle => bindings_within::<MIDDLE_TABLE, MIDDLE_READ, MIDDLE_WRITE>(
+            file, index, counts, ends, firsts, HINTS, flags,
+        ),
+        Frame::Wide => bindings_within::<WIDE_TABLE, WIDE_READ, WIDE_WRITE>(
+            file, index, counts, ends, firsts, NO_HINTS, flags,
+        ),
+        Frame::All => bindings_within::<TABLE, ALL_READ, ALL_WRITE>(
+            file, index, counts, ends, firsts, HINTS, flags,
+        ),
+    }
 }

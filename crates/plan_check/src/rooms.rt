@@ -1,12 +1,13 @@
-// Which frames have room for a binding case.
-ghost use Rattle.plan_check.specs.Promises.{HasNodes, HasRoom};
+// The frames of binding cases, and which of them have room for a case.
+ghost use Rattle.std.specs.Prelude.{◌≡◌, true, ◌⊎◌};
+ghost use Rattle.plan_check.specs.Promises.{HasNodes, HasRoom, room_of};
 
 use index::entries::place_at;
 use index::layout::{
-    BROAD_BINDINGS, BROAD_NODES, BROAD_TYPES, Counts, Index, MIDDLE_BINDINGS, MIDDLE_NODES,
-    MIDDLE_TYPES, MODEST_BINDINGS, MODEST_NODES, MODEST_TYPES, NODE, PLAIN_BINDINGS, PLAIN_NODES,
-    PLAIN_TYPES, RULE, SMALL_BINDINGS, SMALL_NODES, SMALL_TYPES, TINY_BINDINGS, TINY_NODES,
-    TINY_TYPES, WIDE_BINDINGS, WIDE_FRAME, WIDE_NODES, WIDE_TYPES,
+    BROAD_BINDINGS, BROAD_NODES, BROAD_TYPES, Counts, ENDS, Index, MAX_BINDINGS, MAX_TYPES,
+    MIDDLE_BINDINGS, MIDDLE_NODES, MIDDLE_TYPES, MODEST_BINDINGS, MODEST_NODES, MODEST_TYPES, NODE,
+    PLAIN_BINDINGS, PLAIN_NODES, PLAIN_TYPES, RULE, SMALL_BINDINGS, SMALL_NODES, SMALL_TYPES,
+    TINY_BINDINGS, TINY_NODES, TINY_TYPES, WIDE_BINDINGS, WIDE_NODES, WIDE_TYPES,
 };
 use rules::first_nodes::nodes_in_all;
 
@@ -21,51 +22,82 @@ pub(crate) fn nodes_at_most(file: &[u8], index: &Index, counts: &Counts) -> usiz
     nodes_in_all(file, index, place_at(counts, RULE))
 }
 
-// The frames but the last, and how many nodes, types and bindings each of them has room for.
-const FRAMES: usize = WIDE_FRAME + 1;
+// The frames of binding cases, the smallest first; the last has room for every file.
+#[derive(Clone, Copy, PartialEq, Eq)]
+pub(crate) enum Frame {
+    Tiny,
+    Small,
+    Modest,
+    Plain,
+    Broad,
+    Middle,
+    Wide,
+    All,
+}
 
-const ROOM_NODES: [usize; FRAMES] = [
-    TINY_NODES,
-    SMALL_NODES,
-    MODEST_NODES,
-    PLAIN_NODES,
-    BROAD_NODES,
-    MIDDLE_NODES,
-    WIDE_NODES,
+// How many nodes, types and bindings a frame has room for.
+#[derive(Clone, Copy)]
+pub(crate) struct Room {
+    pub(crate) nodes: usize,
+    pub(crate) types: usize,
+    pub(crate) bindings: usize,
+}
+
+// All frames but the last.
+const FRAMES: [Frame; 7] = [
+    Frame::Tiny,
+    Frame::Small,
+    Frame::Modest,
+    Frame::Plain,
+    Frame::Broad,
+    Frame::Middle,
+    Frame::Wide,
 ];
 
-const ROOM_TYPES: [usize; FRAMES] = [
-    TINY_TYPES,
-    SMALL_TYPES,
-    MODEST_TYPES,
-    PLAIN_TYPES,
-    BROAD_TYPES,
-    MIDDLE_TYPES,
-    WIDE_TYPES,
-];
+impl Frame {
+    fn room(self) -> Room
+        ensures { result ≡ room_of self }
+    {
+        match self {
+            Frame::Tiny => Room::new(TINY_NODES, TINY_TYPES, TINY_BINDINGS),
+            Frame::Small => Room::new(SMALL_NODES, SMALL_TYPES, SMALL_BINDINGS),
+            Frame::Modest => Room::new(MODEST_NODES, MODEST_TYPES, MODEST_BINDINGS),
+            Frame::Plain => Room::new(PLAIN_NODES, PLAIN_TYPES, PLAIN_BINDINGS),
+            Frame::Broad => Room::new(BROAD_NODES, BROAD_TYPES, BROAD_BINDINGS),
+            Frame::Middle => Room::new(MIDDLE_NODES, MIDDLE_TYPES, MIDDLE_BINDINGS),
+            Frame::Wide => Room::new(WIDE_NODES, WIDE_TYPES, WIDE_BINDINGS),
+            Frame::All => Room::new(ENDS, MAX_TYPES, MAX_BINDINGS),
+        }
+    }
+}
 
-const ROOM_BINDINGS: [usize; FRAMES] = [
-    TINY_BINDINGS,
-    SMALL_BINDINGS,
-    MODEST_BINDINGS,
-    PLAIN_BINDINGS,
-    BROAD_BINDINGS,
-    MIDDLE_BINDINGS,
-    WIDE_BINDINGS,
-];
+impl Room {
+    fn new(nodes: usize, types: usize, bindings: usize) -> Room
+        ensures { (result.nodes ≡ nodes) × (result.types ≡ types) × (result.bindings ≡ bindings) }
+    {
+        Room {
+            nodes,
+            types,
+            bindings,
+        }
+    }
 
-// Whether a frame has room for so many nodes, types and bindings; the last one has room for every file.
-pub(crate) fn has_room(frame: usize, nodes: usize, types: usize, bindings: usize) -> bool
-    ensures { HasRoom frame nodes types bindings result }
+    // Whether there is room for so many nodes, types and bindings.
+    fn holds(self, nodes: usize, types: usize, bindings: usize) -> bool
+        ensures { result ≡ true → HasRoom self nodes types bindings }
+    {
+        nodes <= self.nodes && types <= self.types && bindings <= self.bindings
+    }
+}
+
+// The first frame that has room for so many nodes, types and bindings; the last one where none of the others has.
+pub(crate) fn first_with_room(nodes: usize, types: usize, bindings: usize) -> Frame
+    ensures { HasRoom (room_of result) nodes types bindings ⊎ (result ≡ Frame.All) }
 {
-    if FRAMES <= frame {
-        return true;
+    for frame in FRAMES {
+        if frame.room().holds(nodes, types, bindings) {
+            return frame;
+        }
     }
-    if ROOM_NODES[frame] < nodes {
-        return false;
-    }
-    if ROOM_TYPES[frame] < types {
-        return false;
-    }
-    bindings <= ROOM_BINDINGS[frame]
+    Frame::All
 }

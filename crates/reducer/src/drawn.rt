@@ -1,7 +1,7 @@
 // Paths drawn by a seed. Most letters are such as can be followed; the reducer says which these are.
 ghost use Rattle.std.specs.Prelude.{◌≤◌};
 
-use crate::Plan;
+use crate::{Cell, Onward, Plan};
 
 // A path's length, and the seed for what is drawn next.
 #[derive(Clone, Copy)]
@@ -44,75 +44,64 @@ fn stray_rate(seed: usize) -> usize {
 }
 
 // Any letter from 0 to 5, or 255.
-fn stray(seed: usize) -> usize {
+fn stray(seed: usize) -> u8 {
     match below(seed, 7) {
         6 => 255,
-        n => n,
+        n => n as u8,
     }
 }
 
-// The next letter where there are `ways` ways to go on (`crate::ways`), or 256 to end the path.
-fn letter(ways: usize, rate: usize, seed: usize) -> usize {
+// The next letter where a path can go on in these ways, or none to end it.
+fn letter(ways: Onward, rate: usize, seed: usize) -> Option<u8> {
     let more = turn(seed);
     if 0 < rate && below(seed, rate) == 0 {
-        return stray(more);
+        return Some(stray(more));
     }
-    if ways == 9 {
-        return 0;
-    }
-    if ways == 0 {
-        if below(seed, 4) == 0 {
-            return stray(more);
-        }
-        return 256;
-    }
-    if 4 < ways {
-        return 256;
-    }
-    below(more, ways) + 1
-}
-
-// Puts a byte v at i; nothing past the end.
-fn put(bytes: &mut [u8], i: usize, v: usize) {
-    if 255 < v {
-        return;
-    }
-    if i < bytes.len() {
-        bytes[i] = v as u8;
+    match ways {
+        Onward::Unfold => Some(0),
+        Onward::Into(0) if below(seed, 4) == 0 => Some(stray(more)),
+        Onward::Into(0) => None,
+        Onward::Into(n) => u8::try_from(below(more, n)).ok()?.checked_add(1),
     }
 }
 
 // Makes these letters the path at an offset, the last record of a file; returns where the file then ends.
-pub fn set_path(file: &mut [u8], path: usize, letters: &[u8], n: usize) -> usize {
-    if 60000 < path {
-        return 0;
+pub fn set_path(file: &mut [u8], path: usize, letters: &[u8]) -> usize {
+    let from = path.saturating_add(4);
+    let end = from.saturating_add(letters.len());
+    if let Ok(length) = u16::try_from(letters.len()) {
+        if end <= file.len() {
+            file[path..path + 2].copy_from_slice(&length.to_le_bytes());
+            file[from..end].copy_from_slice(letters);
+        }
     }
-    if 4096 < n {
-        return 0;
-    }
-    put(file, path, n % 256);
-    put(file, path + 1, n / 256);
-    for i in 0..n {
-        put(file, path + 4 + i, crate::byte(letters, i, 0));
-    }
-    path + 4 + n
+    end
 }
 
 // Draws a path of a plan that is loaded.
-pub fn draw(file: &[u8], plan: Plan, cells: &mut [u16], first: usize, letters: &mut [u8]) -> Drawn {
+pub fn draw(
+    file: &[u8],
+    plan: Plan,
+    cells: &mut [Cell],
+    first: usize,
+    letters: &mut [u8],
+) -> Drawn {
     let rate = stray_rate(first);
     let mut seed = turn(first);
     let most = longest(seed);
     seed = turn(turn(seed));
-    let mut spot = crate::start(cells);
+    let mut spot = Some(crate::start(cells));
     for i in 0..most {
-        let next = letter(crate::ways(file, plan, cells, spot), rate, seed);
+        let ways = spot.map_or(Onward::Into(0), |spot| crate::ways(file, plan, cells, spot));
+        let next = letter(ways, rate, seed);
         seed = turn(turn(seed));
-        if next == 256 {
+        let Some(next) = next else {
             return Drawn { length: i, seed };
+        };
+        if let Some(place) = letters.get_mut(i) {
+            *place = next;
         }
-        put(letters, i, next);
-        spot = crate::step(file, plan, cells, spot, next);
+        spot = spot.and_then(|spot| crate::step(file, plan, cells, spot, next).ok());
     }
     Drawn { length: most, seed }
 }

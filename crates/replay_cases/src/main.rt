@@ -6,12 +6,10 @@
 #![tactic(auto)]
 
 use plan_check::Verdict;
-use reducer::{Outcome, Plan};
-use std::env::Env;
+use reducer::{CELLS, Cell, EMPTY, Plan, Refusal, Refuted};
 use std::io;
 use std::io::Write;
-use std::rt::Files;
-use test_files::{FILE_BUFFER, NAME_BUFFER};
+use test_files::FILE_BUFFER;
 
 // How many letters a path may have.
 const LETTERS: usize = 4096;
@@ -22,34 +20,12 @@ const DRAWN: usize = 40;
 // The first refusal of a path that is replayed.
 const FIRST: usize = 13;
 
-// Whether there was a file to read, and how many cases were compared.
-#[derive(Drop)]
-struct Done {
-    more: bool,
-    compared: usize,
-}
-
 fn say_answer<W: Write>(out: &mut W, verdict: Verdict) -> io::Result<()> {
     match verdict {
-        Verdict::Proved {
-            kept: _,
-            total: _,
-            rounds: _,
-        } => out.write_all(b"bindings"),
-        Verdict::Unproved {
-            kept: _,
-            total: _,
-            rounds: _,
-        } => out.write_all(b"bindings"),
-        Verdict::Refuted {
-            letters: _,
-            state: _,
-            constructor: _,
-        } => verdict_lines::write_verdict(out, verdict),
-        Verdict::Refused {
-            number: _,
-            place: _,
-        } => verdict_lines::write_verdict(out, verdict),
+        Verdict::Proved { .. } | Verdict::Unproved { .. } => out.write_all(b"bindings"),
+        Verdict::Refuted { .. } | Verdict::Refused { .. } => {
+            verdict_lines::write_verdict(out, verdict)
+        }
     }
 }
 
@@ -60,46 +36,33 @@ fn say_line<W: Write>(out: &mut W, name: &[u8], verdict: Verdict) -> io::Result<
     out.write_all(b"\n")
 }
 
-// What the reducer found, as a verdict.
-fn verdict_of(outcome: Outcome) -> Verdict {
-    if outcome.number == 0 {
-        return Verdict::Refuted {
-            letters: outcome.place,
-            state: outcome.state,
-            constructor: outcome.constructor,
-        };
-    }
-    Verdict::Refused {
-        number: outcome.number,
-        place: outcome.place,
+// What the reducer found, as a verdict. No `From` stands for this: neither type is of this crate.
+fn verdict_of(found: Result<Refuted, Refusal>) -> Verdict {
+    match found {
+        Ok(refuted) => Verdict::Refuted {
+            letters: refuted.letters,
+            state: refuted.state,
+            constructor: refuted.constructor,
+        },
+        Err(refusal) => Verdict::Refused {
+            number: usize::from(refusal.fault),
+            place: refusal.place,
+        },
     }
 }
 
 // Whether the reducer has to agree: an answer to a path that was replayed.
 fn replayed(verdict: Verdict) -> bool {
     match verdict {
-        Verdict::Proved {
-            kept: _,
-            total: _,
-            rounds: _,
-        } => false,
-        Verdict::Unproved {
-            kept: _,
-            total: _,
-            rounds: _,
-        } => false,
-        Verdict::Refuted {
-            letters: _,
-            state: _,
-            constructor: _,
-        } => true,
-        Verdict::Refused { number, place: _ } => FIRST <= number,
+        Verdict::Proved { .. } | Verdict::Unproved { .. } => false,
+        Verdict::Refuted { .. } => true,
+        Verdict::Refused { number, .. } => FIRST <= number,
     }
 }
 
 // Prints the letters of a path.
 fn say_letters<W: Write>(out: &mut W, file: &[u8], path: usize) -> io::Result<()> {
-    let n = reducer::word(file, path, 0);
+    let n = usize::from(reducer::word(file, path, 0));
     for i in 0..n {
         let letter = reducer::byte(file, path, i + 4);
         write!(out, " {letter}")?;
@@ -113,22 +76,19 @@ fn say_mismatch<W: Write>(
     name: &[u8],
     k: usize,
     answer: Verdict,
-    outcome: Outcome,
+    found: Verdict,
 ) -> io::Result<()> {
     out.write_all(name)?;
     write!(out, ": mismatch in case {k}: ")?;
     say_answer(out, answer)?;
     out.write_all(b", by the reducer ")?;
-    verdict_lines::write_verdict(out, verdict_of(outcome))?;
+    verdict_lines::write_verdict(out, found)?;
     out.write_all(b", path")
 }
 
 // The first n bytes, or all if there are fewer.
 fn first_bytes(bytes: &[u8], n: usize) -> &[u8] {
-    if bytes.len() < n {
-        return bytes;
-    }
-    &bytes[..n]
+    &bytes[..n.min(bytes.len())]
 }
 
 // The answer where as many flags are lent as `lent` says.
@@ -149,11 +109,11 @@ fn compare<W: Write>(
     path: usize,
     k: usize,
     answer: Verdict,
-    cells: &mut [u16],
+    cells: &mut [Cell],
 ) -> io::Result<()> {
-    let outcome = reducer::replay(file, cells);
-    if !test_files::same(answer, verdict_of(outcome)) {
-        say_mismatch(out, name, k, answer, outcome)?;
+    let found = verdict_of(reducer::replay(file, cells));
+    if answer != found {
+        say_mismatch(out, name, k, answer, found)?;
         say_letters(out, file, path)?;
     }
     Ok(())
@@ -167,11 +127,11 @@ fn drawn_case<W: Write>(
     plan: Plan,
     k: usize,
     seed: usize,
-    cells: &mut [u16],
+    cells: &mut [Cell],
 ) -> io::Result<usize> {
     let mut letters = [0u8; LETTERS];
     let drawn = reducer::drawn::draw(file, plan, cells, seed, &mut letters);
-    let end = reducer::drawn::set_path(file, plan.path, &letters, drawn.length);
+    let end = reducer::drawn::set_path(file, plan.path, first_bytes(&letters, drawn.length));
     let case = first_bytes(file, end);
     let answer = answer_of(out, case, 16)?;
     compare(out, name, case, plan.path, k, answer, cells)?;
@@ -185,7 +145,7 @@ fn drawn_cases<W: Write>(
     file: &mut [u8],
     plan: Plan,
     first: usize,
-    cells: &mut [u16],
+    cells: &mut [Cell],
 ) -> io::Result<()> {
     let mut seed = first;
     for k in 0..DRAWN {
@@ -194,89 +154,50 @@ fn drawn_cases<W: Write>(
     Ok(())
 }
 
-// Compares on a file, which fills the first bytes of the buffer, and on drawn cases of its plan.
+// Compares on a file, and on drawn cases of its plan, which are written over its path in a buffer.
 fn compare_all<W: Write>(
     out: &mut W,
     name: &[u8],
-    buffer: &mut [u8],
-    length: usize,
+    file: &[u8],
     answer: Verdict,
     seed: usize,
-    cells: &mut [u16],
+    cells: &mut [Cell],
 ) -> io::Result<()> {
-    let file = first_bytes(buffer, length);
     let plan = reducer::load(file, cells);
     compare(out, name, file, plan.path, 0, answer, cells)?;
-    drawn_cases(out, name, buffer, plan, seed, cells)
+    let mut buffer = [0u8; FILE_BUFFER];
+    for (place, byte) in buffer.iter_mut().zip(file) {
+        *place = *byte;
+    }
+    drawn_cases(out, name, &mut buffer, plan, seed, cells)
 }
 
-// The line of a file, which fills the first bytes of the buffer, and its comparisons; returns how many these are.
+// The line of a file, and its comparisons; returns how many these are.
 fn judge<W: Write>(
     out: &mut W,
     name: &[u8],
-    buffer: &mut [u8],
-    length: usize,
+    file: &[u8],
     lent: usize,
     seed: usize,
-    cells: &mut [u16],
+    cells: &mut [Cell],
 ) -> io::Result<usize> {
-    let answer = answer_of(out, first_bytes(buffer, length), lent)?;
+    let answer = answer_of(out, file, lent)?;
     say_line(out, name, answer)?;
     if !replayed(answer) {
         return Ok(0);
     }
-    compare_all(out, name, buffer, length, answer, seed, cells)?;
+    compare_all(out, name, file, answer, seed, cells)?;
     Ok(DRAWN + 1)
 }
 
-// The file and the number of flags that argument i and the next name.
-fn one<R: Env + Files + Print + Eprint>(rt: &R, i: usize, cells: &mut [u16]) -> io::Result<Done> {
-    let none = Done {
-        more: false,
-        compared: 0,
-    };
-    if 2000 < i {
-        return Ok(none);
-    }
-    let mut name = [0u8; NAME_BUFFER];
-    let mut file = [0u8; FILE_BUFFER];
-    let found = test_files::read_named(rt, i, &mut name, &mut file);
-    if !found.there {
-        return Ok(none);
-    }
-    let lent = test_files::number_argument(rt, i + 1);
-    let length = found.name;
-    let mut out = io::writer(rt);
-    let compared = judge(
-        &mut out,
-        &name[..length],
-        &mut file,
-        found.bytes,
-        lent,
-        i,
-        cells,
-    )?;
-    Ok(Done {
-        more: true,
-        compared,
-    })
-}
-
-// All files that the arguments name; returns how many cases were compared.
-fn all<R: Env + Files + Print + Eprint>(rt: &R, cells: &mut [u16]) -> io::Result<usize> {
-    let mut compared: usize = 0;
-    for k in 0..1000 {
-        let done = one(rt, 2 * k + 1, cells)?;
-        if !done.more {
-            return Ok(compared);
-        }
-        compared = compared.wrapping_add(done.compared);
-    }
-    Ok(compared)
-}
-
 fn main(rt: HostRuntime) -> io::Result<()> {
-    let mut cells = [0u16; 140000];
-    let compared = all(&rt, &mut cells)?;
+    let mut cells = [EMPTY; CELLS];
+    let mut compared: usize = 0;
+    test_files::for_each_named(&rt, 1000, 2, |name, file, i| {
+        let lent = test_files::number_argument(&rt, i.saturating_add(1));
+        let cases = judge(&mut io::writer(&rt), name, file, lent, i, &mut cells)?;
+        compared = compared.wrapping_add(cases);
+        Ok(())
+    })?;
     println!(rt; "{compared} cases compared")
 }

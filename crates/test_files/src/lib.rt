@@ -8,9 +8,8 @@ use index::layout::MAX_BINDINGS;
 use plan_check::Verdict;
 use std::env::Env;
 use std::fs::File;
-use std::io::Read;
 use std::rt::Files;
-use std::str;
+use std::{io, str};
 
 // This many flags are enough for every file.
 pub const FLAGS: usize = MAX_BINDINGS;
@@ -27,10 +26,9 @@ pub const BEFORE: u8 = 7;
 // What ends the name of a case file: `.case`.
 const ENDING: usize = 5;
 
-// Whether an argument names a file that can be opened, how long its name is, and how many bytes of the file were read.
-#[derive(Drop)]
+// A file that an argument names: how long its name is, and how many of its bytes were read.
+#[derive(Clone, Copy)]
 pub struct Named {
-    pub there: bool,
     pub name: usize,
     pub bytes: usize,
 }
@@ -44,38 +42,14 @@ pub fn fresh_flags() -> [u8; FLAGS]
 
 // Whether each flag from a number on is as before the call.
 pub fn untouched(flags: &[u8], from: usize) -> bool {
-    let mut i = from;
-    while i < flags.len() {
-        if flags[i] != BEFORE {
-            return false;
-        }
-        i = i + 1;
-    }
-    true
+    flags.iter().skip(from).all(|flag| *flag == BEFORE)
 }
 
 // How many flags a verdict writes: one for each binding of a binding case that is not refused.
 pub fn written(verdict: Verdict) -> usize {
     match verdict {
-        Verdict::Proved {
-            kept: _,
-            total,
-            rounds: _,
-        } => total,
-        Verdict::Unproved {
-            kept: _,
-            total,
-            rounds: _,
-        } => total,
-        Verdict::Refuted {
-            letters: _,
-            state: _,
-            constructor: _,
-        } => 0,
-        Verdict::Refused {
-            number: _,
-            place: _,
-        } => 0,
+        Verdict::Proved { total, .. } | Verdict::Unproved { total, .. } => total,
+        Verdict::Refuted { .. } | Verdict::Refused { .. } => 0,
     }
 }
 
@@ -90,48 +64,16 @@ pub fn judge_lent(file: &[u8], flags: &mut [u8], lent: usize) -> Verdict {
     plan_check::judge(file, &mut flags[..lent])
 }
 
-// Whether two byte strings are equal.
-pub fn same_bytes(a: &[u8], b: &[u8]) -> bool {
-    if a.len() != b.len() {
-        return false;
-    }
-    let mut i: usize = 0;
-    while i < a.len() && i < b.len() {
-        if a[i] != b[i] {
-            return false;
-        }
-        i = i + 1;
-    }
-    true
-}
-
-// Whether two lines are equal.
-fn same_lines(a: &[u8; 128], b: &[u8; 128]) -> bool {
-    same_bytes(a, b)
-}
-
-// Whether two verdicts are the same: they have the same line.
-pub fn same(a: Verdict, b: Verdict) -> bool {
-    let mut first = [0u8; 128];
-    let mut second = [0u8; 128];
-    verdict_lines::put_verdict(&mut first, a);
-    verdict_lines::put_verdict(&mut second, b);
-    same_lines(&first, &second)
-}
-
-// The decimal number in a text, at most 1,024.
+// The decimal number in a text, at most 1,024. The library's `parse` refuses a larger one, and a text that is no number.
 fn decimal(text: &[u8]) -> usize
     ensures { result ≤ 1024 }
 {
     let mut n: usize = 0;
-    let mut i: usize = 0;
-    while i < text.len() {
-        let digit = (text[i] % 16) as usize;
-        n = n * 10 + digit;
+    for letter in text {
+        n = n * 10 + usize::from(letter % 16);
         if FLAGS < n {
             return FLAGS;
         }
-        i = i + 1;
     }
     n
 }
@@ -154,27 +96,12 @@ pub fn stem(path: &[u8]) -> &[u8] {
     &path[..n]
 }
 
-// Reads until the buffer is full, the file ends or a read fails; returns how many bytes stand at the start of the buffer.
-fn read_full<R: Read>(file: &mut R, buffer: &mut [u8]) -> usize
-    ensures { result ≤ length buffer.new }
-{
-    let mut at: usize = 0;
-    for _turn in 0..buffer.len() {
-        match file.read(&mut buffer[at..]) {
-            Ok(0) => return at,
-            Ok(count) => at = at + count,
-            Err(_) => return at,
-        }
-    }
-    at
-}
-
 // Reads the file of a name; returns how many of its bytes were read. Where there is no such file, a line on standard error says so.
 fn read_file<R: Files + Eprint>(rt: &R, name: &str, buffer: &mut [u8]) -> Option<usize>
     ensures { IfSome result (λ n. n ≤ length buffer.new) }
 {
     match File::open(rt, name) {
-        Ok(mut file) => Some(read_full(&mut file, buffer)),
+        Ok(mut file) => Some(input::fill(&mut file, buffer).0),
         Err(error) => {
             let _ = eprintln!(rt; "{name}: {error}");
             None
@@ -189,30 +116,41 @@ pub fn read_named<R: Env + Files + Eprint>(
     i: usize,
     name: &mut [u8],
     file: &mut [u8],
-) -> Named
-    ensures in_name { result.name ≤ length name.new }
-    ensures name_len { result.name ≡ length (take result.name name.new) }
-    ensures in_file { result.bytes ≤ length file.new }
-    ensures bytes_len { result.bytes ≡ length (take result.bytes file.new) }
+) -> Option<Named>
+    ensures in_name { IfSome result (λ named. named.name ≤ length name.new) }
+    ensures name_len { IfSome result (λ named. named.name ≡ length (take named.name name.new)) }
+    ensures in_file { IfSome result (λ named. named.bytes ≤ length file.new) }
+    ensures bytes_len { IfSome result (λ named. named.bytes ≡ length (take named.bytes file.new)) }
 {
-    let none = Named {
-        there: false,
-        name: 0,
-        bytes: 0,
-    };
-    let Ok(n) = rt.arg(i, name) else {
-        return none;
-    };
+    let n = rt.arg(i, name).ok()?;
     let Ok(path) = str::from_utf8(&name[..n]) else {
         let _ = eprintln!(rt; "argument {i} is not UTF-8");
-        return none;
+        return None;
     };
-    let Some(bytes) = read_file(rt, path, file) else {
-        return none;
-    };
-    Named {
-        there: true,
-        name: n,
-        bytes,
+    let bytes = read_file(rt, path, file)?;
+    Some(Named { name: n, bytes })
+}
+
+// Has a file done for each of so many arguments, every `step`-th from the first on, until one names no file: by its name, its bytes and
+// the number of the argument.
+pub fn for_each_named<R: Env + Files + Eprint, F>(
+    rt: &R,
+    files: usize,
+    step: usize,
+    mut each: F,
+) -> io::Result<()>
+where
+    F: FnMut(&[u8], &[u8], usize) -> io::Result<()>,
+    requires { F.IsAlwaysCallable each }
+{
+    for k in 0..files {
+        let i = k.saturating_mul(step).saturating_add(1);
+        let mut name = [0u8; NAME_BUFFER];
+        let mut file = [0u8; FILE_BUFFER];
+        let Some(named) = read_named(rt, i, &mut name, &mut file) else {
+            return Ok(());
+        };
+        each(&name[..named.name], &file[..named.bytes], i)?;
     }
+    Ok(())
 }

@@ -1,58 +1,19 @@
--- A text put into a line byte by byte, texts put one behind another, and the lengths of the lines. A text that is put
+-- Texts put into a line one behind another, and the lengths of the lines. A text that is put
 -- behind another one is put as their concatenation, so that a line is put by putting its words and numbers in turn.
 use Prim.Native.Nat.{ℕ, ◌+◌, ◌-◌, ◌^◌, ◌<◌, ◌≤◌}
-use mathlib.Core.Path.{◌≡◌, refl, sym, ap, subst, ◌∙◌}
-use mathlib.Core.List.{List, [], ◌∷◌, ◌++◌, append_assoc, append-nil}
+use mathlib.Core.Path.{◌≡◌, sym, ap, subst, ◌∙◌}
+use mathlib.Core.List.{List, ◌++◌, append_assoc}
 use native.Mathlib.Decide.{dec_lt}
 use native.Mathlib.Omega.{arith}
 use borrow.Author.Tests.{lt-ltb, le-ltb}
-use lib.ListN.{length, get_or, take, set, length-append, length-set, length-take}
-use lib.Seq.{take-suc, take-suc-set, take-length}
+use lib.ListN.{length, take, length-append, length-take}
 use Rattle.io.specs.Counts.{IsPrefixLen}
 use Rattle.io.specs.Digits.{last_digits, IsDigitCount}
-use native.Mathlib.Numerals.{add-one}
 use Rattle.plan_check.specs.Verdicts.{answer_as}
 use Rattle.plan_check.specs.declared.Verdict.{Verdict}
 use Rattle.plan_check.specs.declared.Verdict.TheVariants.{Proved, Unproved, Refuted, Refused}
 use Rattle.verdict_lines.specs.Lines.{Puts, numbered, numeral, line_of, proved_word, unproved_word, of_word, rounds_word, refuted_word, state_word, constructor_word, refused_word, at_word, binding_word, round_word, node_word, goal_state_word, goal_type_word, wanted_part, wanted_as, explanation_as, reason_line}
 use Rattle.verdict_lines.proofs.Numerals.{numeral_digits, numeral_length}
-
--- A line in which i bytes of a text are put from a place on; `at` is the place of the next one.
-pub record Putting (line : List ℕ) (from : ℕ) (text now : List ℕ) (at i : ℕ) : Type 0 where
-  pub same_length : length now ≡ length line
-  pub within : i ≤ length text
-  pub is_at : at ≡ from + i
-  pub so_far : take at now ≡ take from line ++ take i text
-
-pub putting_first : (line : List ℕ) (from : ℕ) (text : List ℕ) → Putting line from text line from 0
-putting_first line from text =
-    record { same_length = refl; within = omega arith; is_at = omega arith; so_far = sym (append-nil (take from line)) }
-
--- the next byte
-pub putting_next : (line : List ℕ) (from : ℕ) (text now : List ℕ) (at i : ℕ) → at < length now → i < length text → Putting line from text now at i → Putting line from text (set now at (get_or text i 0)) (at + 1) (i + 1)
-putting_next line from text now at i room more p =
-    record {
-      same_length = length-set now at (get_or text i 0) ∙ p.same_length;
-      within = omega arith;
-      is_at = omega arith;
-      so_far =
-          rw (add-one at, add-one i, take-suc-set now at (get_or text i 0) room, take-suc text i 0 more, p.so_far)
-          (append_assoc (take from line) (take i text) (get_or text i 0 ∷ []));
-    }
-
--- no byte is left
-pub putting_done : (line : List ℕ) (from : ℕ) (text now : List ℕ) (at i : ℕ) → length text ≤ i → Putting line from text now at i → Puts line from text now at
-putting_done line from text now at i done p =
-    let e : i ≡ length text = omega arith in
-    record {
-      is_place = λ room. omega arith;
-      is_text = λ room. p.so_far ∙ ap (λ (l : List ℕ). take from line ++ l) (ap (λ (n : ℕ). take n text) e ∙ take-length text);
-    }
-
--- no room is left, which the promise rules out
-pub putting_full : (line : List ℕ) (from : ℕ) (text now : List ℕ) (at i : ℕ) → length now ≤ at → i < length text → Putting line from text now at i → Puts line from text now at
-putting_full line from text now at i full more p =
-    record { is_place = λ room. absurd (omega arith); is_text = λ room. absurd (omega arith) }
 
 -- one text behind another
 pub puts_then : (line : List ℕ) (from : ℕ) (s one : List ℕ) (at : ℕ) (t two : List ℕ) (r : ℕ) → length one ≡ length line → Puts line from s one at → Puts one at t two r → Puts line from (s ++ t) two r

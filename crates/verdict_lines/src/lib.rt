@@ -12,24 +12,20 @@ use index::layout::MAX_STATES;
 use plan_check::Verdict;
 use std::io::Write;
 
-// Copies a text into a line from a place on, as much of it as there is room for; returns the place behind it.
+// Copies a text into a line from a place on, if there is room for it; returns the place behind it. No `Display` with `write!` stands for
+// this: the library promises its bytes only where it answers Ok, and `put_verdict` promises its line, by `line_after`, at each call.
 fn put(line: &mut [u8], from: usize, text: &[u8]) -> usize
     ensures { Puts line.old from text.now line.new result }
 {
-    let mut at = from;
-    let mut i: usize = 0;
-    while i < text.len() {
-        if line.len() <= at {
-            return at;
-        }
-        line[at] = text[i];
-        at = at + 1;
-        i = i + 1;
+    let end = from.saturating_add(text.len());
+    if end <= line.len() {
+        line[from..end].copy_from_slice(text);
     }
-    at
+    end
 }
 
 // Puts a word and a number behind it into a line from a place on; returns the place behind them.
+#[tactic(auto, using(crate::proofs::Putting::puts_numbered))]
 fn put_numbered(line: &mut [u8], from: usize, word: &[u8], number: usize) -> usize
     ensures { Puts line.old from (numbered word.now number) line.new result }
 {
@@ -40,6 +36,7 @@ fn put_numbered(line: &mut [u8], from: usize, word: &[u8], number: usize) -> usi
 }
 
 // Puts the line of a binding case, which begins with a word, at the start of a buffer; returns its length.
+#[tactic(auto, using(crate::proofs::Putting::puts_then))]
 fn put_counts(line: &mut [u8], word: &[u8], kept: usize, total: usize, rounds: usize) -> usize
     ensures { Puts line.old 0 (numbered word.now kept ++ numbered of_word total ++ numbered rounds_word rounds) line.new result }
 {
@@ -49,6 +46,7 @@ fn put_counts(line: &mut [u8], word: &[u8], kept: usize, total: usize, rounds: u
 }
 
 // Puts the line of a path case at the start of a buffer; returns its length.
+#[tactic(auto, using(crate::proofs::Putting::puts_then))]
 fn put_refuted(line: &mut [u8], letters: usize, state: usize, constructor: usize) -> usize
     ensures { Puts line.old 0 (numbered refuted_word letters ++ numbered state_word state ++ numbered constructor_word constructor) line.new result }
 {
@@ -58,6 +56,7 @@ fn put_refuted(line: &mut [u8], letters: usize, state: usize, constructor: usize
 }
 
 // Puts the line of a refusal at the start of a buffer; returns its length.
+#[tactic(auto, using(crate::proofs::Putting::puts_then))]
 fn put_refused(line: &mut [u8], number: usize, place: usize) -> usize
     ensures { Puts line.old 0 (numbered refused_word number ++ numbered at_word place) line.new result }
 {
@@ -93,6 +92,7 @@ pub fn put_verdict(line: &mut [u8; 128], verdict: Verdict) -> usize
 }
 
 // Puts the type wanted behind what stands in front of a place of a line, a state or a type by its number; returns the place behind it.
+#[tactic(auto, using(crate::proofs::Putting::puts_state, crate::proofs::Putting::puts_type))]
 fn put_goal(line: &mut [u8], from: usize, goal: usize) -> usize
     ensures { Puts line.old from (wanted_part (wanted_as goal)) line.new result }
 {
@@ -103,6 +103,7 @@ fn put_goal(line: &mut [u8], from: usize, goal: usize) -> usize
 }
 
 // Puts the line of a dropped binding at the start of a buffer; returns its length.
+#[tactic(auto, using(crate::proofs::Putting::puts_reason))]
 fn put_explanation(line: &mut [u8], binding: usize, round: usize, node: usize, goal: usize) -> usize
     ensures { Puts line.old 0 (reason_line binding (explanation_as round node goal)) line.new result }
 {
@@ -114,6 +115,7 @@ fn put_explanation(line: &mut [u8], binding: usize, round: usize, node: usize, g
 
 // Puts the line of a dropped binding, without a line end, at the start of a buffer; returns its length. There is room for each
 // line: four numbers of 20 digits and 33 letters and spaces are the longest.
+#[tactic(auto, using(crate::proofs::Putting::says_reason))]
 pub fn put_reason(
     line: &mut [u8; 128],
     binding: usize,

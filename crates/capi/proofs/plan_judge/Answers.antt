@@ -1,6 +1,5 @@
 -- `plan_judge` meets its contract.
 use Rattle.capi.proofs.Exporting.{exported}
-use borrow.Author.Rules.{rules}
 use Rattle.capi.proofs.plan_judge.Goals as goal
 
 pub returns : goal.returns

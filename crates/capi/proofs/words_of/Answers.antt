@@ -1,6 +1,5 @@
 -- `words_of` meets its contract.
 use Rattle.capi.proofs.Exporting.{proved_words, unproved_words, refuted_words, refused_words}
-use borrow.Author.Rules.{rules}
 use Rattle.capi.proofs.words_of.Goals as goal
 
 pub returns-in-Proved : goal.returns-in-Proved

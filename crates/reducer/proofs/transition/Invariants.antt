@@ -1,8 +1,6 @@
-use Prim.Native.Nat.{◌-◌}
+-- Each record is behind the one before.
+use Rattle.std.proofs.Common.{◌-◌}
 use Rattle.reducer.proofs.transition.Given as goal
 
-abbrev pub invariant-loop-at : goal.invariant-loop-at
-invariant-loop-at l = Unit {0}
-
 abbrev pub decreases-loop-at : goal.decreases-loop-at
-decreases-loop-at l = l.path - l.at
+decreases-loop-at l = l.plan.path - l.at

@@ -1,6 +1,5 @@
 -- `nodes_at_most` meets its contract.
 use Rattle.plan_check.proofs.Lending.{nodes_by_length, nodes_by_rules}
-use borrow.Author.Rules.{rules}
 use Rattle.plan_check.proofs.rooms.nodes_at_most.Goals as goal
 
 pub returns-then-nodes-le-TINY_NODES : goal.returns-then-nodes-le-TINY_NODES

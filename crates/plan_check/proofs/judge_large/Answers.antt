@@ -1,7 +1,0 @@
--- `judge_large` meets its contract.
-use native.Mathlib.Omega.{arith}
-use borrow.Author.Rules.{rules}
-use Rattle.plan_check.proofs.judge_large.Goals as goal
-
-pub returns : goal.returns
-returns c = c.judge_with.ensures (record { nodes = λ few n h. omega arith })
