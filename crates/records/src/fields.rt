@@ -28,7 +28,8 @@ pub fn word_at(s: &[u8], at: usize) -> usize
     low + 256 * high
 }
 
-// The length of the payload that begins at a place, by the header before it; 0 where there is no room for a header.
+// The length of the payload that begins at a place, by the header before it; 0 where there is no room for a header, and no
+// Option: the clause `bare` of HasLength promises the 0, as a field past the end counts 0.
 pub fn length_at(file: &[u8], start: usize) -> usize
     ensures { HasLength file.now start result }
 {
