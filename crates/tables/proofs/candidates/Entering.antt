@@ -8,76 +8,66 @@ use mathlib.Core.Logic.{◌⊎◌, inl, inr}
 use mathlib.Core.Bool.{true}
 use mathlib.Core.List.{List}
 use mathlib.Core.Option.{some}
-use lib.Bits.{bit_or}
-use lib.ListN.{length, get_or, set, replicate}
+use lib.ListN.{length, get_or, replicate}
 use Rattle.scheme.specs.Types.{Ty, off}
 use Rattle.scheme.specs.Flags.{is_kept}
 use Rattle.casefile.specs.Records.{Record}
 use Rattle.casefile.specs.Kinds.{Kind, count}
 use Rattle.index.specs.layout.Layout.{max_states, max_bindings, word_bits, no_number}
 use Rattle.marks.specs.Marks.{bit_of, In, Puts}
-use Rattle.marks.proofs.Bits.{zero_bit, shifted}
-use Rattle.marks.proofs.Sets.{puts_here, puts_past}
+use Rattle.marks.proofs.Bits.{zero_bit}
 use Rattle.tables.specs.Facts.{Goal, TypesAre, BindingsAre, binding_at}
 use Rattle.tables.specs.Filling.{words_for, FillsSets}
-use Rattle.tables.specs.reading.Cells.{result_of, own_of}
-use Rattle.tables.specs.candidates.Chains.{along, widest, set_at, OnChain, Enters}
-use Rattle.tables.proofs.candidates.Walking.{Walked, walk_none, walk_more, walk_ended, chain, on_chain, same_bit}
+use Rattle.tables.specs.reading.Cells.{own_of}
+use Rattle.tables.specs.declared.candidates.Chain.{Chain}
+use Rattle.tables.specs.candidates.Chains.{along, widest, set_at, OnChain, Passes, Begins, Enters}
+use Rattle.tables.proofs.candidates.Walking.{Walked, walk_none, walk_more, walk_over, chain, on_chain, same_bit}
 use Rattle.tables.proofs.types.Meaning.{goal_below}
 
--- a bit put in where the sets have its word, and no bit where they have not
-module _ {sets after : List ℕ} {at b : ℕ} where
-  pub put_there : at + b / word_bits < length sets → after ≡ set sets (at + b / word_bits) (bit_or (get_or sets (at + b / word_bits) 0) (shifted (b % word_bits))) → Puts sets at b after
-  put_there h e = subst (Puts sets at b) (sym e) (puts_here sets at b h)
-
-  pub put_past : length sets ≤ at + b / word_bits → after ≡ sets → Puts sets at b after
-  put_past h e = subst (Puts sets at b) (sym e) (puts_past sets at b h)
-
--- While a binding is entered: the first k goals of its chain have it.
-pub record EnterTo (t : List ℕ) (b words : ℕ) (before : List ℕ) (goal k : ℕ) (sets : List ℕ) : Type 0 where
-  pub walked : Walked t b goal k
+-- While a binding is entered: the first goals of its chain have it.
+pub record EnterTo (t : List ℕ) (b words : ℕ) (before : List ℕ) (s : Chain) (sets : List ℕ) : Type 0 where
+  pub k : ℕ
+  pub walked : Walked t b s k
   pub long : length sets ≡ length before
   pub grows : (i j : ℕ) → j < word_bits → bit_of j (get_or before i 0) ≡ 1 → bit_of j (get_or sets i 0) ≡ 1
   pub only : (i j : ℕ) → j < word_bits → bit_of j (get_or sets i 0) ≡ 1 → (bit_of j (get_or before i 0) ≡ 1) ⊎ OnChain t b words i j
   pub put : (j : ℕ) → j < k → (along t b j ≡ no_number → ⊥) → set_at words (along t b j) + b / word_bits < length before → In sets (set_at words (along t b j)) b
 
-pub enter_none : {t : List ℕ} {b words : ℕ} {before : List ℕ} (goal : ℕ) → goal ≡ own_of t b → goal < 65536 → EnterTo t b words before goal 0 before
-enter_none goal e l = record { walked = walk_none goal e l; long = refl; grows = λ i j h x. x; only = λ i j h x. inl x; put = λ j h. absurd (omega arith) }
+pub enter_none : {t : List ℕ} {b words : ℕ} {before : List ℕ} {s first : Chain} → s ≡ first → Begins t b first → EnterTo t b words before s before
+enter_none e x = record { k = 0; walked = walk_none e x; long = refl; grows = λ i j h y. y; only = λ i j h y. inl y; put = λ j h. absurd (omega arith) }
 
-module _ {t : List ℕ} {b words : ℕ} {before : List ℕ} {goal k : ℕ} {sets : List ℕ} (so : EnterTo t b words before goal k sets) where
-  pub enter_more : k < 256 → (goal ≡ no_number → ⊥) → (after : List ℕ) → Puts sets (goal * (words % widest)) b after → (next : ℕ) → next ≡ result_of t goal → next < 65536 → EnterTo t b words before next (k + 1) after
-  enter_more h ne after puts next en small =
+module _ {t : List ℕ} {b words : ℕ} {before : List ℕ} {s : Chain} {sets : List ℕ} (so : EnterTo t b words before s sets) where
+  pub enter_more : {g : ℕ} {s' : Chain} → Passes s g s' → (after : List ℕ) → Puts sets (g * (words % widest)) b after → EnterTo t b words before s' after
+  enter_more {g} p after puts =
       record {
-        walked = walk_more so.walked h ne next en small;
+        k = so.k + 1;
+        walked = walk_more so.walked p;
         long = puts.long ∙ so.long;
         grows = λ i j l x. puts.grows i j l (so.grows i j l x);
         only = λ i j l x. of i j l (puts.only i j l x);
-        put = λ j l d room. there j l d room (ℕ_discrete j k);
+        put = λ j l d room. there j l d room (ℕ_discrete j so.k);
       }
     where
-      e : goal ≡ along t b k
-      e = so.walked.at
+      e : g ≡ along t b so.k
+      e = p.is_goal ∙ so.walked.at
 
-      of : (i j : ℕ) → j < word_bits → (bit_of j (get_or sets i 0) ≡ 1) ⊎ ((i ≡ goal * (words % widest) + b / word_bits) × (j ≡ b % word_bits)) → (bit_of j (get_or before i 0) ≡ 1) ⊎ OnChain t b words i j
+      of : (i j : ℕ) → j < word_bits → (bit_of j (get_or sets i 0) ≡ 1) ⊎ ((i ≡ g * (words % widest) + b / word_bits) × (j ≡ b % word_bits)) → (bit_of j (get_or before i 0) ≡ 1) ⊎ OnChain t b words i j
       of i j l (inl x) = so.only i j l x
-      of i j l (inr (p, q)) = inr (record { steps = k; few = h; some_goal = λ z. ne (e ∙ z); word = p ∙ ap (λ x. set_at words x + b / word_bits) e; bit = q })
+      of i j l (inr (q, r)) = inr (record { steps = so.k; few = let f = so.walked.steps in let h = p.step in omega arith; some_goal = λ z. p.some_goal (e ∙ z); word = q ∙ ap (λ x. set_at words x + b / word_bits) e; bit = r })
 
-      there : (j : ℕ) → j < k + 1 → (along t b j ≡ no_number → ⊥) → set_at words (along t b j) + b / word_bits < length before → Dec (j ≡ k) → In after (set_at words (along t b j)) b
-      there j l d room (no z) = let y : (j ≡ k → ⊥) = z in puts.grows (set_at words (along t b j) + b / word_bits) (b % word_bits) (omega arith) (so.put j (omega arith) d room)
+      there : (j : ℕ) → j < so.k + 1 → (along t b j ≡ no_number → ⊥) → set_at words (along t b j) + b / word_bits < length before → Dec (j ≡ so.k) → In after (set_at words (along t b j)) b
+      there j l d room (no z) = let y : (j ≡ so.k → ⊥) = z in puts.grows (set_at words (along t b j) + b / word_bits) (b % word_bits) (omega arith) (so.put j (omega arith) d room)
       there j l d room (yes z) =
-          let f : goal ≡ along t b j = e ∙ ap (along t b) (sym z) in
-          let room' : set_at words goal + b / word_bits < length sets = subst (λ x. set_at words x + b / word_bits < length sets) (sym f) (let q = so.long in subst (λ n. set_at words (along t b j) + b / word_bits < n) (sym q) room) in
+          let f : g ≡ along t b j = e ∙ ap (along t b) (sym z) in
+          let room' : set_at words g + b / word_bits < length sets = subst (λ x. set_at words x + b / word_bits < length sets) (sym f) (let q = so.long in subst (λ n. set_at words (along t b j) + b / word_bits < n) (sym q) room) in
           subst (λ x. In after (set_at words x) b) f (puts.put room')
 
-  enter_done : ((j : ℕ) → k ≤ j → j < 256 → along t b j ≡ no_number) → Enters t b words before sets
-  enter_done none = record { long = so.long; grows = so.grows; only = so.only; put = λ j h d room. at j h d room (dec_lt j k) }
+  pub enter_over : (s.goal ≡ no_number) ⊎ (s.steps ≡ 0) → Enters t b words before sets
+  enter_over over = record { long = so.long; grows = so.grows; only = so.only; put = λ j h d room. at j h d room (dec_lt j so.k) }
     where
-      at : (j : ℕ) → j < 256 → (along t b j ≡ no_number → ⊥) → set_at words (along t b j) + b / word_bits < length before → Dec (j < k) → In sets (set_at words (along t b j)) b
+      at : (j : ℕ) → j < 256 → (along t b j ≡ no_number → ⊥) → set_at words (along t b j) + b / word_bits < length before → Dec (j < so.k) → In sets (set_at words (along t b j)) b
       at j h d room (yes l) = so.put j l d room
-      at j h d room (no l) = absurd (d (none j (omega arith) h))
-
-  pub enter_ended : goal ≡ no_number → Enters t b words before sets
-  enter_ended e = enter_done (λ j l h. walk_ended so.walked e j l)
+      at j h d room (no l) = absurd (d (walk_over so.walked over j (omega arith) h))
 
 -- All bindings.
 pub record SetsTo (t : List ℕ) (bindings words : ℕ) (before : List ℕ) (b : ℕ) (sets : List ℕ) : Type 0 where

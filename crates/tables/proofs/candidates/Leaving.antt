@@ -1,12 +1,11 @@
 -- A binding taken out of the sets along its chain: no other set has it, and no other binding has the same bit of the same word.
-use Prim.Native.Nat.{ℕ, suc, ◌+◌, ◌-◌, ◌*◌, ◌/◌, ◌%◌, ◌<◌, ◌≤◌}
+use Prim.Native.Nat.{ℕ, suc, ◌+◌, ◌*◌, ◌/◌, ◌%◌, ◌<◌, ◌≤◌}
 use native.Mathlib.Omega.{arith}
 use native.Mathlib.Decide.{ℕ_discrete, dec_lt}
 use mathlib.Core.Path.{◌≡◌, refl, sym, ap, subst, ◌∙◌}
 use mathlib.Core.Logic.{◌⊎◌, inl, inr}
 use mathlib.Core.Bool.{true, true≢false}
 use mathlib.Core.List.{List}
-use lib.Bits.{bit_and}
 use lib.ListN.{length, get_or, set}
 use lib.Seq.{get_or-set_same, get_or-set_other}
 use Rattle.scheme.specs.Flags.{is_kept}
@@ -14,21 +13,12 @@ use Rattle.casefile.specs.Records.{Record}
 use Rattle.casefile.specs.Kinds.{Kind, count}
 use Rattle.index.specs.layout.Layout.{max_goals, groups_at, row_limit, word_bits, no_number}
 use Rattle.marks.specs.Marks.{bit_of, In, TakesOut}
-use Rattle.marks.proofs.Bits.{shifted}
-use Rattle.marks.proofs.Sets.{takes_here, takes_past}
 use Rattle.tables.specs.Facts.{TypesAre, BindingsAre, binding_at, CandidatesAre}
 use Rattle.tables.specs.Filling.{words_for, LeavesSets}
-use Rattle.tables.specs.reading.Cells.{result_of, own_of}
-use Rattle.tables.specs.candidates.Chains.{along, widest, set_at, OnChain}
-use Rattle.tables.proofs.candidates.Walking.{Walked, walk_none, walk_more, walk_ended, chain, same_bit}
-
--- a bit taken out where the sets have its word, and no bit where they have not
-module _ {sets after : List ℕ} {at b : ℕ} where
-  pub out_there : at + b / word_bits < length sets → after ≡ set sets (at + b / word_bits) (get_or sets (at + b / word_bits) 0 - bit_and (get_or sets (at + b / word_bits) 0) (shifted (b % word_bits))) → TakesOut sets at b after
-  out_there h e = subst (TakesOut sets at b) (sym e) (takes_here sets at b h)
-
-  pub out_past : length sets ≤ at + b / word_bits → after ≡ sets → TakesOut sets at b after
-  out_past h e = subst (TakesOut sets at b) (sym e) (takes_past sets at b h)
+use Rattle.tables.specs.reading.Cells.{own_of}
+use Rattle.tables.specs.declared.candidates.Chain.{Chain}
+use Rattle.tables.specs.candidates.Chains.{along, widest, set_at, OnChain, Passes, Begins}
+use Rattle.tables.proofs.candidates.Walking.{Walked, walk_none, walk_more, walk_over, chain, same_bit}
 
 -- the cells number fewer than 65,536 bindings
 pub numbered : {rs : List Record} {t : List ℕ} → BindingsAre rs t → ((i : ℕ) → get_or t i 0 < 65536) → count Kind.binding rs ≤ 65536
@@ -43,45 +33,47 @@ numbered {rs} {t} bs cells = go (dec_lt 65536 (count Kind.binding rs))
         absurd (omega arith)
 
 -- while a binding is taken out: the first k sets of its chain lack it, and no other bit changed
-pub record LeaveTo (t : List ℕ) (b words : ℕ) (before : List ℕ) (goal k : ℕ) (sets : List ℕ) : Type 0 where
-  pub walked : Walked t b goal k
+pub record LeaveTo (t : List ℕ) (b words : ℕ) (before : List ℕ) (s : Chain) (sets : List ℕ) : Type 0 where
+  pub k : ℕ
+  pub walked : Walked t b s k
   pub long : length sets ≡ length before
   pub gone : (j : ℕ) → j < k → In sets (set_at words (along t b j)) b → ⊥
   pub fewer : (i j : ℕ) → j < word_bits → bit_of j (get_or sets i 0) ≡ 1 → bit_of j (get_or before i 0) ≡ 1
   pub stays : (i j : ℕ) → j < word_bits → bit_of j (get_or before i 0) ≡ 1 → (bit_of j (get_or sets i 0) ≡ 1) ⊎ OnChain t b words i j
 
-pub leave_none : {t : List ℕ} {b words : ℕ} {before : List ℕ} (goal : ℕ) → goal ≡ own_of t b → goal < 65536 → LeaveTo t b words before goal 0 before
-leave_none goal e l = record { walked = walk_none goal e l; long = refl; gone = λ j h. absurd (omega arith); fewer = λ i j h x. x; stays = λ i j h x. inl x }
+pub leave_none : {t : List ℕ} {b words : ℕ} {before : List ℕ} {s first : Chain} → s ≡ first → Begins t b first → LeaveTo t b words before s before
+leave_none e x = record { k = 0; walked = walk_none e x; long = refl; gone = λ j h. absurd (omega arith); fewer = λ i j h y. y; stays = λ i j h y. inl y }
 
-module _ {t : List ℕ} {b words : ℕ} {before : List ℕ} {goal k : ℕ} {sets : List ℕ} (so : LeaveTo t b words before goal k sets) where
-  pub leave_more : k < 256 → (goal ≡ no_number → ⊥) → (after : List ℕ) → TakesOut sets (goal * (words % widest)) b after → (next : ℕ) → next ≡ result_of t goal → next < 65536 → LeaveTo t b words before next (k + 1) after
-  leave_more h ne after out next en small =
+module _ {t : List ℕ} {b words : ℕ} {before : List ℕ} {s : Chain} {sets : List ℕ} (so : LeaveTo t b words before s sets) where
+  pub leave_more : {g : ℕ} {s' : Chain} → Passes s g s' → (after : List ℕ) → TakesOut sets (g * (words % widest)) b after → LeaveTo t b words before s' after
+  leave_more {g} p after out =
       record {
-        walked = walk_more so.walked h ne next en small;
+        k = so.k + 1;
+        walked = walk_more so.walked p;
         long = out.long ∙ so.long;
-        gone = λ j l. lacks j l (ℕ_discrete j k);
+        gone = λ j l. lacks j l (ℕ_discrete j so.k);
         fewer = λ i j l x. so.fewer i j l (out.fewer i j l x);
         stays = λ i j l x. still i j l (so.stays i j l x);
       }
     where
-      e : goal ≡ along t b k
-      e = so.walked.at
+      e : g ≡ along t b so.k
+      e = p.is_goal ∙ so.walked.at
 
-      lacks : (j : ℕ) → j < k + 1 → Dec (j ≡ k) → In after (set_at words (along t b j)) b → ⊥
+      lacks : (j : ℕ) → j < so.k + 1 → Dec (j ≡ so.k) → In after (set_at words (along t b j)) b → ⊥
       lacks j l (yes z) x = out.gone (subst (λ y. In after (set_at words y) b) (ap (along t b) z ∙ sym e) x)
-      lacks j l (no z) x = let y : (j ≡ k → ⊥) = z in so.gone j (omega arith) (out.fewer (set_at words (along t b j) + b / word_bits) (b % word_bits) (omega arith) x)
+      lacks j l (no z) x = let y : (j ≡ so.k → ⊥) = z in so.gone j (omega arith) (out.fewer (set_at words (along t b j) + b / word_bits) (b % word_bits) (omega arith) x)
 
       still : (i j : ℕ) → j < word_bits → (bit_of j (get_or sets i 0) ≡ 1) ⊎ OnChain t b words i j → (bit_of j (get_or after i 0) ≡ 1) ⊎ OnChain t b words i j
       still i j l (inr on) = inr on
       still i j l (inl x) = by (out.stays i j l x)
         where
-          by : (bit_of j (get_or after i 0) ≡ 1) ⊎ ((i ≡ goal * (words % widest) + b / word_bits) × (j ≡ b % word_bits)) → (bit_of j (get_or after i 0) ≡ 1) ⊎ OnChain t b words i j
+          by : (bit_of j (get_or after i 0) ≡ 1) ⊎ ((i ≡ g * (words % widest) + b / word_bits) × (j ≡ b % word_bits)) → (bit_of j (get_or after i 0) ≡ 1) ⊎ OnChain t b words i j
           by (inl y) = inl y
-          by (inr (p, q)) = inr (record { steps = k; few = h; some_goal = λ z. ne (e ∙ z); word = p ∙ ap (λ y. set_at words y + b / word_bits) e; bit = q })
+          by (inr (q, r)) = inr (record { steps = so.k; few = let f = so.walked.steps in let h = p.step in omega arith; some_goal = λ z. p.some_goal (e ∙ z); word = q ∙ ap (λ y. set_at words y + b / word_bits) e; bit = r })
 
-  leave_done : ((i : ℕ) → get_or t i 0 < 65536) → ((j : ℕ) → k ≤ j → j < 256 → along t b j ≡ no_number) → LeavesSets t b words before sets
+  pub leave_over : ((i : ℕ) → get_or t i 0 < 65536) → (s.goal ≡ no_number) ⊎ (s.steps ≡ 0) → LeavesSets t b words before sets
   unfolding is_kept
-  leave_done cells none =
+  leave_over cells over =
       record {
         long = so.long;
         left = λ rs kept ts bs h l ew c. record {
@@ -114,18 +106,12 @@ module _ {t : List ℕ} {b words : ℕ} {before : List ℕ} {goal k : ℕ} {sets
           let (j, σ, l, p, x) = c.chained b g h n (so.fewer (g * words + b / word_bits) (b % word_bits) (omega arith) o) in
           let is : along t b j ≡ g = ts.one_number (along t b j) g σ (chain ts j (own_of t b) (binding_at rs b).type σ (bs.own b h) p) x in
           let place : set_at words (along t b j) ≡ g * words = ap (set_at words) is ∙ ap (λ z. g * z) wide in
-          at j l is (subst (λ z. In sets z b) (sym place) o) (dec_lt j k)
+          at j l is (subst (λ z. In sets z b) (sym place) o) (dec_lt j so.k)
         where
-          at : (j : ℕ) → j < 256 → along t b j ≡ g → In sets (set_at words (along t b j)) b → Dec (j < k) → ⊥
+          at : (j : ℕ) → j < 256 → along t b j ≡ g → In sets (set_at words (along t b j)) b → Dec (j < so.k) → ⊥
           at j l is x (yes m) = so.gone j m x
-          at j l is x (no m) = let z = none j (omega arith) l in omega arith
+          at j l is x (no m) = let z = walk_over so.walked over j (omega arith) l in omega arith
 
       one : (rs : List Record) (kept : List ℕ) → TypesAre rs t → BindingsAre rs t → b < count Kind.binding rs → words ≡ words_for rs → CandidatesAre rs kept before words → (i g : ℕ) → i < count Kind.binding rs → g < max_goals → In sets (g * words) i → Dec (i ≡ b) → is_kept (get_or (set kept b 0) i 0) ≡ true
       one rs kept ts bs h ew c i g m n o (yes z) = absurd (out rs kept ts bs h ew c g n (subst (λ x. In sets (g * words) x) z o))
       one rs kept ts bs h ew c i g m n o (no z) = ap is_kept (get_or-set_other kept b i 0 0 z) ∙ c.kept_only i g m n (so.fewer (g * words + i / word_bits) (i % word_bits) (omega arith) o)
-
-  pub leave_ended : ((i : ℕ) → get_or t i 0 < 65536) → goal ≡ no_number → LeavesSets t b words before sets
-  leave_ended cells e = leave_done cells (λ j l h. walk_ended so.walked e j l)
-
-  pub leave_all : ((i : ℕ) → get_or t i 0 < 65536) → 256 ≤ k → LeavesSets t b words before sets
-  leave_all cells h = leave_done cells (λ j l m. absurd (omega arith))

@@ -3,7 +3,8 @@ use Prim.Native.Nat.{ℕ, zero, suc, ◌+◌, ◌-◌, ◌*◌, ◌/◌, ◌%◌
 use native.Mathlib.Omega.{arith}
 use native.Mathlib.Decide.{ℕ_discrete, dec_lt}
 use native.Mathlib.Nat.{mul-le-mul_right}
-use mathlib.Core.Path.{◌≡◌, refl, sym, ap, subst, ◌∙◌}
+use mathlib.Core.Path.{◌≡◌, refl, sym, ap, ap₂, subst, ◌∙◌}
+use mathlib.Core.Logic.{◌⊎◌, inl, inr}
 use mathlib.Core.List.{List}
 use mathlib.Core.Option.{some}
 use Rattle.scheme.specs.Types.{Ty, state, arrow, off}
@@ -11,7 +12,8 @@ use Rattle.casefile.specs.Records.{Record}
 use Rattle.index.specs.layout.Layout.{word_bits, no_number}
 use Rattle.tables.specs.Facts.{Goal, TypesAre}
 use Rattle.tables.specs.reading.Cells.{result_of, own_of, off_of}
-use Rattle.tables.specs.candidates.Chains.{along, widest, OnChain}
+use Rattle.tables.specs.declared.candidates.Chain.{Chain}
+use Rattle.tables.specs.candidates.Chains.{along, widest, OnChain, Passes, Begins}
 use Rattle.tables.proofs.reading.Offs.{off_none, off_next}
 use Rattle.tables.proofs.types.Meaning.{goal_below, state_goal}
 
@@ -41,27 +43,34 @@ module _ (t : List ℕ) where
   ended_on k zero g e = let z : k + 0 ≡ k = omega arith in ap (λ j. off_of t j g) z ∙ e
   ended_on k (suc n) g e = let z : k + suc n ≡ suc (k + n) = omega arith in ap (λ j. off_of t j g) z ∙ off_ended (k + n) g (ended_on k n g e)
 
--- along the chain of a binding: k arrows are off
-pub record Walked (t : List ℕ) (b goal k : ℕ) : Type 0 where
-  pub up_to : k ≤ 256
-  pub small : goal < 65536
-  pub at : goal ≡ along t b k
+-- along the chain of a binding: k arrows are off, and so many steps are left
+pub record Walked (t : List ℕ) (b : ℕ) (s : Chain) (k : ℕ) : Type 0 where
+  pub table : s.t.now ≡ t
+  pub steps : k + s.steps ≡ 256
+  pub small : s.goal < 65536
+  pub at : s.goal ≡ along t b k
 
-pub walk_none : {t : List ℕ} {b : ℕ} (goal : ℕ) → goal ≡ own_of t b → goal < 65536 → Walked t b goal 0
+pub walk_none : {t : List ℕ} {b : ℕ} {s first : Chain} → s ≡ first → Begins t b first → Walked t b s 0
 unfolding off_of
-walk_none goal e l = record { up_to = omega arith; small = l; at = e }
+walk_none {t} {b} e x = subst (λ y. Walked t b y 0) (sym e) (record { table = x.table; steps = let e = x.all_steps in omega arith; small = x.small; at = x.first })
 
-module _ {t : List ℕ} {b goal k : ℕ} (so : Walked t b goal k) where
-  pub walk_more : k < 256 → (goal ≡ no_number → ⊥) → (next : ℕ) → next ≡ result_of t goal → next < 65536 → Walked t b next (k + 1)
-  walk_more h ne next en small =
+module _ {t : List ℕ} {b : ℕ} {s : Chain} {k : ℕ} (so : Walked t b s k) where
+  pub walk_more : {g : ℕ} {s' : Chain} → Passes s g s' → Walked t b s' (k + 1)
+  walk_more {g} p =
       record {
-        up_to = omega arith;
-        small = small;
-        at = en ∙ ap (result_of t) so.at ∙ sym (off_last t k (own_of t b) (λ z. ne (so.at ∙ z))) ∙ ap (along t b) (let z : suc k ≡ k + 1 = omega arith in z);
+        table = p.table ∙ so.table;
+        steps = let e = so.steps in let f = p.step in omega arith;
+        small = p.small;
+        at = p.next ∙ ap₂ result_of so.table (p.is_goal ∙ so.at) ∙ sym (off_last t k (own_of t b) (λ z. p.some_goal (p.is_goal ∙ so.at ∙ z))) ∙ ap (along t b) (let z : suc k ≡ k + 1 = omega arith in z);
       }
 
-  pub walk_ended : goal ≡ no_number → (j : ℕ) → k ≤ j → along t b j ≡ no_number
+  pub walk_ended : s.goal ≡ no_number → (j : ℕ) → k ≤ j → along t b j ≡ no_number
   walk_ended e j l = let z : k + (j - k) ≡ j = omega arith in ap (along t b) (sym z) ∙ ended_on t k (j - k) (own_of t b) (sym so.at ∙ e)
+
+  -- where the walk is over, nothing stands behind on the chain
+  pub walk_over : (s.goal ≡ no_number) ⊎ (s.steps ≡ 0) → (j : ℕ) → k ≤ j → j < 256 → along t b j ≡ no_number
+  walk_over (inl e) j l h = walk_ended e j l
+  walk_over (inr e) j l h = absurd (let f = so.steps in omega arith)
 
 -- a goal with arrows off, by the table
 pub chain : {rs : List Record} {t : List ℕ} → TypesAre rs t → (k g : ℕ) (τ σ : Ty) → Goal rs g τ → off k τ ≡ some σ → Goal rs (off_of t k g) σ

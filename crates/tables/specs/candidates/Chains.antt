@@ -1,13 +1,34 @@
 -- What our own crates promise each other; nothing here has to be believed.
 -- A binding is entered in the set of each goal along its chain: its type with 0, 1, 2, .. arrows off.
-use Rattle.std.specs.Prelude.{ℕ, ◌+◌, ◌*◌, ◌/◌, ◌%◌, ◌<◌, ◌≡◌, ◌⊎◌, List, length, get_or}
+use Rattle.std.specs.Prelude.{ℕ, ◌+◌, ◌*◌, ◌/◌, ◌%◌, ◌<◌, ◌≡◌, ◌⊎◌, List, Option, MatchOption, length, get_or}
 use Rattle.index.specs.layout.Layout.{word_bits, no_number}
 use Rattle.marks.specs.Marks.{bit_of, In}
-use Rattle.tables.specs.reading.Cells.{own_of, off_of}
+use Rattle.tables.specs.reading.Cells.{result_of, own_of, off_of}
+use Rattle.tables.specs.declared.candidates.Chain.{Chain}
 
 -- the type of a binding with k arrows off
 abbrev pub along : List ℕ → ℕ → ℕ → ℕ
 along t b k = off_of t k (own_of t b)
+
+-- a chain passes the goal g
+pub record Passes (s : Chain) (g : ℕ) (s' : Chain) : Type 0 where
+  pub is_goal : g ≡ s.goal
+  pub some_goal : g ≡ no_number → ⊥
+  pub step : s.steps ≡ s'.steps + 1
+  pub next : s'.goal ≡ result_of s.t.now g
+  pub small : s'.goal < 65536
+  pub table : s'.t.now ≡ s.t.now
+
+-- the next goal of a chain; none where no arrow is left, or no step
+abbrev pub StepsOn : Chain → Option ℕ → Chain → Type 0
+StepsOn s r s' = MatchOption r ((s.goal ≡ no_number) ⊎ (s.steps ≡ 0)) (λ g. Passes s g s')
+
+-- the chain of a binding
+pub record Begins (t : List ℕ) (b : ℕ) (s : Chain) : Type 0 where
+  pub table : s.t.now ≡ t
+  pub first : s.goal ≡ own_of t b
+  pub small : s.goal < 65536
+  pub all_steps : s.steps ≡ 256
 
 -- more words than a set has whose bindings a cell can number
 abbrev pub widest : ℕ

@@ -1,6 +1,6 @@
--- `enter` meets its contract. The invariant: the first k goals of the chain have the binding.
+-- `enter` meets its contract. The invariant: the goals of the chain that are passed have the binding.
 use Rattle.tables.proofs.candidates.Entering.{EnterTo}
 use Rattle.tables.proofs.candidates.enter.Given as goal
 
-abbrev pub invariant-loop : goal.invariant-loop
-invariant-loop l = EnterTo l.t l.b l.words l.initial.sets l.goal l.counter l.sets
+abbrev pub invariant-loop-goal : goal.invariant-loop-goal
+invariant-loop-goal l = EnterTo l.t l.b l.words l.initial.sets l.goal-iterator l.sets
