@@ -3,17 +3,17 @@ ghost use Rattle.std.specs.Prelude.{◌≡◌};
 ghost use Rattle.term_check.specs.Worlds.{case_of};
 ghost use Rattle.reasons.specs.leading.Leading.{LeadsFirst};
 
-use index::layout::{ROW_LIMIT, TEST_CELLS, TEST_WORDS, WORDS_LIMIT};
+use index::layout::ROW_LIMIT;
 use marks::next_in;
 use tables::reading::{Node, group_of, many_of, member_of, off};
 use term_check::heads::{given_for, leading};
-use term_check::notes::number_in;
+use term_check::notes::candidates_at;
 
 // The type of the first kept binding of a nonterminal that leads to a goal.
 fn first_bound(t: &[u16], r: &[u32], node: Node, goal: usize) -> Option<usize>
     ensures { node.tag ≡ 1 → LeadsFirst (case_of t.now r.now) node goal result }
 {
-    let row = TEST_CELLS + goal % ROW_LIMIT * (number_in(r, TEST_WORDS) % WORDS_LIMIT);
+    let row = candidates_at(r, goal);
     let high = group_of(t, node.number % ROW_LIMIT + 1);
     let mut from = group_of(t, node.number);
     while from < high {

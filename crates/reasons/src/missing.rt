@@ -93,7 +93,7 @@ pub(crate) fn missing_target(
         }
         let node = node_of(t, base, here);
         here = node.next;
-        rest = rest / 16;
+        rest /= 16;
     }
     None
 }

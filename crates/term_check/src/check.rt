@@ -12,7 +12,7 @@ use crate::heads::{
 };
 use crate::hints::{bound_hint, hint_in, node_hint};
 use crate::masks::{has_bit, left_of, lowest, without_bit};
-use crate::notes::number_in;
+use crate::notes::{candidates_at, number_in};
 use crate::parts::{learn_in, note_in, outlook_on};
 use answers::Outlook;
 use index::layout::{
@@ -69,15 +69,15 @@ fn all_targets(t: &[u16], r: &[u32], w: &mut [u32], at: usize, count: usize, tar
                 return false;
             };
             rest = targets;
-            here = here + 1;
+            here += 1;
             left = node.count;
         } else {
             if !one_target(t, r, w, here, rest % 16, node) {
                 return false;
             }
             here = node.next;
-            rest = rest / 16;
-            left = left - 1;
+            rest /= 16;
+            left -= 1;
         }
     }
     true
@@ -141,7 +141,7 @@ fn check_listed(t: &[u16], r: &[u32], w: &mut [u32], at: usize, goal: usize, nod
     requires { at < max_nodes }
     ensures { (length w.new ≡ length w.old) × (node ≡ node_at t.now (base_in r.now) at → node.tag ≡ 1 → ChecksTerm (case_of t.now r.now) (answers_of r.now w.old) (users_of r.now w.old) at goal (answers_of r.now w.new) (users_of r.now w.new) result) }
 {
-    let row = TEST_CELLS + goal % ROW_LIMIT * (number_in(r, TEST_WORDS) % WORDS_LIMIT);
+    let row = candidates_at(r, goal);
     let high = group_of(t, node.number % ROW_LIMIT + 1);
     let mut from = group_of(t, node.number);
     while from < high {

@@ -7,7 +7,7 @@ ghost use Rattle.term_check.specs.Worlds.{case_of, answers_of};
 ghost use Rattle.term_check.specs.heads.Heads.{IsGiven, IsCandidate, IsLeading, Matches, IsTargets, Leaf, Alone, Seen, AllHad, ArgsKnown, Wanted};
 
 use crate::masks::{has_bit, left_of};
-use crate::notes::number_in;
+use crate::notes::{candidates_at, number_in};
 use crate::parts::outlook_in;
 use answers::Outlook;
 use index::layout::{
@@ -51,8 +51,7 @@ pub fn candidate(
     if number_in(r, TEST_BINDINGS) <= c {
         return None;
     }
-    let words = number_in(r, TEST_WORDS) % WORDS_LIMIT;
-    if !is_in(r, TEST_CELLS + goal % ROW_LIMIT * words, c) {
+    if !is_in(r, candidates_at(r, goal), c) {
         return None;
     }
     if symbol_of(t, c) != number {
@@ -72,7 +71,7 @@ fn matches(t: &[u16], goal: usize, targets: usize, left: usize) -> bool
             return false;
         }
         g = result_of(t, g);
-        rest = rest / 16;
+        rest /= 16;
     }
     g < MAX_STATES
 }

@@ -7,26 +7,26 @@ use index::layout::WORD;
 pub fn has_bit(word: u32, k: usize) -> bool
     ensures { HasBit word k result }
 {
-    (word >> ((k % WORD) as u32)) % 2 == 1
+    (word >> (k % WORD)) % 2 == 1
 }
 
 // The lowest bit of a word that has one.
 pub fn lowest(word: u32) -> usize
     ensures { Lowest word result }
 {
-    u32::trailing_zeros(word) as usize
+    word.trailing_zeros() as usize
 }
 
 // A word with bit k taken out.
 pub fn without_bit(word: u32, k: usize) -> u32
     ensures { TakesOut word k result }
 {
-    word - (word & (1u32 << ((k % WORD) as u32)))
+    word & !(1 << (k % WORD))
 }
 
 // The bits of a word that another has not.
 pub fn left_of(word: u32, other: u32) -> u32
     ensures { Leaves word other result }
 {
-    word - (word & other)
+    word & !other
 }

@@ -2,7 +2,7 @@
 use Prim.Native.Nat.{ℕ, suc, ◌+◌, ◌*◌, ◌%◌, ◌<◌, ◌≤◌}
 use native.Mathlib.Omega.{arith}
 use native.Mathlib.Decide.{dec_lt, ℕ_discrete}
-use mathlib.Core.Path.{◌≡◌, sym, ap, subst, ◌∙◌}
+use mathlib.Core.Path.{◌≡◌, refl, sym, ap, subst, ◌∙◌}
 use lib.ListN.{get_or}
 use Rattle.std.specs.Prelude.{Option, Some, None}
 use Rattle.scheme.specs.Lists.{first_of}
@@ -76,24 +76,21 @@ module _ (x : Case) (a : Node) (goal : ℕ) where
               next.passed d (omega arith) h (subst (λ k. In x.sets k d) (sym e) (s.candidates.all_in d leads.inside leads.is_kept_law a.count goal σ few leads.rest g))
 
   -- the next one
-  module _ {from : ℕ} (p : Passed from) (low : group_of x.t a.number ≤ from) (k c high : ℕ) (r : Option ℕ) (e : k ≡ get_or x.test test_words 0) (next : FindsNext x.sets (goal % row_limit * (k % words_limit)) from high c)
+  module _ {from : ℕ} (p : Passed from) (low : group_of x.t a.number ≤ from) (c high : ℕ) (r : Option ℕ) (next : FindsNext x.sets (goal % row_limit * words_in x.test) from high c)
       (inside : c < high) (eh : high ≡ group_of x.t (a.number % row_limit + 1)) (leading : IsLeading x.t a.count goal c r) where
-    row_is : goal % row_limit * (k % words_limit) ≡ goal % row_limit * words_in x.test
-    row_is = ap (λ n. goal % row_limit * (n % words_limit)) e
-
     -- does not lead to it either
     pub passed_more : r ≡ None → (from' : ℕ) → from' ≡ suc c → Passed from'
     passed_more z from' ef = record { misses = λ d l h. by d l h (ℕ_discrete d c) }
       where
         by : (d : ℕ) → group_of x.t a.number ≤ d → d < from' → Dec (d ≡ c) → Misses d
-        by d l h (yes i) = λ w s σ g known few leads. (listed_is x a.number a.count goal k from high c r e next inside low eh leading).misses z w s σ g few (subst (Leads w a.number a.count σ) i leads)
-        by d l h (no i) = (passed_to p c high _ row_is next).misses d l (omega arith)
+        by d l h (yes i) = λ w s σ g known few leads. (listed_is x a.number a.count goal from high c r next inside low eh leading).misses z w s σ g few (subst (Leads w a.number a.count σ) i leads)
+        by d l h (no i) = (passed_to p c high _ refl next).misses d l (omega arith)
 
     -- leads to it
     pub passed_leads : a.tag ≡ 1 → (ty : ℕ) → r ≡ Some ty → LeadsFirst x a goal (Some ty)
     unfolding head_types
     passed_leads et ty z w s σ g known few =
-        let is = listed_is x a.number a.count goal k from high c r e next inside low eh leading in
+        let is = listed_is x a.number a.count goal from high c r next inside low eh leading in
         let there = is.leads ty z w s (known et) σ g in
         let many = bindings_many w.rs in
         let τ = (binding_at w.rs c).type in (
@@ -104,5 +101,5 @@ module _ (x : Case) (a : Node) (goal : ℕ) where
               (λ d h kept symbol. leads_not a.count σ (binding_at w.rs d).type (λ o.
               let i = there.inside in
               let (low', below) = grouped et w s σ high eh d (omega arith) symbol in
-              (passed_to p c high _ row_is next).misses d low' h w s σ g (known et) few (record { inside = omega arith; is_kept_law = kept; symbol = symbol; rest = o }))),
+              (passed_to p c high _ refl next).misses d low' h w s σ g (known et) few (record { inside = omega arith; is_kept_law = kept; symbol = symbol; rest = o }))),
         )

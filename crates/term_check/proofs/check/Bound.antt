@@ -21,7 +21,7 @@ use Rattle.term_check.specs.Worlds.{Case, World, Has, Setting, Ready, Includes, 
 use Rattle.term_check.proofs.Goals.{goal_below}
 use Rattle.term_check.proofs.Rules.{bound_has, bound_had}
 use Rattle.term_check.proofs.Places.{behind_head}
-use Rattle.term_check.proofs.heads.Candidates.{in_set, candidate_is}
+use Rattle.term_check.proofs.heads.Candidates.{candidate_is}
 use Rattle.term_check.proofs.check.Keeping.{includes_less, keeps_all, keeps_on, keeps_note, ready_on}
 
 -- the head of the term at a node, by the node's tag and number
@@ -161,11 +161,11 @@ pub served : {x : Case} {memo users memo' users' : List ℕ} (at : ℕ) {goal : 
 served at ea et told e = record { keeps = (told ea et).keeps; yes = λ y. (told ea et).yes e; no = λ y. absurd (true≢false y) }
 
 -- what is found below the end is in the set of the goal, and one of the nonterminal
-pub listed_is : (x : Case) (number n goal k from high c : ℕ) (r : Option ℕ) → k ≡ get_or x.test test_words 0 → FindsNext x.sets (goal % row_limit * (k % words_limit)) from high c → c < high → group_of x.t number ≤ from → high ≡ group_of x.t (number % row_limit + 1)
+pub listed_is : (x : Case) (number n goal from high c : ℕ) (r : Option ℕ) → FindsNext x.sets (goal % row_limit * words_in x.test) from high c → c < high → group_of x.t number ≤ from → high ≡ group_of x.t (number % row_limit + 1)
     → IsLeading x.t n goal c r → IsCandidate x number n goal c r
-listed_is x number n goal k from high c r e next h low eh leading =
+listed_is x number n goal from high c r next h low eh leading =
     let (behind, is-in) = next.found h in
-    candidate_is x number n goal c r (in_set x.sets x.test goal c k e is-in)
+    candidate_is x number n goal c r is-in
     (λ w s known. s.bindings.between number c known (omega arith) (subst (λ g. c < g) (eh ∙ next_group x.t number) h)) leading
 
 -- what is found stands behind where the search began

@@ -24,23 +24,19 @@ use Rattle.term_check.proofs.Goals.{goal_below, off_is, off_number}
 pub row_fits : (g k : ℕ) → g % row_limit * (k % words_limit) ≤ 128961
 row_fits g k = mul-le-mul {n₁ = g % row_limit} {m₁ = k % words_limit} {n₂ = 2047} {m₂ = 63} (omega arith) (omega arith)
 
--- a binding that is in the set of a goal, by the numbers of the test
-pub in_set : (sets test : List ℕ) (goal c m : ℕ) → m ≡ get_or test test_words 0 → In sets (goal % row_limit * (m % words_limit)) c → In sets (goal % row_limit * words_in test) c
-in_set sets test goal c m e i = subst (λ k. In sets (goal % row_limit * (k % words_limit)) c) e i
-
 module _ (x : Case) (number n goal c : ℕ) where
   missing : ((w : World) → Setting x w → (σ : Ty) → Goal w.rs goal σ → n < 256 → Leads w number n σ c → ⊥) → IsCandidate x number n goal c None
   missing h = record { leads = λ ty e. absurd (none-some ty e); owns = λ ty e. absurd (none-some ty e); misses = λ e. h }
 
   -- the place of the set of a goal's candidates
-  place : (m : ℕ) → m ≡ get_or x.test test_words 0 → (w : World) → Setting x w → (σ : Ty) → Goal w.rs goal σ → goal % row_limit * (m % words_limit) ≡ goal * words_in x.test
-  place m e w s σ g = let h = goal_below s.types g in ap₂ (λ a b. a * (b % words_limit)) (let i : goal % row_limit ≡ goal = omega arith in i) e
+  place : (w : World) → Setting x w → (σ : Ty) → Goal w.rs goal σ → goal % row_limit * words_in x.test ≡ goal * words_in x.test
+  place w s σ g = let h = goal_below s.types g in ap (λ a. a * words_in x.test) (let i : goal % row_limit ≡ goal = omega arith in i)
 
   pub past_all : (m : ℕ) → m ≡ total_in x.test → m ≤ c → IsCandidate x number n goal c None
   past_all m e h = missing (λ w s σ g few l. let a = s.all_bindings_law in let i = l.inside in omega arith)
 
-  pub not_in_set : (m : ℕ) (b : Bool) → m ≡ get_or x.test test_words 0 → Decides x.sets (goal % row_limit * (m % words_limit)) c b → b ≡ false → IsCandidate x number n goal c None
-  not_in_set m b e d f = missing (λ w s σ g few l. d.no f (subst (λ a. In x.sets a c) (sym (place m e w s σ g)) (s.candidates.all_in c l.inside l.is_kept_law n goal σ few l.rest g)))
+  pub not_in_set : (b : Bool) → Decides x.sets (goal % row_limit * words_in x.test) c b → b ≡ false → IsCandidate x number n goal c None
+  not_in_set b d f = missing (λ w s σ g few l. d.no f (subst (λ a. In x.sets a c) (sym (place w s σ g)) (s.candidates.all_in c l.inside l.is_kept_law n goal σ few l.rest g)))
 
   pub other_symbol : (f : ℕ) → f ≡ symbol_of x.t c → (f ≡ number → ⊥) → IsCandidate x number n goal c None
   other_symbol f e d = missing (λ w s σ g few l. d (e ∙ s.bindings.symbol c l.inside ∙ l.symbol))
@@ -54,7 +50,7 @@ module _ (x : Case) (number n goal c : ℕ) where
             let (inside, symbol) = stands w s known in
             record {
               inside = inside;
-              is_kept_law = s.candidates.kept_only c goal inside (goal_below s.types g) (subst (λ a. In x.sets a c) (place (get_or x.test test_words 0) refl w s σ g) is-in);
+              is_kept_law = s.candidates.kept_only c goal inside (goal_below s.types g) (subst (λ a. In x.sets a c) (place w s σ g) is-in);
               symbol = symbol;
               rest = off_is s.types n ty goal (binding_at w.rs c).type σ (owns ty is w s inside) g (leading.leads ty is).1;
             };

@@ -160,12 +160,6 @@ check_given-shape_of-w t c = c.loop-j.invariant.0
 pub check_given-returns : goal.check_given-returns
 check_given-returns t c = (c.loop-j.invariant.0, λ ea nc nn. given_end _ _ _ _ _ _ _ c.in-Some.ensures.0 ea nc nn c.loop-j.invariant.1 _ c.many_of-many.ensures.0 c.loop-j-test.false)
 
-pub check_listed-overflow_mul-row : goal.check_listed-overflow_mul-row
-check_listed-overflow_mul-row t c = let p = row_fits c.args.goal c.number_in.result in omega arith
-
-pub check_listed-overflow_add-row : goal.check_listed-overflow_add-row
-check_listed-overflow_add-row t c = let p = row_fits c.args.goal c.number_in.result in omega arith
-
 pub check_listed-loop-from-init : goal.check_listed-loop-from-init
 check_listed-loop-from-init t c = (refl, let e = c.group_of-from.ensures.0 in omega arith, λ ea et. failed_start _ _ _ _ _ _ _ c.group_of-from.ensures.0)
 
@@ -176,7 +170,7 @@ pub check_listed-shape_of-w-then-high-c : goal.check_listed-shape_of-w-then-high
 check_listed-shape_of-w-then-high-c t c = c.loop-from.invariant.0
 
 pub check_listed-returns-then-high-c : goal.check_listed-returns-then-high-c
-check_listed-returns-then-high-c t c = (c.loop-from.invariant.0, λ ea et. failed_end _ _ _ _ _ _ (tried_none _ _ _ _ _ _ (try_next _ _ _ _ _ _ (c.loop-from.invariant.2 ea et) _ _ (c.next_in-c.result + 1) _ (ap (λ k. c.args.goal % row_limit * (k % words_limit)) c.number_in.ensures.0) (next_behind_sets _ test_cells _ _ _ _ c.next_in-c.ensures) (omega arith)) c.group_of-high.result (let h = c.if-high-c.true in omega arith)) _ c.group_of-high.ensures.0 (omega arith) ea et)
+check_listed-returns-then-high-c t c = (c.loop-from.invariant.0, λ ea et. failed_end _ _ _ _ _ _ (tried_none _ _ _ _ _ _ (try_next _ _ _ _ _ _ (c.loop-from.invariant.2 ea et) _ _ (c.next_in-c.result + 1) _ refl (next_behind_sets _ test_cells _ _ c.candidates_at-row.ensures _ _ _ c.next_in-c.ensures) (omega arith)) c.group_of-high.result (let h = c.if-high-c.true in omega arith)) _ c.group_of-high.ensures.0 (omega arith) ea et)
 
 pub check_listed-overflow_add-at : goal.check_listed-overflow_add-at
 check_listed-overflow_add-at t c = let h = c.requires in omega arith
@@ -185,19 +179,19 @@ pub check_listed-shape_of-w-then-check_args : goal.check_listed-shape_of-w-then-
 check_listed-shape_of-w-then-check_args t c = c.hint_in.ensures.0 ∙ c.note_in.ensures.0 ∙ c.check_args.ensures.0 ∙ c.loop-from.invariant.0
 
 pub check_listed-returns-then-check_args : goal.check_listed-returns-then-check_args
-check_listed-returns-then-check_args t c = (c.hint_in.ensures.0 ∙ c.note_in.ensures.0 ∙ c.check_args.ensures.0 ∙ c.loop-from.invariant.0, λ ea et. tried_serves _ _ _ _ _ _ (try_next _ _ _ _ _ _ (c.loop-from.invariant.2 ea et) _ _ (c.next_in-c.result + 1) _ (ap (λ k. c.args.goal % row_limit * (k % words_limit)) c.number_in.ensures.0) (next_behind_sets _ test_cells _ _ _ _ c.next_in-c.ensures) (omega arith)) _ _ _ ea et (tries_moved _ _ _ _ _ _ _ _ _ _ _ _ (c.hint_in.ensures.1 ∙ c.note_in.ensures.1) c.hint_in.ensures.2 (try_serves _ _ _ _ _ _ _ _ (listed_is _ _ _ _ _ _ _ _ _ c.number_in.ensures.0 (next_behind_sets _ test_cells _ _ _ _ c.next_in-c.ensures) c.if-high-c.false c.loop-from.invariant.1 c.group_of-high.ensures.0 c.in-Some.ensures) (c.args.at + 1) (omega arith) _ _ _ c.check_args.ensures.1 c.if-check_args.true _ c.note_in.ensures.2)) refl)
+check_listed-returns-then-check_args t c = (c.hint_in.ensures.0 ∙ c.note_in.ensures.0 ∙ c.check_args.ensures.0 ∙ c.loop-from.invariant.0, λ ea et. tried_serves _ _ _ _ _ _ (try_next _ _ _ _ _ _ (c.loop-from.invariant.2 ea et) _ _ (c.next_in-c.result + 1) _ refl (next_behind_sets _ test_cells _ _ c.candidates_at-row.ensures _ _ _ c.next_in-c.ensures) (omega arith)) _ _ _ ea et (tries_moved _ _ _ _ _ _ _ _ _ _ _ _ (c.hint_in.ensures.1 ∙ c.note_in.ensures.1) c.hint_in.ensures.2 (try_serves _ _ _ _ _ _ _ _ (listed_is _ _ _ _ _ _ _ _ (next_behind_sets _ test_cells _ _ c.candidates_at-row.ensures _ _ _ c.next_in-c.ensures) c.if-high-c.false c.loop-from.invariant.1 c.group_of-high.ensures.0 c.in-Some.ensures) (c.args.at + 1) (omega arith) _ _ _ c.check_args.ensures.1 c.if-check_args.true _ c.note_in.ensures.2)) refl)
 
 pub check_listed-loop-from-smaller-else-check_args : goal.check_listed-loop-from-smaller-else-check_args
 check_listed-loop-from-smaller-else-check_args t c = let h = c.loop-from-test.true in let b = next_behind _ _ _ _ _ c.next_in-c.ensures (omega arith) in omega arith
 
 pub check_listed-loop-from-preserved-else-check_args : goal.check_listed-loop-from-preserved-else-check_args
-check_listed-loop-from-preserved-else-check_args t c = (c.check_args.ensures.0 ∙ c.loop-from.invariant.0, (let l = c.loop-from.invariant.1 in let h = c.loop-from-test.true in let b = next_behind _ _ _ _ _ c.next_in-c.ensures (omega arith) in omega arith), λ ea et. tried_fails _ _ _ _ _ _ (try_next _ _ _ _ _ _ (c.loop-from.invariant.2 ea et) _ _ (c.next_in-c.result + 1) _ (ap (λ k. c.args.goal % row_limit * (k % words_limit)) c.number_in.ensures.0) (next_behind_sets _ test_cells _ _ _ _ c.next_in-c.ensures) (omega arith)) _ _ _ ea et (try_lacks _ _ _ _ _ _ _ _ (listed_is _ _ _ _ _ _ _ _ _ c.number_in.ensures.0 (next_behind_sets _ test_cells _ _ _ _ c.next_in-c.ensures) c.if-high-c.false c.loop-from.invariant.1 c.group_of-high.ensures.0 c.in-Some.ensures) (c.args.at + 1) (omega arith) _ _ _ c.check_args.ensures.1 c.if-check_args.false) refl)
+check_listed-loop-from-preserved-else-check_args t c = (c.check_args.ensures.0 ∙ c.loop-from.invariant.0, (let l = c.loop-from.invariant.1 in let h = c.loop-from-test.true in let b = next_behind _ _ _ _ _ c.next_in-c.ensures (omega arith) in omega arith), λ ea et. tried_fails _ _ _ _ _ _ (try_next _ _ _ _ _ _ (c.loop-from.invariant.2 ea et) _ _ (c.next_in-c.result + 1) _ refl (next_behind_sets _ test_cells _ _ c.candidates_at-row.ensures _ _ _ c.next_in-c.ensures) (omega arith)) _ _ _ ea et (try_lacks _ _ _ _ _ _ _ _ (listed_is _ _ _ _ _ _ _ _ (next_behind_sets _ test_cells _ _ c.candidates_at-row.ensures _ _ _ c.next_in-c.ensures) c.if-high-c.false c.loop-from.invariant.1 c.group_of-high.ensures.0 c.in-Some.ensures) (c.args.at + 1) (omega arith) _ _ _ c.check_args.ensures.1 c.if-check_args.false) refl)
 
 pub check_listed-loop-from-smaller : goal.check_listed-loop-from-smaller
 check_listed-loop-from-smaller t c = let h = c.loop-from-test.true in let b = next_behind _ _ _ _ _ c.next_in-c.ensures (omega arith) in omega arith
 
 pub check_listed-loop-from-preserved : goal.check_listed-loop-from-preserved
-check_listed-loop-from-preserved t c = (c.loop-from.invariant.0, (let l = c.loop-from.invariant.1 in let h = c.loop-from-test.true in let b = next_behind _ _ _ _ _ c.next_in-c.ensures (omega arith) in omega arith), λ ea et. tried_fails _ _ _ _ _ _ (try_next _ _ _ _ _ _ (c.loop-from.invariant.2 ea et) _ _ (c.next_in-c.result + 1) _ (ap (λ k. c.args.goal % row_limit * (k % words_limit)) c.number_in.ensures.0) (next_behind_sets _ test_cells _ _ _ _ c.next_in-c.ensures) (omega arith)) _ _ _ ea et (try_misses _ _ _ _ _ _ _ (listed_is _ _ _ _ _ _ _ _ _ c.number_in.ensures.0 (next_behind_sets _ test_cells _ _ _ _ c.next_in-c.ensures) c.if-high-c.false c.loop-from.invariant.1 c.group_of-high.ensures.0 c.in_default.ensures)) refl)
+check_listed-loop-from-preserved t c = (c.loop-from.invariant.0, (let l = c.loop-from.invariant.1 in let h = c.loop-from-test.true in let b = next_behind _ _ _ _ _ c.next_in-c.ensures (omega arith) in omega arith), λ ea et. tried_fails _ _ _ _ _ _ (try_next _ _ _ _ _ _ (c.loop-from.invariant.2 ea et) _ _ (c.next_in-c.result + 1) _ refl (next_behind_sets _ test_cells _ _ c.candidates_at-row.ensures _ _ _ c.next_in-c.ensures) (omega arith)) _ _ _ ea et (try_misses _ _ _ _ _ _ _ (listed_is _ _ _ _ _ _ _ _ (next_behind_sets _ test_cells _ _ c.candidates_at-row.ensures _ _ _ c.next_in-c.ensures) c.if-high-c.false c.loop-from.invariant.1 c.group_of-high.ensures.0 c.in_default.ensures)) refl)
 
 pub check_listed-shape_of-w : goal.check_listed-shape_of-w
 check_listed-shape_of-w t c = c.loop-from.invariant.0

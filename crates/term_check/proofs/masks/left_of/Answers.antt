@@ -1,10 +1,7 @@
 -- `left_of` meets its contract.
-use lib.Bits.{and_le_l}
+use native.Mathlib.Omega.{arith}
 use Rattle.term_check.proofs.masks.Words.{bits_left}
 use Rattle.term_check.proofs.masks.left_of.Goals as goal
 
-pub overflow_sub-result : goal.overflow_sub-result
-overflow_sub-result c = and_le_l _ _
-
 pub returns : goal.returns
-returns c = bits_left _ _
+returns c = bits_left _ _ (omega arith) (omega arith)

@@ -1,10 +1,8 @@
 -- `without_bit` meets its contract.
-use lib.Bits.{and_le_l}
+use native.Mathlib.Omega.{arith}
 use Rattle.term_check.proofs.masks.Words.{bit_out}
+use borrow.Author.Rules.{rules}
 use Rattle.term_check.proofs.masks.without_bit.Goals as goal
 
-pub overflow_sub-result : goal.overflow_sub-result
-overflow_sub-result c = and_le_l _ _
-
 pub returns : goal.returns
-returns c = bit_out _ _
+returns c = bit_out _ _ (omega arith)
