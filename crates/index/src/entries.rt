@@ -1,6 +1,6 @@
 // An entry of a table of two-byte numbers, as the index of a file is, and the place of its record.
 ghost use Rattle.index.specs.entries.Tests.{IsPlace};
-ghost use Rattle.std.specs.Prelude.{◌≡◌, ◌+◌, ◌≤◌, ◌<◌, max, get_or};
+ghost use Rattle.std.specs.Prelude.{◌≡◌, ◌+◌, ◌≤◌, get_or};
 ghost use Rattle.records.specs.kind.Kinds.{kind_number};
 
 use records::fields::HEADER;
@@ -29,18 +29,4 @@ pub fn place_of(index: &[u16], i: usize) -> usize
     ensures { 4 ≤ get_or index.now i 0 → result + 4 ≡ get_or index.now i 0 }
 {
     place_at(index, i).saturating_sub(HEADER)
-}
-
-// A number as an entry of a table; 0 where it does not fit one.
-pub fn narrow(v: usize) -> u16
-    ensures { v < 65536 → result ≡ v }
-{
-    if v < 65536 { v as u16 } else { 0 }
-}
-
-// The larger of two numbers.
-pub fn larger(a: usize, b: usize) -> usize
-    ensures { result ≡ max a b }
-{
-    if a < b { b } else { a }
 }

@@ -43,25 +43,7 @@ pub const LAST_NONTERMINAL: usize = MAX_NONTERMINALS - 1;
 // The bytes of a node of a body.
 pub const NODE: usize = 4;
 
-// The numbers of the kinds, by which the counts of a file's records stand.
-pub const SORT: usize = 1;
-
-pub const CONSTRUCTOR: usize = 2;
-
-pub const NONTERMINAL: usize = 3;
-
-pub const RULE: usize = 4;
-
-pub const STATES: usize = 5;
-
-pub const TRANSITION: usize = 6;
-
-pub const TYPE: usize = 7;
-
-pub const BINDING: usize = 8;
-
-pub const PATH: usize = 9;
-
+// The counts of a file's records stand by the numbers of their kinds, from 1 on.
 pub const KINDS: usize = 10;
 
 // The index: where the entries of each kind begin; the last type of each hash, and the type before each one of its hash; where the
@@ -142,9 +124,6 @@ pub const NO_TARGET: u8 = 255;
 pub type Row = [u8; MAX_ARITY];
 
 pub type Transitions = [[Row; MAX_CONSTRUCTORS]; MAX_STATES];
-
-// What stands for no state where a target is asked for.
-pub const NO_STATE: usize = 256;
 
 // The numbers of a test: the type of the binding as a goal; where the nodes of its body begin; the binding, which owns what is noted; the
 // number of the test; how many cells of answers a node has, how many words a set of bindings; how many bindings there are; where users
@@ -270,9 +249,6 @@ pub const NEXT: usize = 2;
 
 pub const NODE_CELLS: usize = 3;
 
-// What stands for no targets of a constructor.
-pub const NO_TARGETS: usize = 65536;
-
 // A set of bindings has fewer words than these: a number of words is taken modulo it.
 pub const WORDS_LIMIT: usize = 64;
 
@@ -319,21 +295,6 @@ pub const HINT_STRIDE: usize = 61;
 pub const FEW_HINTS: usize = 2048;
 
 pub const FEW_HEAD_HINTS_AT: usize = FEW_HINTS / 2;
-
-// The frames of a binding case, the smallest first; behind these the one that has room for every file.
-pub const TINY_FRAME: usize = 0;
-
-pub const SMALL_FRAME: usize = TINY_FRAME + 1;
-
-pub const MODEST_FRAME: usize = SMALL_FRAME + 1;
-
-pub const PLAIN_FRAME: usize = MODEST_FRAME + 1;
-
-pub const BROAD_FRAME: usize = PLAIN_FRAME + 1;
-
-pub const MIDDLE_FRAME: usize = BROAD_FRAME + 1;
-
-pub const WIDE_FRAME: usize = MIDDLE_FRAME + 1;
 
 // The frames for few types have no hints.
 pub const NO_HINTS: usize = 0;

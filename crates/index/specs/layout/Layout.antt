@@ -270,9 +270,6 @@ few_hint_cells = 2048
 abbrev pub words_limit : ℕ
 words_limit = 64
 
-abbrev pub no_targets_spec : ℕ
-no_targets_spec = 65536
-
 -- the words of a set of bindings
 abbrev pub max_binding_words : ℕ
 max_binding_words = 32
@@ -377,25 +374,3 @@ middle_file = 2048
 
 abbrev pub long_file : ℕ
 long_file = 8192
-
--- the frames of a binding case
-abbrev pub tiny_frame : ℕ
-tiny_frame = 0
-
-abbrev pub small_frame : ℕ
-small_frame = 1
-
-abbrev pub modest_frame : ℕ
-modest_frame = 2
-
-abbrev pub plain_frame : ℕ
-plain_frame = 3
-
-abbrev pub broad_frame : ℕ
-broad_frame = 4
-
-abbrev pub middle_frame : ℕ
-middle_frame = 5
-
-abbrev pub wide_frame : ℕ
-wide_frame = 6
