@@ -4,6 +4,7 @@ use mathlib.Core.Path.{◌≡◌, refl, sym, ap, subst, ◌∙◌}
 use mathlib.Core.Bool.{Bool, true, false}
 use mathlib.Core.List.{List, [], ◌++◌}
 use borrow.Author.Tests.{ltb-false}
+use Rattle.std.specs.Prelude.{Result, Ok, Err}
 use lib.ListN.{length, get_or, drop}
 use Rattle.scheme.specs.Lists.{choose◌then◌else◌}
 use Rattle.casefile.specs.Records.{records_of, listed}
@@ -15,26 +16,36 @@ use Rattle.casefile.specs.Cases.{refused_case, binding_case, path_case, case_of}
 use Rattle.casefile.proofs.Passed.{binding_case_law, path_case_law}
 use Rattle.index.specs.layout.Layout.{max_file}
 use Rattle.intake.specs.declared.evidence.Case.{Case}
-use Rattle.intake.specs.declared.evidence.Case.TheVariants.{Refused as RefusedCase, Bindings as BindingCase, Path}
+use Rattle.intake.specs.declared.evidence.Case.TheVariants.{Bindings, Path}
 use Rattle.intake.specs.intake.Intake.{case_as, CaseFound, Leaves}
 use Rattle.casefile.specs.PathCases.{PathAnswer, refuted_path, refused_path, replayed}
 use Rattle.replay.specs.replay.Replays.{path_as, ReplaysPath}
-use Rattle.replay.specs.declared.replay.Replayed.{Replayed}
-use Rattle.replay.specs.declared.replay.Replayed.TheVariants.{Refuted as Refuted', Refused as Refused'}
+use Rattle.replay.specs.declared.replay.Refuted.{Refuted}
 use Rattle.casefile.specs.BindingCases.{Shrunk, shrunk}
 use Rattle.binding_cases.specs.Judging.{IsShrunk}
 use Rattle.demands.specs.Answers.{Answer, proved, unproved, refused, refusal, binding_outcome, path_outcome, outcome_of, answer, flags_after}
 use Rattle.demands.specs.Demands.{Demand1, Demand2, Demand3}
 use Rattle.demands.proofs.Demands.{demand1, demand2, demand3}
 use Rattle.plan_check.specs.Verdicts.{answer_as}
-use Rattle.plan_check.specs.Promises.{of_bindings_spec, of_path_spec, JudgesBindingCase}
+use Rattle.records.specs.declared.refusal.Refusal.{Refusal}
+use Rattle.records.specs.refusal.Numbers.{number_of, refusal_as}
+use Rattle.plan_check.specs.Promises.{of_bindings_spec, of_refuted, of_refusal, of_path_spec, JudgesBindingCase}
 use Rattle.plan_check.specs.declared.Verdict.{Verdict}
-use Rattle.plan_check.specs.declared.Verdict.TheVariants.{Refused}
 
-answer_path : (p : Replayed) → answer_as (of_path_spec p) ≡ (path_outcome (path_as p)).answer
+answer_path : (p : Result Refuted Refusal) → answer_as (of_path_spec p) ≡ (path_outcome (path_as p)).answer
 unfolding answer_as of_path_spec path_as path_outcome refusal
-answer_path (Refuted' n q c) = refl
-answer_path (Refused' n k) = refl
+answer_path (Ok r) = refl
+answer_path (Err r) = refl
+
+-- the answer to a path, as a verdict
+module _ (p : Result Refuted Refusal) where
+  pub path_refuted : (r : Refuted) → p ≡ Ok r → of_refuted r ≡ of_path_spec p
+  unfolding of_path_spec
+  path_refuted r e = sym (ap of_path_spec e)
+
+  pub path_refused : (r : Refusal) → p ≡ Err r → of_refusal r ≡ of_path_spec p
+  unfolding of_path_spec
+  path_refused r e = sym (ap of_path_spec e)
 
 path_writes : (p : PathAnswer) → (path_outcome p).written ≡ []
 unfolding path_outcome refusal
@@ -64,12 +75,12 @@ module _ (file lent : List ℕ) where
       (ea ∙ ap (λ x. (outcome_of x).answer) (sym e))
       (em ∙ ap (λ x. (outcome_of x).written ++ drop (length (outcome_of x).written) lent) (sym e))
 
-  module _ {index lens counts ends : List ℕ} {r : Case} (w : CaseFound file (length lent) index lens counts ends r) where
-    pub judged_refused : (n p : ℕ) → r ≡ RefusedCase n p → Demand1 file lent (answer_as (Refused n p)) lent
+  module _ {index lens counts ends : List ℕ} {r : Result Case Refusal} (w : CaseFound file (length lent) index lens counts ends r) where
+    pub judged_refused : (f : Refusal) → r ≡ Err f → Demand1 file lent (answer_as (of_refusal f)) lent
     unfolding case_as outcome_of refusal answer_as
-    judged_refused n p e = meets1 (refused_case (record { number = n; place = p })) (sym w.is_case ∙ ap (case_as file) e) (refused n p) lent refl refl
+    judged_refused f e = meets1 (refused_case (refusal_as f)) (sym w.is_case ∙ ap (case_as file) e) (refused (number_of f.fault) f.place) lent refl refl
 
-    pub judged_bindings : r ≡ BindingCase → {marks : List ℕ} (v : Verdict) → JudgesBindingCase file index counts ends lent marks v → Demand1 file lent (answer_as v) marks
+    pub judged_bindings : r ≡ Ok Bindings → {marks : List ℕ} (v : Verdict) → JudgesBindingCase file index counts ends lent marks v → Demand1 file lent (answer_as v) marks
     unfolding case_as outcome_of Leaves binding_outcome
     judged_bindings e {marks} v judges =
         let rs = listed (records_of file) in
@@ -80,7 +91,7 @@ module _ (file lent : List ℕ) where
         let found = judges.judged (short file accepted.short) lens tables.known tables.passed tables.ends_are accepted.whole_file in
         meets1 (binding_case rs) is (answer_as v) marks (ap answer_as judges.is_verdict ∙ answer_bindings s lent marks _ _ _ _ found) found.flags_are
 
-    pub judged_path : r ≡ Path → (p : Replayed) → ReplaysPath file index counts p → (v : Verdict) → v ≡ of_path_spec p → Demand1 file lent (answer_as v) lent
+    pub judged_path : r ≡ Ok Path → (p : Result Refuted Refusal) → ReplaysPath file index counts p → (v : Verdict) → v ≡ of_path_spec p → Demand1 file lent (answer_as v) lent
     unfolding case_as outcome_of Leaves
     judged_path e p replays v ev =
         let rs = listed (records_of file) in

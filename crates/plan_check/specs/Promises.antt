@@ -1,5 +1,5 @@
 -- What our own functions promise each other; nothing here has to be believed.
-use Rattle.std.specs.Prelude.{ℕ, ◌+◌, ◌*◌, ◌/◌, ◌<◌, ◌≤◌, ◌≡◌, Bool, List, length}
+use Rattle.std.specs.Prelude.{ℕ, ◌+◌, ◌*◌, ◌/◌, ◌<◌, ◌≤◌, ◌≡◌, Bool, List, length, Result, Ok, Err}
 use Rattle.std.proofs.Math.Option.{none}
 use Rattle.scheme.specs.Lists.{choose◌then◌else◌}
 use Rattle.casefile.specs.Records.{records_of, listed}
@@ -12,8 +12,9 @@ use Rattle.index.specs.layout.Layout.{max_file, max_types, max_bindings, max_sta
 use Rattle.index.specs.entries.Known.{Known}
 use Rattle.rules.specs.reading.RuleBodies.{nodes_in}
 use Rattle.intake.specs.plan.PlanTests.{EndsAre}
-use Rattle.replay.specs.declared.replay.Replayed.{Replayed}
-use Rattle.replay.specs.declared.replay.Replayed.TheVariants.{Refuted as Refuted', Refused as Refused'}
+use Rattle.records.specs.declared.refusal.Refusal.{Refusal}
+use Rattle.records.specs.refusal.Numbers.{number_of}
+use Rattle.replay.specs.declared.replay.Refuted.{Refuted as RefutedPath}
 use Rattle.binding_cases.specs.Judging.{IsShrunk}
 use Rattle.plan_check.specs.declared.rooms.Frame.{Frame}
 use Rattle.plan_check.specs.declared.rooms.Frame.TheVariants.{Tiny, Small, Modest, Plain, Broad, Middle, Wide, All}
@@ -25,10 +26,23 @@ use Rattle.plan_check.specs.declared.Verdict.TheVariants.{Proved, Unproved, Refu
 unfoldable pub of_bindings_spec : Bool → ℕ → ℕ → ℕ → Verdict
 of_bindings_spec accepted k t r = choose accepted then Proved k t r else Unproved k t r
 
+-- the verdict on a path that ends where no transition is
+abbrev pub of_refuted : RefutedPath → Verdict
+of_refuted r = Refuted r.letters r.state r.constructor
+
+-- the verdict on a file that is refused
+abbrev pub of_refusal : Refusal → Verdict
+of_refusal r = Refused (number_of r.fault) r.place
+
 -- the verdict for the answer to a path
-unfoldable pub of_path_spec : Replayed → Verdict
-of_path_spec (Refuted' n q c) = Refuted n q c
-of_path_spec (Refused' n p) = Refused n p
+unfoldable pub of_path_spec : Result RefutedPath Refusal → Verdict
+of_path_spec (Ok r) = of_refuted r
+of_path_spec (Err r) = of_refusal r
+
+-- the verdict that was found, or that on a refusal
+abbrev pub verdict_of : Result Verdict Refusal → Verdict
+verdict_of (Ok v) = v
+verdict_of (Err r) = of_refusal r
 
 -- what the definitions keep of the bindings of a file that is not refused, by its tables
 abbrev pub Judges : (file index counts ends lent marks : List ℕ) (accepted : Bool) (kept total rounds : ℕ) → Type 0

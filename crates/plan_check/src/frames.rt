@@ -15,6 +15,7 @@ use index::layout::{
 };
 
 // What tests read in a frame: the numbers of a test, then the sets of candidates; and what they write: hints, then users, then answers.
+// Each size has a name, since a const argument is not computed.
 const TINY_READ: usize = TEST_CELLS + TINY_SETS;
 
 const TINY_WRITE: usize = NO_HINTS + TINY_USERS + TINY_ANSWERS;
