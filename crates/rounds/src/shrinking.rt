@@ -62,7 +62,7 @@ fn count_kept(flags: &[u8], n: usize) -> usize
     if flags.len() < n {
         return 0;
     }
-    flags[..n].iter().filter(|flag| **flag != 0).count()
+    flags[..n].iter().map(|flag| usize::from(*flag != 0)).sum()
 }
 
 // The bindings that are left when the rounds have ended, by the lent flags: 1 for a kept binding and 0 for a dropped one. All start
