@@ -12,11 +12,10 @@ use records::fields::word_at;
 pub fn store(a: &mut [u16], i: usize, v: usize)
     ensures { a.new ≡ stored a.old i v }
 {
-    if 65535 < v {
-        return;
-    }
-    if i < a.len() {
-        a[i] = v as u16;
+    if let Ok(entry) = u16::try_from(v) {
+        if i < a.len() {
+            a[i] = entry;
+        }
     }
 }
 

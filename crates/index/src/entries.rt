@@ -10,11 +10,7 @@ use records::kind::Kind;
 pub fn place_at(index: &[u16], i: usize) -> usize
     ensures { IsPlace index.now i result }
 {
-    if i < index.len() {
-        index[i] as usize
-    } else {
-        0
-    }
+    index.get(i).map_or(0, |entry| usize::from(*entry))
 }
 
 // How many records of a kind a file has, by the counts of its kinds.
