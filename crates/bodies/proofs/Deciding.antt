@@ -20,6 +20,7 @@ use Rattle.scheme.proofs.Sorting.{same_refl, found_sort}
 use Rattle.casefile.specs.Tables.{nodes_of, first_term, body_of}
 use Rattle.casefile.specs.Refusals.{wrong_body}
 use Rattle.sorts.specs.codes.Sorted.{SortArrays}
+use Rattle.sorts.specs.declared.codes.Sorts.{Sorts}
 use Rattle.bodies.specs.declared.Heads.{Heads}
 use Rattle.bodies.specs.Bodies.{Held, Goods, heads_by, BodyTables, Scanned, BodyDecided}
 use Rattle.bodies.specs.declared.Subterm.{Subterm}
@@ -62,7 +63,7 @@ module _ (hs : Head → Sort) where
   verdict_goods c (t ∷ᵗ []ᵗ) e = let (a, b, d, f) = verdict_parts c (t ∷ᵗ []ᵗ) e in ((o, d), f, tt)
   verdict_goods c (t ∷ᵗ u ∷ᵗ us) e = absurd (let (a, b, d, f) = verdict_parts c (t ∷ᵗ u ∷ᵗ us) e in omega arith)
 
-  module _ {sorts : List Sort} {froms tos : List ℕ} (w : SortArrays sorts (length sorts) froms tos) (ends codes depths : List ℕ) {n : ℕ} (positive : 0 < n) (c : Bool) where
+  module _ {sorts : List Sort} {arrows : Sorts} (w : SortArrays sorts arrows) (ends codes depths : List ℕ) {n : ℕ} (positive : 0 < n) (c : Bool) where
     -- more or fewer terms than one
     verdict_ends : (ts : Terms) → Held hs sorts ends codes depths n ts 0 → (get_or ends 0 0 ≡ n → ⊥) → verdict c ts ≡ true → ⊥
     unfolding Held countᵗ
