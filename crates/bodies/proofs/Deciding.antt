@@ -26,7 +26,7 @@ use Rattle.bodies.specs.Bodies.{Held, Goods, heads_by, BodyTables, Scanned, Body
 use Rattle.bodies.specs.declared.Subterm.{Subterm}
 use Rattle.sorts.proofs.codes.Codes.{code_listed, listed_code}
 use Rattle.casefile.proofs.Cells.{nodes_length}
-use Rattle.index.specs.layout.Layout.{max_nodes, max_depth}
+use Rattle.index.specs.layout.Layout.{max_depth}
 
 no_true : (b : Bool) → (b ≡ true → ⊥) → b ≡ false
 no_true true f = absurd (f refl)
@@ -114,22 +114,6 @@ module _ (p : List ℕ) (own : ℕ) where
       omega arith
 
 module _ {p : List ℕ} {heads : Heads} {own : ℕ} where
-  pub decide_long : {ends : List ℕ} → max_nodes < length p / 4 → BodyDecided p heads own ends ends false
-  decide_long h = record {
-    long = refl;
-    rest = refl;
-    decided = λ sorts counts numbers w l. absurd (omega arith);
-    ends_are = λ sorts counts numbers w l. absurd (omega arith);
-  }
-
-  pub decide_short : {ends : List ℕ} → length ends < length p / 4 → BodyDecided p heads own ends ends false
-  decide_short h = record {
-    long = refl;
-    rest = refl;
-    decided = λ sorts counts numbers w l m. absurd (omega arith);
-    ends_are = λ sorts counts numbers w l m. absurd (omega arith);
-  }
-
   module _ {before ends codes depths : List ℕ} {r : Option Subterm} (s : Scanned p heads own before ends codes depths r) where
     pub decide_fails : r ≡ None → BodyDecided p heads own before ends false
     decide_fails y = record {

@@ -212,9 +212,6 @@ module _ {file index : List ℕ} {sorts constructors nonterminals rules : ℕ} {
   nonterminals_counted : length (payloads nonterminal rs) ≡ nonterminals
   nonterminals_counted = sym (count_payloads nonterminal rs) ∙ fi.nonterminals_there.counted
 
-  constructors_counted : length (payloads constructor rs) ≡ constructors
-  constructors_counted = sym (count_payloads constructor rs) ∙ fi.constructors_there.counted
-
   rules_counted : length (payloads rule rs) ≡ rules
   rules_counted = sym (count_payloads rule rs) ∙ fi.rules_there.counted
 

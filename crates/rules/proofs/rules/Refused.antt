@@ -19,7 +19,7 @@ use Rattle.bodies.specs.declared.Heads.{Heads}
 use Rattle.rules.specs.rules.Rules.{Filled, Filed, BodiesRead, FindsWrongBody}
 use Rattle.rules.specs.reading.RuleBodies.{FirstWrong, ReadsRules}
 use Rattle.rules.proofs.rules.Judging.{signatures_length, judged}
-use Rattle.index.specs.layout.Layout.{max_sorts, max_constructors, max_nonterminals, sorts_at, constructors_at, nonterminals_at, all_sorts}
+use Rattle.index.specs.layout.Layout.{max_constructors, max_nonterminals, sorts_at, constructors_at, nonterminals_at, all_sorts}
 
 module _ (arities : List ℕ) (signatures : List Sort) where
   abbrev payload_at : List Record → ℕ → List ℕ
@@ -87,8 +87,3 @@ pub finds : (file index : List ℕ) (sorts constructors nonterminals rules : ℕ
     → ReadsRules file index heads rules before after r → FindsWrongBody file index sorts constructors nonterminals rules before after r
 finds file index sorts constructors nonterminals rules z₁ z₂ z₃ z₄ t₁ t₂ heads before after r e₁ e₂ l₁ l₂ l₃ l₄ a b c d codes answer rs fi room =
     refusal fi after r (answer rs (judged fi z₁ z₂ z₃ z₄ t₁ t₂ heads e₁ e₂ l₁ l₂ l₃ l₄ a b c d codes) room)
-
--- no file has that many records
-pub finds_not : (file index : List ℕ) (sorts constructors nonterminals rules : ℕ) (before after : List ℕ) (r : Option ℕ)
-    → ((sorts ≤ max_sorts) × (constructors ≤ max_constructors) × (nonterminals ≤ max_nonterminals) × (rules ≤ nonterminals) → ⊥) → FindsWrongBody file index sorts constructors nonterminals rules before after r
-finds_not file index sorts constructors nonterminals rules before after r z rs fi room = absurd (z (fi.few_sorts, fi.few_constructors, fi.few_nonterminals, fi.few_rules))

@@ -1,47 +1,13 @@
 -- Sorts by code: the code of a listed sort is its number; constructors' sorts, one after another.
 use Prim.Native.Nat.{ℕ, zero, suc, ◌+◌, ◌<◌, ◌≤◌}
-use mathlib.Core.Path.{◌≡◌, refl, sym, ap, subst, ◌∙◌}
-use mathlib.Core.Bool.{Bool, true, false, ◌&&◌}
+use mathlib.Core.Path.{◌≡◌, refl, sym, ap, ◌∙◌}
 use mathlib.Core.List.{List, [], ◌∷◌}
 use native.Mathlib.Omega.{arith}
-use borrow.Author.Tests.{eq-eqb, ne_eqb, eqb-true}
 use Rattle.std.specs.Prelude.{Option, Some, None}
-use lib.Dec.{eqb}
 use lib.ListN.{length, get_or}
 use Rattle.scheme.specs.Sorts.{Sort, o, ◌⇒◌, tree_sort}
-use Rattle.scheme.proofs.Lists.{and_true}
 use Rattle.sorts.specs.codes.Sorted.{SortArrays, Code, listed, unlisted, TreeCodes, ArrowTo}
 use Rattle.sorts.specs.declared.codes.Sorts.{Sorts}
-
--- two tests, one after the other
-pub both_no : (a n : ℕ) (t : Bool) → (a ≡ n → ⊥) → false ≡ (eqb a n && t)
-both_no a n t h = let e = ne_eqb a n h in rw e refl
-
-pub both_last : (a n : ℕ) (t : Bool) → a ≡ n → t ≡ (eqb a n && t)
-both_last a n t h = let e = eq-eqb a n h in rw e refl
-
--- what the test for an arrow says
-pub arrow_yes : (a b to : ℕ) (t : Bool) → t ≡ (eqb a 0 && eqb b to) → t ≡ true → (a ≡ 0) × (b ≡ to)
-arrow_yes a b to t e f =
-    let (x, y) = and_true (eqb a 0) (eqb b to) (sym e ∙ f) in
-    (eqb-true a 0 x, eqb-true b to y)
-
-pub arrow_no : (a b to : ℕ) (t : Bool) → t ≡ (eqb a 0 && eqb b to) → t ≡ false → a ≡ 0 → b ≡ to → ⊥
-arrow_no a b to t e f x y =
-    let g = eq-eqb a 0 x in
-    let h = eq-eqb b to y in
-    let i : t ≡ true = e ∙ rw (g, h) refl in
-    let z : ◌≡◌ {A = ℕ} 0 1 = cc in
-    omega arith
-
-module _ (arrows : Sorts) (to : ℕ) where
-  -- the sort looked for is found
-  pub arrow_found : {i : ℕ} → i < length arrows.froms.now → 0 < i → get_or arrows.froms.now i 0 ≡ 0 → get_or arrows.tos.now i 0 ≡ to → ArrowTo arrows to (Some i)
-  arrow_found {i} h p x y = record { is = λ k e. let same : i ≡ k = cc in subst (λ k. (k < length arrows.froms.now) × (0 < k) × (get_or arrows.froms.now k 0 ≡ 0) × (get_or arrows.tos.now k 0 ≡ to)) same (h, p, x, y); none_is = λ e. absurd (cc) }
-
-  -- no sort is it
-  pub arrow_none : ((i : ℕ) → 0 < i → i < length arrows.froms.now → get_or arrows.froms.now i 0 ≡ 0 → get_or arrows.tos.now i 0 ≡ to → ⊥) → ArrowTo arrows to None
-  arrow_none absent = record { is = λ k e. absurd (cc); none_is = λ e. absent }
 
 module _ {sorts : List Sort} {arrows : Sorts} (w : SortArrays sorts arrows) where
   -- a code below the number of sorts is a number

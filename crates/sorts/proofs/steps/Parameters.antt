@@ -1,6 +1,6 @@
 -- The sorts of parameters, along the numbers of a nonterminal's sort.
 use Prim.Native.Nat.{ℕ, zero, suc, ◌+◌, ◌-◌, ◌<◌, ◌≤◌}
-use mathlib.Core.Path.{◌≡◌, refl, sym, ap, subst, ◌∙◌}
+use mathlib.Core.Path.{◌≡◌, sym, ap, subst, ◌∙◌}
 use mathlib.Core.List.{List, ◌∷◌}
 use native.Mathlib.Omega.{arith}
 use native.Mathlib.Decide.{dec_lt, ℕ_discrete}
@@ -23,9 +23,6 @@ Along arrows own j s left =
     (sorts : List Sort) → SortArrays sorts arrows → own < length sorts → j < length (arguments (get_or sorts own o))
     → (s < length sorts) × (left < length (arguments (get_or sorts s o))) × (get_or (arguments (get_or sorts s o)) left o ≡ get_or (arguments (get_or sorts own o)) j o)
 
-along_start : (arrows : Sorts) (own j : ℕ) → Along arrows own j own j
-along_start arrows own j sorts w h k = (h, k, refl)
-
 -- one argument on
 next_argument : {sorts : List Sort} {arrows : Sorts} → SortArrays sorts arrows → (s left : ℕ) (x : Sort) → 0 < left → s < length sorts → left < length (arguments (get_or sorts s o)) → get_or (arguments (get_or sorts s o)) left o ≡ x
     → (get_or arrows.tos.now s 0 < length sorts) × (left - 1 < length (arguments (get_or sorts (get_or arrows.tos.now s 0) o))) × (get_or (arguments (get_or sorts (get_or arrows.tos.now s 0) o)) (left - 1) o ≡ x)
@@ -43,10 +40,7 @@ along_next arrows own j s left r a p er sorts w h k =
     let (x, y, z) = a sorts w h k in
     rw er (next_argument w s left (get_or (arguments (get_or sorts own o)) j o) p x y z)
 
--- the same by how many arguments are behind: none at the start, and one more after each step
-pub along_none : (arrows : Sorts) (own j : ℕ) → Along arrows own j own (j - 0)
-along_none arrows own j = let z : j ≡ j - 0 = omega arith in subst (Along arrows own j own) z (along_start arrows own j)
-
+-- the same by how many arguments are behind
 pub along_more : (arrows : Sorts) (own j s k r : ℕ) → Along arrows own j s (j - k) → k < j → r ≡ get_or arrows.tos.now s 0 → Along arrows own j r (j - (k + 1))
 along_more arrows own j s k r a h e =
     let z : j - k - 1 ≡ j - (k + 1) = omega arith in
@@ -68,9 +62,6 @@ pub record Listing (arrows : Sorts) (own s j : ℕ) (sorts : List ℕ) : Type 0 
   pub ahead : (m : ℕ) → j ≤ m → Along arrows own m s (m - j)
 
 module _ (arrows : Sorts) (own : ℕ) where
-  pub list_none : (sorts : List ℕ) → length sorts ≡ 8 → Listing arrows own own 0 sorts
-  list_none sorts l = record { eight = l; done = λ e k. absurd (omega arith); ahead = λ m k. along_none arrows own m }
-
   module _ (s j : ℕ) (sorts : List ℕ) (l : Listing arrows own s j sorts) where
     pub list_more : (v t : ℕ) → j < 8 → v ≡ get_or arrows.froms.now s 0 → t ≡ get_or arrows.tos.now s 0 → Listing arrows own t (j + 1) (set sorts j v)
     list_more v t h ev et =

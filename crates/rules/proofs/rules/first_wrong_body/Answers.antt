@@ -1,11 +1,8 @@
 -- `first_wrong_body` meets its contract.
 use mathlib.Core.Path.{refl}
 use borrow.Author.Rules.{rules}
-use Rattle.rules.proofs.rules.Refused.{finds, finds_not}
+use Rattle.rules.proofs.rules.Refused.{finds}
 use Rattle.rules.proofs.rules.first_wrong_body.Goals as goal
-
-pub returns-then-not-within_limits-clause-first : goal.returns-then-not-within_limits-clause-first
-returns-then-not-within_limits-clause-first c = finds_not _ _ _ _ _ _ c.args.ends.now _ _ (λ limits. let e = c.within_limits.ensures.1 limits in cc)
 
 pub returns-clause-first : goal.returns-clause-first
 returns-clause-first c =
