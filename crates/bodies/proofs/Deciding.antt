@@ -20,12 +20,13 @@ use Rattle.scheme.proofs.Sorting.{same_refl, found_sort}
 use Rattle.casefile.specs.Tables.{nodes_of, first_term, body_of}
 use Rattle.casefile.specs.Refusals.{wrong_body}
 use Rattle.sorts.specs.codes.Sorted.{SortArrays}
+use Rattle.sorts.specs.declared.codes.Sorts.{Sorts}
 use Rattle.bodies.specs.declared.Heads.{Heads}
 use Rattle.bodies.specs.Bodies.{Held, Goods, heads_by, BodyTables, Scanned, BodyDecided}
 use Rattle.bodies.specs.declared.Subterm.{Subterm}
 use Rattle.sorts.proofs.codes.Codes.{code_listed, listed_code}
 use Rattle.casefile.proofs.Cells.{nodes_length}
-use Rattle.index.specs.layout.Layout.{max_nodes, max_depth}
+use Rattle.index.specs.layout.Layout.{max_depth}
 
 no_true : (b : Bool) → (b ≡ true → ⊥) → b ≡ false
 no_true true f = absurd (f refl)
@@ -62,7 +63,7 @@ module _ (hs : Head → Sort) where
   verdict_goods c (t ∷ᵗ []ᵗ) e = let (a, b, d, f) = verdict_parts c (t ∷ᵗ []ᵗ) e in ((o, d), f, tt)
   verdict_goods c (t ∷ᵗ u ∷ᵗ us) e = absurd (let (a, b, d, f) = verdict_parts c (t ∷ᵗ u ∷ᵗ us) e in omega arith)
 
-  module _ {sorts : List Sort} {froms tos : List ℕ} (w : SortArrays sorts (length sorts) froms tos) (ends codes depths : List ℕ) {n : ℕ} (positive : 0 < n) (c : Bool) where
+  module _ {sorts : List Sort} {arrows : Sorts} (w : SortArrays sorts arrows) (ends codes depths : List ℕ) {n : ℕ} (positive : 0 < n) (c : Bool) where
     -- more or fewer terms than one
     verdict_ends : (ts : Terms) → Held hs sorts ends codes depths n ts 0 → (get_or ends 0 0 ≡ n → ⊥) → verdict c ts ≡ true → ⊥
     unfolding Held countᵗ
@@ -113,22 +114,6 @@ module _ (p : List ℕ) (own : ℕ) where
       omega arith
 
 module _ {p : List ℕ} {heads : Heads} {own : ℕ} where
-  pub decide_long : {ends : List ℕ} → max_nodes < length p / 4 → BodyDecided p heads own ends ends false
-  decide_long h = record {
-    long = refl;
-    rest = refl;
-    decided = λ sorts counts numbers w l. absurd (omega arith);
-    ends_are = λ sorts counts numbers w l. absurd (omega arith);
-  }
-
-  pub decide_short : {ends : List ℕ} → length ends < length p / 4 → BodyDecided p heads own ends ends false
-  decide_short h = record {
-    long = refl;
-    rest = refl;
-    decided = λ sorts counts numbers w l m. absurd (omega arith);
-    ends_are = λ sorts counts numbers w l m. absurd (omega arith);
-  }
-
   module _ {before ends codes depths : List ℕ} {r : Option Subterm} (s : Scanned p heads own before ends codes depths r) where
     pub decide_fails : r ≡ None → BodyDecided p heads own before ends false
     decide_fails y = record {

@@ -57,7 +57,7 @@ module _ {sorts : List Sort} {counts numbers p : List ℕ} {heads : Heads} {own 
       rw (t, ← en, get_d_map_in (λ (f : ℕ). get_or sorts f o) numbers number o 0 k, e) (listed b refl)
 
   -- a parameter
-  pub head_par : (i tag number r : ℕ) → i < length p / 4 → tag ≡ field 1 p (i * 4) → number ≡ field 2 p (i * 4 + 1) → (tag ≡ 0 → ⊥) → (tag ≡ 1 → ⊥) → ParameterSort heads.sorts.froms.now heads.sorts.tos.now own number r
+  pub head_par : (i tag number r : ℕ) → i < length p / 4 → tag ≡ field 1 p (i * 4) → number ≡ field 2 p (i * 4 + 1) → (tag ≡ 0 → ⊥) → (tag ≡ 1 → ⊥) → ParameterSort heads.sorts own number r
       → Code sorts r (heads_by sorts counts numbers own (head_of (cell_at p i)))
   unfolding head_of head_sort
   head_par i tag number r h et en z y f =

@@ -1,10 +1,9 @@
 -- The pass over a body's nodes, the last one first.
-use Prim.Native.Nat.{ℕ, suc, ◌+◌, ◌-◌, ◌/◌, ◌<◌, ◌≤◌}
+use Prim.Native.Nat.{ℕ, ◌/◌, ◌≤◌}
 use mathlib.Core.Path.{◌≡◌, refl, sym, subst, ◌∙◌}
-use mathlib.Core.Bool.{Bool, true, false}
 use mathlib.Core.List.{List, []}
 use native.Mathlib.Omega.{arith}
-use Rattle.std.specs.Prelude.{Option, None}
+use Rattle.std.specs.Prelude.{None}
 use lib.Dec.{T}
 use lib.ListN.{length, drop, drop_of_length-le}
 use Rattle.scheme.specs.Sorts.{Sort}
@@ -12,8 +11,7 @@ use Rattle.scheme.specs.Terms.{Head}
 use Rattle.scheme.specs.Prefix.{Node, terms, complete}
 use Rattle.casefile.specs.Tables.{nodes_of}
 use Rattle.bodies.specs.declared.Heads.{Heads}
-use Rattle.bodies.specs.Bodies.{Held, HeldFrom, HeldAs, heads_by, BodyTables, Room, NodeRead, Scanned}
-use Rattle.bodies.specs.declared.Subterm.{Subterm}
+use Rattle.bodies.specs.Bodies.{Held, HeldFrom, HeldAs, heads_by, BodyTables}
 use Rattle.casefile.proofs.Cells.{nodes_length}
 use Rattle.index.specs.layout.Layout.{max_nodes, rows_size}
 
@@ -32,10 +30,6 @@ held_none hs sorts ns ends codes depths i e =
 -- behind the last node the tables hold no node
 pub held_past : {ends codes depths : List ℕ} {n i : ℕ} → n ≤ i → HeldAs ends codes depths n i None
 held_past h = record { behind = λ e. h; inside = λ a e. absurd (cc); end_is = λ a e. absurd (cc); sort_is = λ a e. absurd (cc); deep_is = λ a e. absurd (cc) }
-
--- the same node by another number
-pub held_again : {ends codes depths : List ℕ} {n i : ℕ} {r : Option Subterm} → 0 < i → HeldAs ends codes depths n i r → HeldAs ends codes depths n (i - 1 + 1) r
-held_again {ends} {codes} {depths} {n} {i} {r} h x = let e : i ≡ i - 1 + 1 = omega arith in subst (λ j. HeldAs ends codes depths n j r) e x
 
 -- the tables hold the nodes from i on
 pub record Scanning (p : List ℕ) (heads : Heads) (own : ℕ) (before ends codes depths : List ℕ) (i : ℕ) : Type 0 where
@@ -60,55 +54,3 @@ module _ {p : List ℕ} {heads : Heads} {own : ℕ} where
     rest = refl;
     holds = λ sorts counts numbers w h. held_none (heads_by sorts counts numbers own) sorts (nodes_of p) ends codes depths i (e ∙ sym (nodes_length p));
   }
-
-  module _ {before ends codes depths : List ℕ} {i : ℕ} (s : Scanning p heads own before ends codes depths i) where
-    pub scan_room : {codes₀ depths₀ : List ℕ} → Room p before codes₀ depths₀ → Room p ends codes depths
-    scan_room room =
-        let a = s.long in
-        let b = room.ends_long in
-        record { few = room.few; ends_long = omega arith; codes_long = s.long_codes; depths_long = s.long_depths }
-
-    pub scan_next : {ends' codes' depths' : List ℕ} {r : Bool} → 0 < i → NodeRead p heads own (i - 1) ends codes depths ends' codes' depths' r → r ≡ true
-        → Scanning p heads own before ends' codes' depths' (i - 1)
-    scan_next h n y =
-        let a = s.within in
-        let b = s.few in
-        let c = s.long in
-        let d = s.long_codes in
-        let e = s.long_depths in
-        record {
-          within = omega arith;
-          few = b;
-          long = n.long ∙ c;
-          long_codes = n.long_codes ∙ d;
-          long_depths = n.long_depths ∙ e;
-          rest = n.rest (length p / 4) (omega arith) ∙ s.rest;
-          holds = λ sorts counts numbers w f.
-              let g : i ≡ suc (i - 1) = omega arith in
-              n.holds sorts counts numbers w (omega arith) (omega arith) (omega arith) (omega arith)
-              (subst (λ x. HeldFrom (heads_by sorts counts numbers own) sorts (nodes_of p) ends codes depths x) g (s.holds sorts counts numbers w f)) y;
-        }
-
-    pub scan_fail : {ends' codes' depths' : List ℕ} {r : Bool} → 0 < i → NodeRead p heads own (i - 1) ends codes depths ends' codes' depths' r → r ≡ false
-        → Scanned p heads own before ends' codes' depths' None
-    scan_fail h n y =
-        let a = s.within in
-        record {
-          long = n.long ∙ s.long;
-          rest = n.rest (length p / 4) (omega arith) ∙ s.rest;
-          holds = λ sorts counts numbers w f a e. absurd (cc);
-          held_as = λ a e. absurd (cc);
-          fails = λ sorts counts numbers w f e k.
-              let g : i ≡ suc (i - 1) = omega arith in
-              n.fails sorts counts numbers w (omega arith)
-              (subst (λ x. HeldFrom (heads_by sorts counts numbers own) sorts (nodes_of p) ends codes depths x) g (s.holds sorts counts numbers w f)) y;
-        }
-
-    pub scan_end : i ≡ 0 → {r : Option Subterm} → HeldAs ends codes depths (length p / 4) i r → Scanned p heads own before ends codes depths r
-    scan_end z {r} x = record {
-      long = s.long;
-      rest = s.rest;
-      holds = λ sorts counts numbers w f a e. subst (λ x. HeldFrom (heads_by sorts counts numbers own) sorts (nodes_of p) ends codes depths x) z (s.holds sorts counts numbers w f);
-      held_as = λ a e. subst (λ j. HeldAs ends codes depths (length p / 4) j r) z x;
-      fails = λ sorts counts numbers w f e k. absurd (let b = x.behind e in omega arith);
-    }

@@ -18,11 +18,11 @@ use Rattle.index.specs.layout.Layout.{max_nodes, max_depth, rows_size}
 
 -- the tables of heads have the codes of sorts
 abbrev pub CodedBy : List Sort → Heads → Type 0
-CodedBy sorts heads = Coded sorts heads.sorts.froms.now heads.sorts.tos.now heads.trees.now
+CodedBy sorts heads = Coded sorts heads.sorts heads.trees.now
 
 -- r is the code of the sort of a head with an argument off, by the tables of heads
 abbrev pub AppliedBy : Heads → ℕ → ℕ → Option ℕ → Type 0
-AppliedBy heads head argument r = Applied heads.sorts.froms.now heads.sorts.tos.now heads.trees.now head argument r
+AppliedBy heads head argument r = Applied heads.sorts heads.trees.now head argument r
 
 -- the tables hold terms one after another from node `at` up to node n: where each ends, the code of its sort, its depth
 unfoldable pub Held : (Head → Sort) → List Sort → List ℕ → List ℕ → List ℕ → ℕ → Terms → ℕ → Type 0

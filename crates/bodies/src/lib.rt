@@ -65,7 +65,7 @@ fn node_at(p: &[u8], i: usize) -> Node
 impl<'a> Heads<'a> {
     // The code of the sort of a head with a tag and a number; `params` has the sorts of the first 8 parameters.
     fn code(self, own: usize, params: &[u16], tag: usize, number: usize) -> usize
-        requires { ParameterSorts self.sorts.froms.now self.sorts.tos.now own params.now }
+        requires { ParameterSorts self.sorts own params.now }
         ensures head { HeadOf self.entry own tag number result }
         ensures small { result < 65536 }
     {
@@ -132,7 +132,7 @@ impl<'a> Heads<'a> {
     ) -> Option<Subterm>
         requires inside { i < length p.now / 4 }
         requires room { Room p.now ends.old codes.old depths.old }
-        requires params { ParameterSorts self.sorts.froms.now self.sorts.tos.now own params.now }
+        requires params { ParameterSorts self.sorts own params.now }
         requires held { HeldAs ends.old codes.old depths.old (length p.now / 4) (i + 1) next }
         ensures { NodeTaken p.now self.entry own i ends.old codes.old depths.old ends.new codes.new depths.new result }
     {
@@ -162,7 +162,7 @@ impl<'a> Heads<'a> {
         depths: &mut [u16],
     ) -> Option<Subterm>
         requires room { Room p.now ends.old codes.old depths.old }
-        requires params { ParameterSorts self.sorts.froms.now self.sorts.tos.now own params.now }
+        requires params { ParameterSorts self.sorts own params.now }
         ensures { Scanned p.now self.entry own ends.old ends.new codes.new depths.new result }
     {
         let mut next = None;

@@ -1,4 +1,3 @@
-pub mod Filling
 pub mod Judging
 pub mod Refused
 pub mod Room

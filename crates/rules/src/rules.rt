@@ -97,10 +97,10 @@ pub fn first_wrong_body(
     fill_column::<1>(file, index, CONSTRUCTORS_AT, constructors, &mut arities);
     fill_column::<2>(file, index, NONTERMINALS_AT, nonterminals, &mut signatures);
     let listed = Sorts {
-        froms: &froms,
-        tos: &tos,
+        froms: &froms[..sorts + 1],
+        tos: &tos[..sorts + 1],
     };
-    let trees = listed.tree_codes(sorts + 1);
+    let trees = listed.tree_codes();
     let heads = Heads {
         sorts: listed,
         trees: &trees,

@@ -6,7 +6,8 @@ ghost use Rattle.scheme.specs.Sorts.{Sort};
 use index::entries::place_at;
 use index::layout::MAX_ARITY;
 
-// The sorts that a file lists, by their numbers: sort i goes from sort froms[i] to sort tos[i].
+// The sorts that a file lists, by their numbers: sort 0 is o, any other sort i goes from sort froms[i] to sort tos[i]. The two tables
+// have an entry for each sort.
 #[derive(Clone, Copy)]
 pub struct Sorts<'a> {
     pub froms: &'a [u16],
@@ -21,11 +22,11 @@ impl<'a> Sorts<'a> {
         place_at(self.froms, i) == 0 && place_at(self.tos, i) == to
     }
 
-    // The number of the sort from o to sort `to`, where one of the n sorts is it.
-    fn arrow_to(self, n: usize, to: usize) -> Option<usize>
-        ensures { ArrowTo self.entry.froms.now self.entry.tos.now n to result }
+    // The number of the sort from o to sort `to`, where one of the listed sorts is it.
+    fn arrow_to(self, to: usize) -> Option<usize>
+        ensures { ArrowTo self.entry to result }
     {
-        for i in 1..n {
+        for i in 1..self.froms.len() {
             if self.is_arrow(i, to) {
                 return Some(i);
             }
@@ -34,26 +35,26 @@ impl<'a> Sorts<'a> {
     }
 
     // The code of the sort of constructors with one argument more than those of sort `code`; `other` where it is not listed.
-    fn next_tree(self, n: usize, code: u16, other: u16) -> u16
-        ensures { NextTree self.entry.froms.now self.entry.tos.now n code other result }
+    fn next_tree(self, code: u16, other: u16) -> u16
+        ensures { NextTree self.entry code other result }
     {
         if 1000 <= code {
             return other;
         }
-        match self.arrow_to(n, code as usize) {
+        match self.arrow_to(code as usize) {
             Some(i) => u16::try_from(i).unwrap_or(other),
             None => other,
         }
     }
 
-    // The codes of the sorts of constructors with 0 to 4 arguments, where there are n sorts.
-    pub fn tree_codes(self, n: usize) -> [u16; MAX_ARITY + 1]
-        ensures { (sorts : List Sort) → SortArrays sorts n self.entry.froms.now self.entry.tos.now → TreeCodes sorts result }
+    // The codes of the sorts of constructors with 0 to 4 arguments.
+    pub fn tree_codes(self) -> [u16; MAX_ARITY + 1]
+        ensures { (sorts : List Sort) → SortArrays sorts self.entry → TreeCodes sorts result }
     {
-        let one = self.next_tree(n, 0, 1001);
-        let two = self.next_tree(n, one, 1002);
-        let three = self.next_tree(n, two, 1003);
-        let four = self.next_tree(n, three, 1004);
+        let one = self.next_tree(0, 1001);
+        let two = self.next_tree(one, 1002);
+        let three = self.next_tree(two, 1003);
+        let four = self.next_tree(three, 1004);
         [0, one, two, three, four]
     }
 }

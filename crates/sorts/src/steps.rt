@@ -9,7 +9,7 @@ use index::layout::{MAX_ARGUMENTS, UNLISTED, UNLISTED_1};
 impl<'a> Sorts<'a> {
     // The number of the sort of parameter j of a nonterminal whose sort has the number `own`.
     pub fn parameter(self, own: usize, j: usize) -> usize
-        ensures sort { ParameterSort self.entry.froms.now self.entry.tos.now own j result }
+        ensures sort { ParameterSort self.entry own j result }
         ensures small { result < 65536 }
     {
         let mut s = own;
@@ -21,7 +21,7 @@ impl<'a> Sorts<'a> {
 
     // The numbers of the sorts of the first 8 parameters of a nonterminal whose sort has the number `own`.
     pub fn parameter_sorts(self, own: usize) -> [u16; MAX_ARGUMENTS]
-        ensures { ParameterSorts self.entry.froms.now self.entry.tos.now own result }
+        ensures { ParameterSorts self.entry own result }
     {
         let mut sorts = [0u16; MAX_ARGUMENTS];
         let mut s = own;
@@ -37,7 +37,7 @@ impl<'a> Sorts<'a> {
 
     // The code of a head's sort with one argument off; none where the argument does not fit.
     pub fn apply(self, trees: &[u16], head: usize, argument: usize) -> Option<usize>
-        ensures applied { Applied self.entry.froms.now self.entry.tos.now trees.now head argument result }
+        ensures applied { Applied self.entry trees.now head argument result }
         ensures small { IfSome result (λ code. code < 65536) }
     {
         if UNLISTED < head {

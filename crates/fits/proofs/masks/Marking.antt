@@ -13,7 +13,7 @@ use lib.Seq.{get_or-set_same, get_or-set_other}
 use Rattle.scheme.proofs.Lists.{and_no}
 use Rattle.casefile.specs.Fields.{word}
 use Rattle.index.specs.layout.Layout.{max_sorts, all_sorts}
-use Rattle.fits.specs.masks.Masks.{has, Empty, SortsWith}
+use Rattle.fits.specs.masks.Masks.{has, Empty}
 use Rattle.fits.proofs.masks.Bits.{one_bit, has_or, has_zero, has_one}
 
 and_yes : (a b : Bool) → b ≡ true → (a && b) ≡ a
@@ -74,6 +74,3 @@ module _ (file index : List ℕ) (at : ℕ) where
             (has_one i s few ∙ sym (and_yes (eqb i s) (eqb (number_at s) n) (eq-eqb (number_at s) n (sym here ∙ sym same))))
             ∙ next number_at i s n
         by n i h (no ne) = ap (λ x. has x i) (get_or-set_other masks number n new 0 ne) ∙ kept n i h ne
-
-  pub marked_all : (masks : List ℕ) (sorts s : ℕ) → MarkedTo masks s → sorts ≤ s → SortsWith file index sorts at masks
-  marked_all masks sorts s marked h n i l k = marked.marks n i l ∙ ap (λ b. b && eqb (number_at i) n) (lt-ltb i s (omega arith))

@@ -22,7 +22,7 @@ use Rattle.casefile.specs.Tables.{types_of, sorts_of, signatures_of, bindings_of
 use Rattle.casefile.specs.Refusals.{Test, refuse◌at◌when◌, first, wrong_length, misfits}
 use Rattle.casefile.proofs.TypeTable.{count_payloads}
 use Rattle.records.specs.fields.Promises.{HasLength}
-use Rattle.index.specs.layout.Layout.{max_sorts, nonterminals_at, types_at, bindings_at}
+use Rattle.index.specs.layout.Layout.{nonterminals_at, types_at, bindings_at}
 use Rattle.fits.specs.masks.Masks.{has, row_in}
 use Rattle.fits.specs.declared.masks.Row.{Row}
 use Rattle.fits.specs.fits.Filled.{fits_at}
@@ -39,10 +39,6 @@ module _ (file index : List ℕ) (fit : List Row) (t : ℕ) where
       by : Dec (len ≡ 1) → eqb len 1 ≡ fits_at rs t 0
       by (yes one) = eq-eqb len 1 one ∙ sym (state_fits listed h ep el 0 one (omega arith))
       by (no ne) = ne_eqb len 1 ne ∙ sym (arrow_tree listed h ep el ne)
-
-  -- a sort that no file lists
-  pub unlisted_tested : (s : ℕ) (r : Bool) → max_sorts < s → TestsFit file index fit t s r
-  unlisted_tested s r late types sorts rs listed table h l = absurd (let few = listed.few_sorts in omega arith)
 
   -- a listed sort: by its bit
   pub listed_tested : (s m : ℕ) → (s ≡ 0 → ⊥) → m ≡ (row_in fit t).sorts → TestsFit file index fit t s (eqb (m / 2 ^ (s - 1) % 2) 1)
@@ -84,17 +80,6 @@ module _ (file index : List ℕ) (fit : List Row) (bindings : ℕ) where
   FitTo i =
       (nonterminals types sorts : ℕ) (rs : List Record) → Offered file index fit bindings nonterminals types sorts rs
       → (k : ℕ) → k < i → binding_fits rs (get_or (payloads binding rs) k []) ≡ true
-
-  pub fit_none : FitTo 0
-  fit_none ns ts ss rs of k h = absurd (omega arith)
-
-  pub fit_all : (i : ℕ) → FitTo i → bindings ≤ i → FindsMisfit file index fit bindings None
-  fit_all i sofar h ns ts ss rs of = record {
-    within = λ j e. absurd (cc);
-    fit_before = λ j e. absurd (cc);
-    misfit_there = λ j e. absurd (cc);
-    all_fit = λ e k l. sofar ns ts ss rs of k (omega arith);
-  }
 
   module _ (i place f t start s : ℕ) (x : Bool) (sofar : FitTo i) (h : i < bindings) (ep : place ≡ get_or index (bindings_at + i) 0) (ef : f ≡ word file place)
       (et : t ≡ word file (place + 2)) (eq : start ≡ get_or index (nonterminals_at + f) 0) (es : s ≡ word file start) (tests : TestsFit file index fit t s x) where

@@ -2,10 +2,9 @@
 use Prim.Native.Nat.{ℕ, ◌+◌, ◌<◌}
 use native.Mathlib.Omega.{arith}
 use native.Mathlib.Decide.{dec_lt}
-use mathlib.Core.Path.{◌≡◌, refl, sym, subst, ◌∙◌}
-use mathlib.Core.Bool.{true, ◌||◌, not}
+use mathlib.Core.Path.{◌≡◌, refl, sym, subst}
+use mathlib.Core.Bool.{◌||◌, not}
 use mathlib.Core.List.{List, []}
-use borrow.Author.Tests.{eq-eqb, ne_eqb}
 use lib.Dec.{eqb}
 use lib.ListN.{length, get_or, get_or-eq_default}
 use Rattle.casefile.specs.Fields.{field}
@@ -41,12 +40,3 @@ module _ {file index lens counts : List ℕ} {rs : List Record} (known : Known f
   pub counted_as : (eqb (count states rs) 0 || eqb (count nonterminal rs) 0 || not (eqb (count rule rs) (count nonterminal rs))) ≡ (eqb s 0 || eqb n 0 || not (eqb r n))
   unfolding number
   counted_as = rw ((known.entries states).counted, (known.entries nonterminal).counted, (known.entries rule).counted, es, en, er) refl
-
-  pub counts_none : s ≡ 0 → true ≡ (eqb (count states rs) 0 || eqb (count nonterminal rs) 0 || not (eqb (count rule rs) (count nonterminal rs)))
-  counts_none e = sym (counted_as ∙ simp (eq-eqb s 0 e))
-
-  pub counts_empty : (s ≡ 0 → ⊥) → n ≡ 0 → true ≡ (eqb (count states rs) 0 || eqb (count nonterminal rs) 0 || not (eqb (count rule rs) (count nonterminal rs)))
-  counts_empty a e = sym (counted_as ∙ simp (ne_eqb s 0 a, eq-eqb n 0 e))
-
-  pub counts_by : (s ≡ 0 → ⊥) → (n ≡ 0 → ⊥) → not (eqb r n) ≡ (eqb (count states rs) 0 || eqb (count nonterminal rs) 0 || not (eqb (count rule rs) (count nonterminal rs)))
-  counts_by a b = sym (counted_as ∙ simp (ne_eqb s 0 a, ne_eqb n 0 b))

@@ -12,12 +12,12 @@ use Rattle.casefile.specs.Kinds.{Kind, payloads}
 use Rattle.casefile.specs.Promises.{Passed}
 use Rattle.casefile.proofs.TypeTable.{count_payloads}
 use Rattle.records.specs.fields.Promises.{HasLength}
-use Rattle.index.specs.layout.Layout.{max_nonterminals, max_nodes, max_body, rules_at, most_nodes_at, rows_size}
+use Rattle.index.specs.layout.Layout.{max_nonterminals, max_nodes, max_body, rules_at, rows_size}
 use Rattle.index.specs.entries.Index.{Indexed}
 use Rattle.rules.specs.reading.RuleBodies.{nodes_in, rule_of, first_node}
 use Rattle.rules.proofs.reading.AllRules.{nodes_more}
 use Rattle.rules.proofs.rules.Judging.{rule_fits}
-use Rattle.rules.specs.first_nodes.FirstNodes.{CountsNodes, CountsAll, FillsFirsts}
+use Rattle.rules.specs.first_nodes.FirstNodes.{CountsNodes, CountsAll}
 
 rule_there : {file index : List ℕ} {rules : ℕ} {rs : List Record} → Indexed file index Kind.rule rules rs → (f : ℕ) → f < rules → f < length (payloads Kind.rule rs)
 rule_there {rules = rules} {rs = rs} ix f h = let many = sym (count_payloads Kind.rule rs) ∙ ix.counted in omega arith
@@ -26,9 +26,6 @@ rule_there {rules = rules} {rs = rs} ix f h = let many = sym (count_payloads Kin
 module _ {file index : List ℕ} {f : ℕ} where
   nodes_not : ((rules : ℕ) (rs : List Record) → Passed rs → Indexed file index Kind.rule rules rs → rules ≤ max_nonterminals → f < rules → ⊥) → CountsNodes file index f 0
   nodes_not z = record { few = omega arith; nodes = λ rules rs ok ix l h. absurd (z rules rs ok ix l h) }
-
-  pub nodes_none : 255 < f → CountsNodes file index f 0
-  nodes_none x = nodes_not (λ rules rs ok ix l h. omega arith)
 
   module _ (place : ℕ) (ep : place ≡ get_or index (rules_at + f) 0) where
     module _ (len : ℕ) (el : HasLength file place len) where
@@ -40,9 +37,6 @@ module _ {file index : List ℕ} {f : ℕ} where
 
       pub nodes_long : max_body < len → CountsNodes file index f 0
       nodes_long x = nodes_not (λ rules rs ok ix l h. let y = rule_fits ok f (rule_there ix f h) in let z = length_is rules rs ix h in omega arith)
-
-      pub nodes_counted : len ≤ max_body → CountsNodes file index f (len / 4)
-      nodes_counted x = record { few = omega arith; nodes = λ rules rs ok ix l h. ap (λ n. n / 4) (length_is rules rs ix h) }
 
 -- while the nodes are counted: the rules below f have `at` nodes
 pub record Counted (file index : List ℕ) (rules at f : ℕ) : Type 0 where
@@ -71,9 +65,6 @@ module _ {file index : List ℕ} {rules at f : ℕ} (so : Counted file index rul
             so.counted rs ok ix ∙ ap nodes_in (take_all f (payloads Kind.rule rs) (omega arith));
       }
 
-pub not_counted : {file index : List ℕ} {rules n : ℕ} → max_nonterminals < rules → CountsAll file index rules n
-not_counted x = record { all = λ rs ok ix few. absurd (omega arith) }
-
 -- while the table is filled: the entries below f are in it, and no rule below f has more nodes than `most`
 pub record Sofar (file index : List ℕ) (rules : ℕ) (before after : List ℕ) (at most f : ℕ) : Type 0 where
   pub counting : Counted file index rules at f
@@ -93,9 +84,6 @@ numbers_none file index rules before h k =
       entries = λ rs ok ix g l. absurd (omega arith);
       none_more = λ rs ok ix g l. absurd (omega arith);
     }
-
-pub not_numbered : (file index : List ℕ) (rules : ℕ) (before : List ℕ) → (rules ≤ max_nonterminals → rows_size ≤ length before → ⊥) → FillsFirsts file index rules before before
-not_numbered file index rules before z = record { firsts = λ rs ok ix h k f l. absurd (z h k); most = λ rs ok ix h k f l. absurd (z h k) }
 
 module _ {file index : List ℕ} {rules : ℕ} {before after : List ℕ} {at most f : ℕ} (so : Sofar file index rules before after at most f) where
   pub numbers_more : (n : ℕ) → f < rules → CountsNodes file index f n → (next : ℕ) → next ≡ max most n → Sofar file index rules before (set after f at) (at + n) next (f + 1)
@@ -117,10 +105,3 @@ module _ {file index : List ℕ} {rules : ℕ} {before after : List ℕ} {at mos
       by : (rs : List Record) → Passed rs → Indexed file index Kind.rule rules rs → (g : ℕ) → g < f + 1 → Dec (g ≡ f) → length (rule_of rs g) / 4 ≤ next
       by rs ok ix g l (yes z) = let b = c.nodes rules rs ok ix so.counting.few h in let d = ap (λ x. length (rule_of rs x) / 4) z in omega arith
       by rs ok ix g l (no z) = let b = so.none_more rs ok ix g (let w = z in omega arith) in omega arith
-
-  pub numbers_all : rules ≤ f → FillsFirsts file index rules before (set after most_nodes_at most)
-  numbers_all h =
-      record {
-        firsts = λ rs ok ix l k g m. get_or-set_other after most_nodes_at g most 0 (λ z. omega (arith, so.counting.few)) ∙ so.entries rs ok ix g (omega arith);
-        most = λ rs ok ix l k g m. let e = get_or-set_same after most_nodes_at most 0 (omega (arith, so.room)) in let b = so.none_more rs ok ix g (omega arith) in omega arith;
-      }

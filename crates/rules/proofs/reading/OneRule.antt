@@ -18,7 +18,7 @@ use Rattle.casefile.specs.Refusals.{wrong_body}
 use Rattle.bodies.specs.Bodies.{BodyDecided}
 use Rattle.bodies.specs.declared.Heads.{Heads}
 use Rattle.rules.specs.reading.RuleBodies.{rule_of, numbers_of, wrong_at, Judged, RuleRead}
-use Rattle.index.specs.layout.Layout.{max_body, rules_at}
+use Rattle.index.specs.layout.Layout.{rules_at}
 
 map_twice : {A B C : Type 0} (g : B → C) (f : A → B) (l : List A) → map g (map f l) ≡ map (λ x. g (f x)) l
 map_twice g f [] = refl
@@ -48,12 +48,6 @@ module _ {file index : List ℕ} {heads : Heads} {f : ℕ} {before : List ℕ} w
 
   module _ (place : ℕ) (ep : place ≡ get_or index (rules_at + f) 0) where
     module _ (len : ℕ) (el : HasLength file place len) where
-      pub rule_long : max_body < len → RuleRead file index heads f before before None
-      rule_long x = rule_not (λ rules rs j h l. let y = j.few_nodes f h in let z = length_is place ep len el rules rs j h in omega arith)
-
-      pub rule_room : length before < len / 4 → RuleRead file index heads f before before None
-      rule_room x = rule_not (λ rules rs j h l. let z = length_is place ep len el rules rs j h in omega arith)
-
       module _ (p : List ℕ) (part : p ≡ part_of file place len) (own : ℕ) (eo : own ≡ get_or heads.signatures.now f 0) (after : List ℕ) (r : Bool) (decided : BodyDecided p heads own before after r) where
         module _ (rules : ℕ) (rs : List Record) (j : Judged file index heads rules rs) (h : f < rules) where
           body_is : p ≡ rule_of rs f

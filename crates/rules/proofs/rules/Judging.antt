@@ -189,10 +189,10 @@ module _ {file index : List ℕ} {rs : List Record} (k : Kind) (n : ℕ) (there 
       (λ i hi. get_or-take (length vs) t i 0 (omega arith) ∙ field_at z t fi i (omega arith) (long i (omega arith)) ∙ sym (get_d_map_in (λ (p : List ℕ). field w p 0) (payloads k rs) i 0 [] (omega arith)))
 
 module _ {file index : List ℕ} {sorts constructors nonterminals rules : ℕ} {rs : List Record} (fi : Filed file index sorts constructors nonterminals rules rs)
-    (z₁ z₂ z₃ z₄ : List ℕ) (heads : Heads) (l₁ : length z₁ ≡ all_sorts) (l₂ : length z₂ ≡ all_sorts) (l₃ : length z₃ ≡ max_constructors) (l₄ : length z₄ ≡ max_nonterminals)
-    (from-filled : Filled 2 file index sorts_at 0 sorts 1 z₁ heads.sorts.froms.now) (to-filled : Filled 2 file index sorts_at 2 sorts 1 z₂ heads.sorts.tos.now)
+    (z₁ z₂ z₃ z₄ t₁ t₂ : List ℕ) (heads : Heads) (e₁ : heads.sorts.froms.now ≡ take (sorts + 1) t₁) (e₂ : heads.sorts.tos.now ≡ take (sorts + 1) t₂) (l₁ : length z₁ ≡ all_sorts) (l₂ : length z₂ ≡ all_sorts) (l₃ : length z₃ ≡ max_constructors) (l₄ : length z₄ ≡ max_nonterminals)
+    (from-filled : Filled 2 file index sorts_at 0 sorts 1 z₁ t₁) (to-filled : Filled 2 file index sorts_at 2 sorts 1 z₂ t₂)
     (arity-filled : Filled 1 file index constructors_at 0 constructors 0 z₃ heads.arities.now) (signature-filled : Filled 2 file index nonterminals_at 0 nonterminals 0 z₄ heads.signatures.now)
-    (codes : (ss : List Sort) → SortArrays ss (sorts + 1) heads.sorts.froms.now heads.sorts.tos.now → TreeCodes ss heads.trees.now) where
+    (codes : (ss : List Sort) → SortArrays ss heads.sorts → TreeCodes ss heads.trees.now) where
   -- the arrays
   abbrev froms : List ℕ
   froms = heads.sorts.froms.now
@@ -212,9 +212,6 @@ module _ {file index : List ℕ} {sorts constructors nonterminals rules : ℕ} {
   nonterminals_counted : length (payloads nonterminal rs) ≡ nonterminals
   nonterminals_counted = sym (count_payloads nonterminal rs) ∙ fi.nonterminals_there.counted
 
-  constructors_counted : length (payloads constructor rs) ≡ constructors
-  constructors_counted = sym (count_payloads constructor rs) ∙ fi.constructors_there.counted
-
   rules_counted : length (payloads rule rs) ≡ rules
   rules_counted = sym (count_payloads rule rs) ∙ fi.rules_there.counted
 
@@ -224,7 +221,7 @@ module _ {file index : List ℕ} {sorts constructors nonterminals rules : ℕ} {
       let c = sorts_counted in
       let s = fi.few_sorts in
       let q = four_bytes_long fi.passed i h in
-      ap (λ j. get_or froms j 0) e ∙ field_in sort sorts fi.sorts_there 2 (omega arith) (omega arith) 0 1 z₁ froms from-filled i (omega arith) (omega arith)
+      ap (λ t. get_or t (suc i) 0) e₁ ∙ get_or-take (sorts + 1) t₁ (suc i) 0 (omega arith) ∙ ap (λ j. get_or t₁ j 0) e ∙ field_in sort sorts fi.sorts_there 2 (omega arith) (omega arith) 0 1 z₁ t₁ from-filled i (omega arith) (omega arith)
 
   to_is : (i : ℕ) → i < length (payloads sort rs) → get_or tos (suc i) 0 ≡ word (get_or (payloads sort rs) i []) 2
   to_is i h =
@@ -232,13 +229,20 @@ module _ {file index : List ℕ} {sorts constructors nonterminals rules : ℕ} {
       let c = sorts_counted in
       let s = fi.few_sorts in
       let q = four_bytes_long fi.passed i h in
-      ap (λ j. get_or tos j 0) e ∙ field_in sort sorts fi.sorts_there 2 (omega arith) (omega arith) 2 1 z₂ tos to-filled i (omega arith) (omega arith)
+      ap (λ t. get_or t (suc i) 0) e₂ ∙ get_or-take (sorts + 1) t₂ (suc i) 0 (omega arith) ∙ ap (λ j. get_or t₂ j 0) e ∙ field_in sort sorts fi.sorts_there 2 (omega arith) (omega arith) 2 1 z₂ t₂ to-filled i (omega arith) (omega arith)
 
-  arrays : SortArrays (sorts_of rs) (suc (length (payloads sort rs))) froms tos
-  arrays = sort_arrays fi.passed fi.sort_bytes froms tos (let c = sorts_counted in let s = fi.few_sorts in omega arith) from_is to_is
+  from_long : length froms ≡ suc (length (payloads sort rs))
+  from_long =
+      let c = sorts_counted in
+      let s = fi.few_sorts in
+      let f = from-filled.long in
+      ap length e₁ ∙ length-take-le (sorts + 1) t₁ (omega arith) ∙ (omega arith)
+
+  arrays : SortArrays (sorts_of rs) heads.sorts
+  arrays = sort_arrays fi.passed fi.sort_bytes heads.sorts from_long (let c = sorts_counted in let s = fi.few_sorts in omega arith) from_is to_is
 
   tree_codes : TreeCodes (sorts_of rs) heads.trees.now
-  tree_codes = codes (sorts_of rs) (subst (λ n. SortArrays (sorts_of rs) n froms tos) (let c = sorts_counted in omega arith) arrays)
+  tree_codes = codes (sorts_of rs) arrays
 
   number_at : (f : ℕ) → f < nonterminals → get_or signatures f 0 ≡ word (get_or (payloads nonterminal rs) f []) 0
   number_at f h =
@@ -270,7 +274,7 @@ module _ {file index : List ℕ} {sorts constructors nonterminals rules : ℕ} {
   setting_at f h =
       let h' : f < nonterminals = (let l = fi.few_rules in omega arith) in
       record {
-        coded = record { table = subst (λ n. SortArrays (sorts_of rs) n froms tos) (sym arrays.count) arrays; constructors = tree_codes };
+        coded = record { table = arrays; constructors = tree_codes };
         counts_are = arities_are;
         counts_small = arity_small fi.passed;
         numbers_are = numbers_are;

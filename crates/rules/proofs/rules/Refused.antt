@@ -7,7 +7,7 @@ use mathlib.Core.Bool.{Bool, true, false}
 use mathlib.Core.List.{List, [], ◌∷◌, map}
 use mathlib.Core.Option.{none, some}
 use Rattle.std.specs.Prelude.{Option}
-use lib.ListN.{length, get_or}
+use lib.ListN.{length, get_or, take}
 use Rattle.scheme.specs.Sorts.{Sort, o}
 use Rattle.casefile.specs.Records.{Record}
 use Rattle.casefile.specs.Kinds.{nonterminal, rule, of_kind, payloads, count}
@@ -19,7 +19,7 @@ use Rattle.bodies.specs.declared.Heads.{Heads}
 use Rattle.rules.specs.rules.Rules.{Filled, Filed, BodiesRead, FindsWrongBody}
 use Rattle.rules.specs.reading.RuleBodies.{FirstWrong, ReadsRules}
 use Rattle.rules.proofs.rules.Judging.{signatures_length, judged}
-use Rattle.index.specs.layout.Layout.{max_sorts, max_constructors, max_nonterminals, sorts_at, constructors_at, nonterminals_at, all_sorts}
+use Rattle.index.specs.layout.Layout.{max_constructors, max_nonterminals, sorts_at, constructors_at, nonterminals_at, all_sorts}
 
 module _ (arities : List ℕ) (signatures : List Sort) where
   abbrev payload_at : List Record → ℕ → List ℕ
@@ -79,16 +79,11 @@ module _ {file index : List ℕ} {sorts constructors nonterminals rules : ℕ} {
       }
 
 -- the answer of the loop over the filled arrays
-pub finds : (file index : List ℕ) (sorts constructors nonterminals rules : ℕ) (z₁ z₂ z₃ z₄ : List ℕ) (heads : Heads) (before after : List ℕ) (r : Option ℕ)
-    → length z₁ ≡ all_sorts → length z₂ ≡ all_sorts → length z₃ ≡ max_constructors → length z₄ ≡ max_nonterminals
-    → Filled 2 file index sorts_at 0 sorts 1 z₁ heads.sorts.froms.now → Filled 2 file index sorts_at 2 sorts 1 z₂ heads.sorts.tos.now → Filled 1 file index constructors_at 0 constructors 0 z₃ heads.arities.now
+pub finds : (file index : List ℕ) (sorts constructors nonterminals rules : ℕ) (z₁ z₂ z₃ z₄ t₁ t₂ : List ℕ) (heads : Heads) (before after : List ℕ) (r : Option ℕ)
+    → heads.sorts.froms.now ≡ take (sorts + 1) t₁ → heads.sorts.tos.now ≡ take (sorts + 1) t₂ → length z₁ ≡ all_sorts → length z₂ ≡ all_sorts → length z₃ ≡ max_constructors → length z₄ ≡ max_nonterminals
+    → Filled 2 file index sorts_at 0 sorts 1 z₁ t₁ → Filled 2 file index sorts_at 2 sorts 1 z₂ t₂ → Filled 1 file index constructors_at 0 constructors 0 z₃ heads.arities.now
     → Filled 2 file index nonterminals_at 0 nonterminals 0 z₄ heads.signatures.now
-    → ((ss : List Sort) → SortArrays ss (sorts + 1) heads.sorts.froms.now heads.sorts.tos.now → TreeCodes ss heads.trees.now)
+    → ((ss : List Sort) → SortArrays ss heads.sorts → TreeCodes ss heads.trees.now)
     → ReadsRules file index heads rules before after r → FindsWrongBody file index sorts constructors nonterminals rules before after r
-finds file index sorts constructors nonterminals rules z₁ z₂ z₃ z₄ heads before after r l₁ l₂ l₃ l₄ a b c d codes answer rs fi room =
-    refusal fi after r (answer rs (judged fi z₁ z₂ z₃ z₄ heads l₁ l₂ l₃ l₄ a b c d codes) room)
-
--- no file has that many records
-pub finds_not : (file index : List ℕ) (sorts constructors nonterminals rules : ℕ) (before after : List ℕ) (r : Option ℕ)
-    → ((sorts ≤ max_sorts) × (constructors ≤ max_constructors) × (nonterminals ≤ max_nonterminals) × (rules ≤ nonterminals) → ⊥) → FindsWrongBody file index sorts constructors nonterminals rules before after r
-finds_not file index sorts constructors nonterminals rules before after r z rs fi room = absurd (z (fi.few_sorts, fi.few_constructors, fi.few_nonterminals, fi.few_rules))
+finds file index sorts constructors nonterminals rules z₁ z₂ z₃ z₄ t₁ t₂ heads before after r e₁ e₂ l₁ l₂ l₃ l₄ a b c d codes answer rs fi room =
+    refusal fi after r (answer rs (judged fi z₁ z₂ z₃ z₄ t₁ t₂ heads e₁ e₂ l₁ l₂ l₃ l₄ a b c d codes) room)

@@ -1,55 +1,22 @@
 -- Sorts by code: the code of a listed sort is its number; constructors' sorts, one after another.
 use Prim.Native.Nat.{ℕ, zero, suc, ◌+◌, ◌<◌, ◌≤◌}
-use mathlib.Core.Path.{◌≡◌, refl, sym, ap, subst, ◌∙◌}
-use mathlib.Core.Bool.{Bool, true, false, ◌&&◌}
+use mathlib.Core.Path.{◌≡◌, refl, sym, ap, ◌∙◌}
 use mathlib.Core.List.{List, [], ◌∷◌}
 use native.Mathlib.Omega.{arith}
-use borrow.Author.Tests.{eq-eqb, ne_eqb, eqb-true}
 use Rattle.std.specs.Prelude.{Option, Some, None}
-use lib.Dec.{eqb}
 use lib.ListN.{length, get_or}
 use Rattle.scheme.specs.Sorts.{Sort, o, ◌⇒◌, tree_sort}
-use Rattle.scheme.proofs.Lists.{and_true}
 use Rattle.sorts.specs.codes.Sorted.{SortArrays, Code, listed, unlisted, TreeCodes, ArrowTo}
+use Rattle.sorts.specs.declared.codes.Sorts.{Sorts}
 
--- two tests, one after the other
-pub both_no : (a n : ℕ) (t : Bool) → (a ≡ n → ⊥) → false ≡ (eqb a n && t)
-both_no a n t h = let e = ne_eqb a n h in rw e refl
-
-pub both_last : (a n : ℕ) (t : Bool) → a ≡ n → t ≡ (eqb a n && t)
-both_last a n t h = let e = eq-eqb a n h in rw e refl
-
--- what the test for an arrow says
-pub arrow_yes : (a b to : ℕ) (t : Bool) → t ≡ (eqb a 0 && eqb b to) → t ≡ true → (a ≡ 0) × (b ≡ to)
-arrow_yes a b to t e f =
-    let (x, y) = and_true (eqb a 0) (eqb b to) (sym e ∙ f) in
-    (eqb-true a 0 x, eqb-true b to y)
-
-pub arrow_no : (a b to : ℕ) (t : Bool) → t ≡ (eqb a 0 && eqb b to) → t ≡ false → a ≡ 0 → b ≡ to → ⊥
-arrow_no a b to t e f x y =
-    let g = eq-eqb a 0 x in
-    let h = eq-eqb b to y in
-    let i : t ≡ true = e ∙ rw (g, h) refl in
-    let z : ◌≡◌ {A = ℕ} 0 1 = cc in
-    omega arith
-
-module _ {froms tos : List ℕ} {n to : ℕ} where
-  -- the sort looked for is found
-  pub arrow_found : {i : ℕ} → i < n → 0 < i → get_or froms i 0 ≡ 0 → get_or tos i 0 ≡ to → ArrowTo froms tos n to (Some i)
-  arrow_found {i} h p x y = record { is = λ k e. let same : i ≡ k = cc in subst (λ k. (k < n) × (0 < k) × (get_or froms k 0 ≡ 0) × (get_or tos k 0 ≡ to)) same (h, p, x, y); none_is = λ e. absurd (cc) }
-
-  -- no sort is it
-  pub arrow_none : ((i : ℕ) → 0 < i → i < n → get_or froms i 0 ≡ 0 → get_or tos i 0 ≡ to → ⊥) → ArrowTo froms tos n to None
-  arrow_none absent = record { is = λ k e. absurd (cc); none_is = λ e. absent }
-
-module _ {sorts : List Sort} {n : ℕ} {froms tos : List ℕ} (w : SortArrays sorts n froms tos) where
+module _ {sorts : List Sort} {arrows : Sorts} (w : SortArrays sorts arrows) where
   -- a code below the number of sorts is a number
   pub code_listed : {c : ℕ} {s : Sort} → Code sorts c s → c < 1000 → (c < length sorts) × (get_or sorts c o ≡ s)
   code_listed (listed h e) k = (h, e)
   code_listed (unlisted m h e f u) k = absurd (omega arith)
 
   -- the code of a listed sort is its number
-  pub listed_code : {c : ℕ} {s : Sort} (j : ℕ) → Code sorts c s → j < n → get_or sorts j o ≡ s → c ≡ j
+  pub listed_code : {c : ℕ} {s : Sort} (j : ℕ) → Code sorts c s → j < length sorts → get_or sorts j o ≡ s → c ≡ j
   listed_code {c} j (listed h e) k f = w.distinct c j (omega (arith, w.count)) k (e ∙ sym f)
   listed_code j (unlisted m h e f u) k g = absurd (u j (omega (arith, w.count)) (g ∙ f))
 
@@ -66,15 +33,15 @@ module _ {sorts : List Sort} {n : ℕ} {froms tos : List ℕ} (w : SortArrays so
   tree_start = start_code
 
   -- where a sort from o is listed, it is by its two numbers
-  arrow_parts : (b : Sort) (i : ℕ) → i < n → get_or sorts i o ≡ o ⇒ b → (0 < i) × (get_or froms i 0 ≡ 0) × (get_or tos i 0 < n) × (get_or sorts (get_or tos i 0) o ≡ b)
+  arrow_parts : (b : Sort) (i : ℕ) → i < length sorts → get_or sorts i o ≡ o ⇒ b → (0 < i) × (get_or arrows.froms.now i 0 ≡ 0) × (get_or arrows.tos.now i 0 < length sorts) × (get_or sorts (get_or arrows.tos.now i 0) o ≡ b)
   arrow_parts b zero h e = absurd (let s = w.start in let z : ◌≡◌ {A = ℕ} 0 1 = cc in omega arith)
   arrow_parts b (suc i) h e =
       let m = w.made (suc i) (omega arith) h in
       let lf = w.from_below (suc i) (omega arith) h in
       let lt = w.to_below (suc i) (omega arith) h in
       let s = w.start in
-      let ef : get_or sorts (get_or froms (suc i) 0) o ≡ get_or sorts 0 o = cc in
-      (omega arith, w.distinct (get_or froms (suc i) 0) 0 (omega arith) w.positive ef, omega arith, cc)
+      let ef : get_or sorts (get_or arrows.froms.now (suc i) 0) o ≡ get_or sorts 0 o = cc in
+      (omega arith, w.distinct (get_or arrows.froms.now (suc i) 0) 0 (omega arith) w.positive ef, omega arith, cc)
 
   -- the next of the constructors' sorts, where the one before is not listed
   pub next_unlisted : (m code other : ℕ) → m < 4 → other ≡ 1001 + m → 1000 ≤ code → Code sorts code (tree_sort m) → Code sorts other (tree_sort (suc m))
@@ -82,29 +49,30 @@ module _ {sorts : List Sort} {n : ℕ} {froms tos : List ℕ} (w : SortArrays so
   next_unlisted m code other h e k (listed x y) = absurd (omega (arith, w.few, w.count))
   next_unlisted m code other h e k (unlisted m' x y f u) =
       unlisted (suc m) (omega arith) (omega arith) refl
-      (λ i l g. let (p, q, r, s) = arrow_parts (tree_sort m) i (omega (arith, w.count)) g in u (get_or tos i 0) (omega (arith, w.count)) (s ∙ f))
+      (λ i l g. let (p, q, r, s) = arrow_parts (tree_sort m) i (omega (arith, w.count)) g in u (get_or arrows.tos.now i 0) (omega (arith, w.count)) (s ∙ f))
 
   -- where it is listed
-  pub next_listed : (m code r r' : ℕ) {found : Option ℕ} → code < 1000 → ArrowTo froms tos n code found → found ≡ Some r → (r < 65536 → r' ≡ r) → Code sorts code (tree_sort m) → Code sorts r' (tree_sort (suc m))
+  pub next_listed : (m code r r' : ℕ) {found : Option ℕ} → code < 1000 → ArrowTo arrows code found → found ≡ Some r → (r < 65536 → r' ≡ r) → Code sorts code (tree_sort m) → Code sorts r' (tree_sort (suc m))
   unfolding tree_sort
   next_listed m code r r' h a is e d =
-      let (k, p, q, t) = a.is r is in
+      let (k', p, q, t) = a.is r is in
+      let k : r < length sorts = omega (arith, w.count) in
       let (x, y) = code_listed d h in
       let made = w.made r p k in
       let s = w.start in
       let er : r' ≡ r = e (omega (arith, w.few)) in
-      let ef : get_or sorts (get_or froms r 0) o ≡ get_or sorts 0 o = ap (λ z. get_or sorts z o) q in
-      let et : get_or sorts (get_or tos r 0) o ≡ get_or sorts code o = ap (λ z. get_or sorts z o) t in
+      let ef : get_or sorts (get_or arrows.froms.now r 0) o ≡ get_or sorts 0 o = ap (λ z. get_or sorts z o) q in
+      let et : get_or sorts (get_or arrows.tos.now r 0) o ≡ get_or sorts code o = ap (λ z. get_or sorts z o) t in
       rw er (listed (omega (arith, w.count)) (cc))
 
   -- where it is not, and the one before is
-  pub next_missing : (m code other : ℕ) {found : Option ℕ} → m < 4 → other ≡ 1001 + m → code < 1000 → ArrowTo froms tos n code found → found ≡ None → Code sorts code (tree_sort m) → Code sorts other (tree_sort (suc m))
+  pub next_missing : (m code other : ℕ) {found : Option ℕ} → m < 4 → other ≡ 1001 + m → code < 1000 → ArrowTo arrows code found → found ≡ None → Code sorts code (tree_sort m) → Code sorts other (tree_sort (suc m))
   unfolding tree_sort
   next_missing m code other h e k a g d =
       let (x, y) = code_listed d k in
       unlisted (suc m) (omega arith) (omega arith) refl
       (λ i l f. let (p, q, b, s) = arrow_parts (tree_sort m) i (omega (arith, w.count)) f in
-      a.none_is g i p (omega (arith, w.count)) q (w.distinct (get_or tos i 0) code b (omega (arith, w.count)) (s ∙ sym y)))
+      a.none_is g i p (omega (arith, w.count)) q (w.distinct (get_or arrows.tos.now i 0) code b (omega (arith, w.count)) (s ∙ sym y)))
 
   -- the five together
   pub five : (a b c d : ℕ) → Code sorts a (tree_sort 1) → Code sorts b (tree_sort 2) → Code sorts c (tree_sort 3) → Code sorts d (tree_sort 4) → TreeCodes sorts (0 ∷ a ∷ b ∷ c ∷ d ∷ [])

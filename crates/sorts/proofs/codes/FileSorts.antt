@@ -13,39 +13,40 @@ use Rattle.casefile.specs.Kinds.{sort, payloads}
 use Rattle.casefile.specs.Tables.{sort_from, sorts_of}
 use Rattle.casefile.proofs.Growth.{grow_length}
 use Rattle.casefile.proofs.SortTable.{sort_zero, sort_below, sort_made, sorts_distinct}
+use Rattle.sorts.specs.declared.codes.Sorts.{Sorts}
 use Rattle.sorts.specs.codes.Sorted.{SortArrays}
 
-module _ {rs : List Record} (ok : Passed rs) (bytes : (i : ℕ) → Bytes (get_or (payloads sort rs) i [])) (froms tos : List ℕ) (few : length (payloads sort rs) < 1000)
-    (from_is : (i : ℕ) → i < length (payloads sort rs) → get_or froms (suc i) 0 ≡ word (get_or (payloads sort rs) i []) 0)
-    (to_is : (i : ℕ) → i < length (payloads sort rs) → get_or tos (suc i) 0 ≡ word (get_or (payloads sort rs) i []) 2) where
+module _ {rs : List Record} (ok : Passed rs) (bytes : (i : ℕ) → Bytes (get_or (payloads sort rs) i [])) (arrows : Sorts) (long : length arrows.froms.now ≡ suc (length (payloads sort rs))) (few : length (payloads sort rs) < 1000)
+    (from_is : (i : ℕ) → i < length (payloads sort rs) → get_or arrows.froms.now (suc i) 0 ≡ word (get_or (payloads sort rs) i []) 0)
+    (to_is : (i : ℕ) → i < length (payloads sort rs) → get_or arrows.tos.now (suc i) 0 ≡ word (get_or (payloads sort rs) i []) 2) where
   count_is : length (sorts_of rs) ≡ suc (length (payloads sort rs))
   unfolding sorts_of
   count_is = grow_length sort_from (o ∷ []) (payloads sort rs) ∙ (omega arith)
 
-  made_is : (i : ℕ) → 0 < i → i < suc (length (payloads sort rs)) → get_or (sorts_of rs) i o ≡ get_or (sorts_of rs) (get_or froms i 0) o ⇒ get_or (sorts_of rs) (get_or tos i 0) o
+  made_is : (i : ℕ) → 0 < i → i < suc (length (payloads sort rs)) → get_or (sorts_of rs) i o ≡ get_or (sorts_of rs) (get_or arrows.froms.now i 0) o ⇒ get_or (sorts_of rs) (get_or arrows.tos.now i 0) o
   unfolding sort_from
   made_is zero p h = absurd (omega arith)
   made_is (suc i) p h =
       let k = le_of_suc-le-suc h in
       sort_made ok bytes i k ∙ ap₂ (λ x y. get_or (sorts_of rs) x o ⇒ get_or (sorts_of rs) y o) (sym (from_is i k)) (sym (to_is i k))
 
-  from_below_is : (i : ℕ) → 0 < i → i < suc (length (payloads sort rs)) → get_or froms i 0 < i
+  from_below_is : (i : ℕ) → 0 < i → i < suc (length (payloads sort rs)) → get_or arrows.froms.now i 0 < i
   from_below_is zero p h = absurd (omega arith)
   from_below_is (suc i) p h = let k = le_of_suc-le-suc h in let e = from_is i k in let b = (sort_below ok bytes i k).1 in omega arith
 
-  to_below_is : (i : ℕ) → 0 < i → i < suc (length (payloads sort rs)) → get_or tos i 0 < i
+  to_below_is : (i : ℕ) → 0 < i → i < suc (length (payloads sort rs)) → get_or arrows.tos.now i 0 < i
   to_below_is zero p h = absurd (omega arith)
   to_below_is (suc i) p h = let k = le_of_suc-le-suc h in let e = to_is i k in let b = (sort_below ok bytes i k).2 in omega arith
 
   -- the arrays list the sorts of the file
-  pub sort_arrays : SortArrays (sorts_of rs) (suc (length (payloads sort rs))) froms tos
+  pub sort_arrays : SortArrays (sorts_of rs) arrows
   sort_arrays = record {
-    count = count_is;
-    few = omega arith;
-    positive = omega arith;
+    count = long ∙ sym count_is;
+    few = let c = count_is in omega arith;
+    positive = let c = count_is in omega arith;
     start = sort_zero rs;
-    made = made_is;
-    from_below = from_below_is;
-    to_below = to_below_is;
-    distinct = λ i j hi hj e. let c = count_is in sorts_distinct ok bytes i j (omega arith) (omega arith) e;
+    made = λ i p h. made_is i p (let c = count_is in omega arith);
+    from_below = λ i p h. from_below_is i p (let c = count_is in omega arith);
+    to_below = λ i p h. to_below_is i p (let c = count_is in omega arith);
+    distinct = λ i j hi hj e. sorts_distinct ok bytes i j hi hj e;
   }

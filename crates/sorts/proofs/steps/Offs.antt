@@ -6,10 +6,11 @@ use native.Mathlib.Omega.{arith}
 use Rattle.std.specs.Prelude.{Some, None}
 use lib.ListN.{length, get_or}
 use Rattle.scheme.specs.Sorts.{Sort, o, ◌⇒◌, tree_sort}
+use Rattle.sorts.specs.declared.codes.Sorts.{Sorts}
 use Rattle.sorts.specs.codes.Sorted.{Code, listed, unlisted, Coded, Off, misfit, off}
 use Rattle.sorts.proofs.codes.Codes.{code_listed, listed_code, code_small}
 
-module _ {sorts : List Sort} {froms tos trees : List ℕ} (w : Coded sorts froms tos trees) {s : Sort} {head : ℕ} where
+module _ {sorts : List Sort} {arrows : Sorts} {trees : List ℕ} (w : Coded sorts arrows trees) {s : Sort} {head : ℕ} where
   -- a code over 1000 is that of constructors with an argument at least
   tree_head : 1000 < head → Code sorts head s → (m : ℕ) × (m < 4) × (head ≡ 1001 + m) × (s ≡ o ⇒ tree_sort m)
   unfolding tree_sort
@@ -46,15 +47,15 @@ module _ {sorts : List Sort} {froms tos trees : List ℕ} (w : Coded sorts froms
       let st = w.table.start in
       misfit refl (λ b g. let q : ◌≡◌ {A = ℕ} 0 1 = cc in omega arith)
 
-  pub off_misfit : {t : Sort} {argument : ℕ} → head ≤ 1000 → (head ≡ 0 → ⊥) → (argument ≡ get_or froms head 0 → ⊥) → Code sorts head s → Code sorts argument t → Off sorts s t None
+  pub off_misfit : {t : Sort} {argument : ℕ} → head ≤ 1000 → (head ≡ 0 → ⊥) → (argument ≡ get_or arrows.froms.now head 0 → ⊥) → Code sorts head s → Code sorts argument t → Off sorts s t None
   off_misfit {t} h nz ne ch ca =
       let (k, e) = listed_head h ch in
       let p : 0 < head = omega arith in
       let made = w.table.made head p k in
       let below = w.table.from_below head p k in
-      misfit refl (λ b g. let et : get_or sorts (get_or froms head 0) o ≡ t = cc in ne (listed_code w.table (get_or froms head 0) ca (omega arith) et))
+      misfit refl (λ b g. let et : get_or sorts (get_or arrows.froms.now head 0) o ≡ t = cc in ne (listed_code w.table (get_or arrows.froms.now head 0) ca (omega arith) et))
 
-  pub off_listed : {t : Sort} {argument : ℕ} (r : ℕ) → head ≤ 1000 → (head ≡ 0 → ⊥) → argument ≡ get_or froms head 0 → r ≡ get_or tos head 0 → Code sorts head s → Code sorts argument t → Off sorts s t (Some r)
+  pub off_listed : {t : Sort} {argument : ℕ} (r : ℕ) → head ≤ 1000 → (head ≡ 0 → ⊥) → argument ≡ get_or arrows.froms.now head 0 → r ≡ get_or arrows.tos.now head 0 → Code sorts head s → Code sorts argument t → Off sorts s t (Some r)
   off_listed {t} {argument} r h nz ea er ch ca =
       let (k, e) = listed_head h ch in
       let p : 0 < head = omega arith in
@@ -63,6 +64,6 @@ module _ {sorts : List Sort} {froms tos trees : List ℕ} (w : Coded sorts froms
       let tb = w.table.to_below head p k in
       let few = w.table.few in
       let et : get_or sorts argument o ≡ t = (code_listed w.table ca (omega arith)).1 in
-      let eb : get_or sorts argument o ≡ get_or sorts (get_or froms head 0) o = ap (λ x. get_or sorts x o) ea in
-      let ec : get_or sorts r o ≡ get_or sorts (get_or tos head 0) o = ap (λ x. get_or sorts x o) er in
-      off r refl (omega arith) (get_or sorts (get_or tos head 0) o) (cc) (listed (omega arith) ec)
+      let eb : get_or sorts argument o ≡ get_or sorts (get_or arrows.froms.now head 0) o = ap (λ x. get_or sorts x o) ea in
+      let ec : get_or sorts r o ≡ get_or sorts (get_or arrows.tos.now head 0) o = ap (λ x. get_or sorts x o) er in
+      off r refl (omega arith) (get_or sorts (get_or arrows.tos.now head 0) o) (cc) (listed (omega arith) ec)

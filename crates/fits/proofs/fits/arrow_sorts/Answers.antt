@@ -2,11 +2,8 @@
 use native.Mathlib.Omega.{arith}
 use mathlib.Core.Path.{ap}
 use Rattle.fits.specs.declared.masks.Row.{Row}
-use Rattle.fits.proofs.fits.Arrows.{met_none, met_more, met_empty, met_all}
+use Rattle.fits.proofs.fits.Arrows.{met_more, met_empty, met_all}
 use Rattle.fits.proofs.fits.arrow_sorts.Goals as goal
-
-pub loop-k-init : goal.loop-k-init
-loop-k-init c = met_none _ _ _ _ _ _ c.word_at.ensures.value (ap (λ (row : Row). row.results) c.row_at-sorts.ensures)
 
 pub returns-then-sorts-eq0 : goal.returns-then-sorts-eq0
 returns-then-sorts-eq0 c = let l = c.loop-k in met_empty _ _ _ _ l.sorts _ l.invariant c.if-sorts-eq0.true

@@ -1,6 +1,6 @@
 -- `fill` meets its contract. The invariant: the first i fields are stored.
-use Rattle.rules.proofs.rules.Filling.{FilledTo}
+use Rattle.rules.specs.rules.Rules.{Filled}
 use Rattle.rules.proofs.rules.fill.Given as goal
 
 abbrev pub invariant-loop-i : goal.invariant-loop-i
-invariant-loop-i g l = FilledTo g.row.WIDTH l.file l.index l.from l.at l.n l.to l.initial.table l.table l.i
+invariant-loop-i g l = Filled g.row.WIDTH l.file l.index l.from l.at l.i l.to l.initial.table l.table

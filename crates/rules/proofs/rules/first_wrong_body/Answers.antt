@@ -1,16 +1,10 @@
 -- `first_wrong_body` meets its contract.
-use native.Mathlib.Omega.{arith}
+use mathlib.Core.Path.{refl}
 use borrow.Author.Rules.{rules}
-use Rattle.rules.proofs.rules.Refused.{finds, finds_not}
+use Rattle.rules.proofs.rules.Refused.{finds}
 use Rattle.rules.proofs.rules.first_wrong_body.Goals as goal
-
-pub returns-then-not-within_limits-clause-first : goal.returns-then-not-within_limits-clause-first
-returns-then-not-within_limits-clause-first c = finds_not _ _ _ _ _ _ c.args.ends.now _ _ (λ limits. let e = c.within_limits.ensures.1 limits in cc)
-
-pub overflow_add-sorts : goal.overflow_add-sorts
-overflow_add-sorts c = let l = c.within_limits.ensures.0 (search rules) in omega (arith, l.0)
 
 pub returns-clause-first : goal.returns-clause-first
 returns-clause-first c =
-    finds _ _ _ _ _ _ _ _ _ _ _ c.args.ends.now _ _ (search rules) (search rules) (search rules) (search rules)
+    finds _ _ _ _ _ _ _ _ _ _ _ _ _ c.args.ends.now _ _ refl refl (search rules) (search rules) (search rules) (search rules)
     c.fill.ensures c.fill-2.ensures c.fill_column.ensures c.fill_column-2.ensures c.tree_codes-trees.ensures c.read_rules.ensures.first

@@ -4,4 +4,4 @@ use Rattle.sorts.proofs.steps.Parameters.{Along}
 use Rattle.sorts.proofs.codes.Sorts.parameter.Given as goal
 
 abbrev pub invariant-loop : goal.invariant-loop
-invariant-loop l = Along l.self.froms.now l.self.tos.now l.own l.j l.s (l.j - l.counter)
+invariant-loop l = Along l.self l.own l.j l.s (l.j - l.counter)

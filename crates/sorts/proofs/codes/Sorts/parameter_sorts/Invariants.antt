@@ -3,4 +3,4 @@ use Rattle.sorts.proofs.steps.Parameters.{Listing}
 use Rattle.sorts.proofs.codes.Sorts.parameter_sorts.Given as goal
 
 abbrev pub invariant-loop-j : goal.invariant-loop-j
-invariant-loop-j l = Listing l.self.froms.now l.self.tos.now l.own l.s l.j l.sorts
+invariant-loop-j l = Listing l.self l.own l.s l.j l.sorts
