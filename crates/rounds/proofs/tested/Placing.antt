@@ -1,11 +1,10 @@
 -- The numbers of a test, the sets of candidates, the users and the answers as parts of what a test reads and writes.
 use Prim.Native.Nat.{ℕ, ◌+◌, ◌-◌, ◌<◌, ◌≤◌, min}
 use native.Mathlib.Omega.{arith}
-use native.Mathlib.Decide.{ℕ_discrete}
 use mathlib.Core.Path.{◌≡◌, refl, sym, ap, subst, ◌∙◌}
 use mathlib.Core.List.{List, ◌++◌}
-use lib.ListN.{length, get_or, take, drop, set, length-set, length-drop, get_or-eq_default}
-use lib.Seq.{get_or-take, get_or-drop, ext_get_or, take_all, get_or-set_same, get_or-set_other}
+use lib.ListN.{length, get_or, take, drop, length-drop, get_or-eq_default}
+use lib.Seq.{get_or-take, get_or-drop, ext_get_or, take_all}
 use Rattle.index.specs.layout.Layout.{test_users, test_answers, test_cells}
 use Rattle.term_check.specs.Worlds.{split_at, from_in, answers_of, users_of}
 use Rattle.term_check.proofs.parts.Parting.{split_same, users_same, length_users, after_long, after_middle, after_front, answers_lent}
@@ -40,25 +39,6 @@ pub record Written (test r r' : List ℕ) (k : ℕ) : Type 0 where
   pub long : length r' ≡ length r
   pub numbers : (i : ℕ) → i < k → get_or r' i 0 ≡ get_or test i 0
   pub stays : (i : ℕ) → k ≤ i → get_or r' i 0 ≡ get_or r i 0
-
-pub written_none : (test r : List ℕ) → Written test r r 0
-written_none test r = record { long = refl; numbers = λ i h. absurd (omega arith); stays = λ i h. refl }
-
-module _ (test r r' : List ℕ) (k : ℕ) (w : Written test r r' k) where
-  pub written_more : (n : ℕ) → k < length r' → n ≡ get_or test k 0 → Written test r (set r' k n) (k + 1)
-  written_more n h e =
-      record {
-        long = length-set r' k n ∙ w.long;
-        numbers = λ i l. go i l (ℕ_discrete i k);
-        stays = λ i l. get_or-set_other r' k i n 0 (λ x. omega arith) ∙ w.stays i (omega arith);
-      }
-    where
-      go : (i : ℕ) → i < k + 1 → Dec (i ≡ k) → get_or (set r' k n) i 0 ≡ get_or test i 0
-      go i l (yes x) = ap (λ j. get_or (set r' k n) j 0) x ∙ get_or-set_same r' k n 0 h ∙ e ∙ ap (λ j. get_or test j 0) (sym x)
-      go i l (no x) = get_or-set_other r' k i n 0 x ∙ w.numbers i (let y = x in omega arith)
-
-  pub written_all : k ≡ test_users → Writes test r r'
-  written_all e = record { long = w.long; written = λ i h. w.numbers i (omega arith); stays = λ i h. w.stays i (omega arith) }
 
 -- the places and the sets stay
 pub writes_same : (test r r' : List ℕ) → Writes test r r' → Same r r'

@@ -99,9 +99,6 @@ pub record Sofar (file before : List ℕ) (n k : ℕ) (index : List ℕ) : Type 
   pub there : index_size ≤ length before → (q c : ℕ) → q < max_states → c < max_constructors → (place_in index q c ≡ 0 → ⊥) → There file before n q c
 
 module _ {file before : List ℕ} {n : ℕ} where
-  pub rows_many : max_transitions < n → FillsRows file before n before
-  rows_many h = record { long = refl; stays = λ i l. refl; rows = λ rs ok ix few l. absurd (omega arith) }
-
   pub sofar_none : {index : List ℕ} → n ≤ max_transitions → Clears before row_base max_transitions index → Sofar file index n n index
   sofar_none {index} h e =
       record {

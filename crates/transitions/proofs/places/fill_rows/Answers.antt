@@ -1,10 +1,6 @@
 -- `fill_rows` meets its contract. The invariant: the transitions from number k on are entered.
-use mathlib.Core.Path.{◌∙◌}
-use Rattle.transitions.proofs.places.Filling.{rows_many, sofar_none, sofar_put, sofar_state, sofar_constructor, all_rows}
+use Rattle.transitions.proofs.places.Filling.{sofar_none, sofar_put, sofar_state, sofar_constructor, all_rows}
 use Rattle.transitions.proofs.places.fill_rows.Goals as goal
-
-pub returns-then-n-gt-MAX_TRANSITIONS : goal.returns-then-n-gt-MAX_TRANSITIONS
-returns-then-n-gt-MAX_TRANSITIONS c = rows_many c.if-n-gt-MAX_TRANSITIONS.true
 
 pub loop-k-init : goal.loop-k-init
 loop-k-init c = sofar_none c.if-n-gt-MAX_TRANSITIONS.false c.clear.ensures
@@ -17,9 +13,6 @@ loop-k-preserved-else-c-lt-MAX_CONSTRUCTORS c = sofar_constructor c.loop-k.invar
 
 pub loop-k-preserved : goal.loop-k-preserved
 loop-k-preserved c = sofar_state c.loop-k.invariant c.loop-k-test.true _ c.place_at-at.ensures _ _ c.byte_at-q.ensures.value c.byte_at-c.ensures.value c.if-q-lt-MAX_STATES.false
-
-pub shape_of-index : goal.shape_of-index
-shape_of-index c = c.loop-k.invariant.long ∙ c.clear.ensures.long
 
 pub returns : goal.returns
 returns c = all_rows c.clear.ensures c.loop-k.invariant c.loop-k-test.false
