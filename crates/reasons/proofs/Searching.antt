@@ -38,24 +38,10 @@ module _ (x : Case) (memo users : List ℕ) (g : ℕ) where
     pub keeps : Keeps x memo users memo' users'
     pub comes : (w : World) → Ready x w memo users → (u : Term) (σ : Ty) → Lacks w 0 g u σ → ComesTo w (reason_at w 0 u σ) at wanted
 
-  pub come_start : Come memo users 0 g
-  come_start = record { keeps = keeps_all x memo users; comes = λ w r u σ l. record { term = u; type = σ; lacks = l; same_reason = refl } }
-
   module _ {memo' users' : List ℕ} {at wanted : ℕ} (k : Come memo' users' at wanted) where
     -- no body has that many nodes
     pub come_past : max_nodes ≤ at → Searches x memo users g memo' users' at wanted
     come_past h = record { keeps = k.keeps; found = λ w r u σ l. let c = k.comes w r u σ l in let i = inside r.setting at c.term c.lacks.here in absurd (omega arith) }
-
-    -- the search goes on from the next node and goal
-    pub come_on : (memo'' users'' : List ℕ) (next : Declared.Reason) → Steps x memo' users' at wanted memo'' users'' (Some next) → Come memo'' users'' next.node next.goal
-    come_on memo'' users'' next step =
-        record {
-          keeps = keeps_on k.keeps step.keeps;
-          comes = λ w r u σ l.
-              let c = k.comes w r u σ l in
-              let (behind, d) = step.stepped w (ready_on k.keeps r) c.term c.type c.lacks in
-              record { term = d.term; type = d.type; lacks = d.lacks; same_reason = c.same_reason ∙ d.same_reason };
-        }
 
     -- it ends where there is no next one behind
     pub come_end : (memo'' users'' : List ℕ) (next : Option Declared.Reason) → Steps x memo' users' at wanted memo'' users'' next → MatchOption next ⊤ (λ n. n.node ≤ at) → Searches x memo users g memo'' users'' at wanted

@@ -3,30 +3,15 @@ ghost use Rattle.std.specs.Prelude.{◌≡◌};
 ghost use Rattle.term_check.specs.Worlds.{case_of};
 ghost use Rattle.reasons.specs.leading.Leading.{LeadsFirst};
 
-use index::layout::ROW_LIMIT;
-use marks::next_in;
 use tables::reading::{Node, group_of, many_of, member_of, off};
-use term_check::heads::{given_for, leading};
-use term_check::notes::candidates_at;
+use term_check::heads::{given_for, next_leading};
 
 // The type of the first kept binding of a nonterminal that leads to a goal.
 fn first_bound(t: &[u16], r: &[u32], node: Node, goal: usize) -> Option<usize>
     ensures { node.tag ≡ 1 → LeadsFirst (case_of t.now r.now) node goal result }
 {
-    let row = candidates_at(r, goal);
-    let high = group_of(t, node.number % ROW_LIMIT + 1);
-    let mut from = group_of(t, node.number);
-    while from < high {
-        let c = next_in(r, row, from, high);
-        from = c + 1;
-        if high <= c {
-            return None;
-        }
-        if let Some(ty) = leading(t, node.count, goal, c) {
-            return Some(ty);
-        }
-    }
-    None
+    let found = next_leading(t, r, node, goal, group_of(t, node.number))?;
+    Some(found.ty)
 }
 
 // The first member given for a parameter that leads to a goal.

@@ -4,3 +4,4 @@ pub mod Matching
 pub mod Building
 pub mod Looking
 pub mod Wanting
+pub mod Next

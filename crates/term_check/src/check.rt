@@ -7,19 +7,15 @@ ghost use Rattle.term_check.specs.heads.Heads.{Tries};
 ghost use Rattle.term_check.specs.Worlds.{case_of, answers_of, users_of, ChecksTerm, ChecksMembers, ChecksAll, Finds, Settles, ChecksArgs, ChecksTargets};
 
 use crate::heads::{
-    all_had, alone, args_known, candidate, given_for, goes_down, leading, leaf_states, look,
+    all_had, alone, args_known, candidate, given_for, goes_down, leaf_states, look, next_leading,
     state_targets, targets_for, wanted,
 };
 use crate::hints::{bound_hint, hint_in, node_hint};
 use crate::masks::{has_bit, left_of, lowest, without_bit};
-use crate::notes::{candidates_at, number_in};
+use crate::notes::number_in;
 use crate::parts::{learn_in, note_in, outlook_on};
 use answers::Outlook;
-use index::layout::{
-    FEW_HINTS, MAX_NODES, ROW_LIMIT, TEST_BASE, TEST_CELLS, TEST_USERS, TEST_WORDS, WORD,
-    WORDS_LIMIT,
-};
-use marks::next_in;
+use index::layout::{FEW_HINTS, MAX_NODES, TEST_BASE, TEST_USERS, WORD};
 use tables::bits::with_bit;
 use tables::reading::{
     Node, arrows_of, group_of, many_of, member_of, node_of, off, result_of, states_of,
@@ -141,22 +137,14 @@ fn check_listed(t: &[u16], r: &[u32], w: &mut [u32], at: usize, goal: usize, nod
     requires { at < max_nodes }
     ensures { (length w.new ≡ length w.old) × (node ≡ node_at t.now (base_in r.now) at → node.tag ≡ 1 → ChecksTerm (case_of t.now r.now) (answers_of r.now w.old) (users_of r.now w.old) at goal (answers_of r.now w.new) (users_of r.now w.new) result) }
 {
-    let row = candidates_at(r, goal);
-    let high = group_of(t, node.number % ROW_LIMIT + 1);
     let mut from = group_of(t, node.number);
-    while from < high {
-        let c = next_in(r, row, from, high);
-        from = c + 1;
-        if high <= c {
-            return false;
+    while let Some(found) = next_leading(t, r, node, goal, from) {
+        if check_args(t, r, w, at + 1, node.count, found.ty) {
+            note_in(r, w, found.binding);
+            hint_in(r, w, at, node.number, goal, found.binding);
+            return true;
         }
-        if let Some(ty) = leading(t, node.count, goal, c) {
-            if check_args(t, r, w, at + 1, node.count, ty) {
-                note_in(r, w, c);
-                hint_in(r, w, at, node.number, goal, c);
-                return true;
-            }
-        }
+        from = found.binding + 1;
     }
     false
 }

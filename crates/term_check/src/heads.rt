@@ -1,22 +1,19 @@
 // The types of a head against a goal, and what is known of an argument without a check.
-ghost use Rattle.std.specs.Prelude.{◌≡◌, ◌/◌, ◌^◌, ◌≤◌, ◌<◌, true};
+ghost use Rattle.std.specs.Prelude.{◌≡◌, ◌/◌, ◌^◌, ◌≤◌, ◌<◌, true, MatchOption, ⊤};
 ghost use Rattle.index.specs.layout.Layout.{max_states};
 ghost use Rattle.tables.specs.reading.Cells.{node_at};
 ghost use Rattle.term_check.specs.notes.Notes.{base_in};
 ghost use Rattle.term_check.specs.Worlds.{case_of, answers_of};
-ghost use Rattle.term_check.specs.heads.Heads.{IsGiven, IsCandidate, IsLeading, Matches, IsTargets, Leaf, Alone, Seen, AllHad, ArgsKnown, Wanted};
+ghost use Rattle.term_check.specs.heads.Heads.{IsGiven, IsCandidate, IsLeading, NextLeads, Matches, IsTargets, Leaf, Alone, Seen, AllHad, ArgsKnown, Wanted};
 
 use crate::masks::{has_bit, left_of};
 use crate::notes::{candidates_at, number_in};
 use crate::parts::outlook_in;
 use answers::Outlook;
-use index::layout::{
-    MAX_CONSTRUCTORS, MAX_STATES, NONE, ROW_LIMIT, TEST_BINDINGS, TEST_CELLS, TEST_OWN, TEST_WORDS,
-    WORD, WORDS_LIMIT,
-};
-use marks::is_in;
+use index::layout::{MAX_CONSTRUCTORS, MAX_STATES, NONE, ROW_LIMIT, TEST_BINDINGS, TEST_OWN, WORD};
+use marks::{is_in, next_in};
 use tables::reading::{
-    Node, arity_of, arrows_of, end_of, many_of, mask_of, member_of, near_of, off, own_of,
+    Node, arity_of, arrows_of, end_of, group_of, many_of, mask_of, member_of, near_of, off, own_of,
     present_of, result_of, states_of, symbol_of, targets_of,
 };
 
@@ -35,6 +32,33 @@ pub fn leading(t: &[u16], count: usize, goal: usize, c: usize) -> Option<usize>
 {
     let ty = own_of(t, c);
     (off(t, ty, count) == goal).then_some(ty)
+}
+
+// A kept binding that leads to a goal, and its type.
+#[derive(Drop)]
+pub struct Listed {
+    pub binding: usize,
+    pub ty: usize,
+}
+
+// The first kept binding of the nonterminal of a node, from one on, that leads to a goal.
+pub fn next_leading(t: &[u16], r: &[u32], node: Node, goal: usize, from: usize) -> Option<Listed>
+    ensures { MatchOption result ⊤ (λ found. found.binding < 65536) × NextLeads (case_of t.now r.now) node goal from result }
+{
+    let row = candidates_at(r, goal);
+    let high = group_of(t, node.number % ROW_LIMIT + 1);
+    let mut next = from;
+    while next < high {
+        let binding = next_in(r, row, next, high);
+        if high <= binding {
+            return None;
+        }
+        if let Some(ty) = leading(t, node.count, goal, binding) {
+            return Some(Listed { binding, ty });
+        }
+        next = binding + 1;
+    }
+    None
 }
 
 // The type of binding c, where it is a kept one of a nonterminal whose type with arrows off is the goal.

@@ -49,9 +49,6 @@ module _ (x : Case) (a : Node) (goal given : ℕ) where
   pub record Tried (j : ℕ) : Type 0 where
     pub misses : (k : ℕ) → k < j → Misses k
 
-  pub tried_start : Tried 0
-  tried_start = record { misses = λ k h. absurd (omega arith) }
-
   module _ (j ty : ℕ) (is-ty : ty ≡ member_of_spec x.t given j) where
     member_goal : (w : World) → Setting x w → (b : Tys) (r : Ty) → Goal w.rs given (arrow b r) → j < length (members b) → Goal w.rs ty (get_or (members b) j (state 0))
     member_goal w s b r g h = subst (λ k. Goal w.rs k (get_or (members b) j (state 0))) (sym is-ty) ((s.types.arrow_row given b r g).member j h)

@@ -162,13 +162,6 @@ module _ (x : Case) (memo users : List ℕ) (first n targets : ℕ) where
     pub keeps : Keeps x memo users memo' users'
     pub still : (w : World) (ts : Terms) (qs : List ℕ) (q : ℕ) → TargetsLack x memo users first n targets w ts qs q → StillTargets w (lacking same (heads_of w) first ts (takes qs q)) q here rest left
 
-  pub targets_start : SeekingTargets memo users first targets n
-  targets_start =
-      record {
-        keeps = keeps_all x memo users;
-        still = λ w ts qs q a. record { terms = ts; states = qs; are = a.are; sought = record { all = a.all; count = a.count; lack = a.lack; same_reason = refl; on = omega arith } };
-      }
-
   module _ {memo' users' : List ℕ} {here rest left : ℕ} (k : SeekingTargets memo' users' here rest left) where
     pub targets_end : left ≤ 0 → LacksTarget x memo users first n targets memo' users' None
     targets_end l = record { keeps = k.keeps; comes = λ w ts qs q a. sought_none (k.still w ts qs q a).sought l }

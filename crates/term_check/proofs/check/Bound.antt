@@ -1,5 +1,5 @@
 -- A nonterminal in front: its kept bindings are tried, first by a hint, then all that lead to the goal.
-use Prim.Native.Nat.{ℕ, suc, ◌+◌, ◌*◌, ◌%◌, ◌<◌, ◌≤◌}
+use Prim.Native.Nat.{ℕ, suc, ◌<◌, ◌≤◌}
 use native.Mathlib.Omega.{arith}
 use native.Mathlib.Decide.{dec_lt, ℕ_discrete}
 use mathlib.Core.Path.{◌≡◌, refl, sym, ap, subst, ◌∙◌}
@@ -8,20 +8,15 @@ use mathlib.Core.List.{List}
 use mathlib.Core.Option.{some}
 use Rattle.scheme.specs.Terms.{nt, Term, node, Terms, countᵗ}
 use Rattle.scheme.specs.Types.{Ty, off}
-use lib.ListN.{get_or}
-use Rattle.std.specs.Prelude.{Option, Some, None}
-use Rattle.index.specs.layout.Layout.{row_limit, words_limit, test_words}
-use Rattle.marks.specs.Marks.{In, FindsNext}
+use Rattle.std.specs.Prelude.{Some, None}
 use Rattle.tables.specs.reading.Cells.{group_of, node_at}
 use Rattle.tables.specs.declared.reading.Node.{Node}
 use Rattle.tables.specs.Facts.{Goal, At, AllAt, head_by, binding_at}
-use Rattle.term_check.specs.notes.Notes.{base_in, words_in, Notes}
-use Rattle.term_check.specs.heads.Heads.{Fails, Tries, IsLeading, IsCandidate}
-use Rattle.term_check.specs.Worlds.{Case, World, Has, Setting, Ready, Includes, Keeps, ChecksTerm, ChecksArgs, symbols}
-use Rattle.term_check.proofs.Goals.{goal_below}
+use Rattle.term_check.specs.notes.Notes.{base_in, Notes}
+use Rattle.term_check.specs.heads.Heads.{Fails, Tries, Leads, Misses, IsCandidate}
+use Rattle.term_check.specs.Worlds.{Args, Case, World, Has, Setting, Ready, Includes, Keeps, ChecksTerm, ChecksArgs, symbols}
 use Rattle.term_check.proofs.Rules.{bound_has, bound_had}
 use Rattle.term_check.proofs.Places.{behind_head}
-use Rattle.term_check.proofs.heads.Candidates.{candidate_is}
 use Rattle.term_check.proofs.check.Keeping.{includes_less, keeps_all, keeps_on, keeps_note, ready_on}
 
 -- the head of the term at a node, by the node's tag and number
@@ -78,10 +73,6 @@ module _ (x : Case) (memo users : List ℕ) (at goal : ℕ) (a : Node) (c : ℕ)
             let kept_there = inc c leads.inside (record { is_kept_law = leads.is_kept_law; noted = n.noted room.owner (room.columns c leads.inside) (room.briefs c leads.inside) }) in
             subst (λ z. Has w flags z σ) (sym eh) (bound_has w flags ts σ a.number c leads.inside kept_there leads.symbol (subst (λ k. off k (binding_at w.rs c).type ≡ some σ) (sym count) leads.rest) args)
 
--- the entry behind that of a nonterminal
-pub next_group : (t : List ℕ) (f : ℕ) → group_of t (f % row_limit + 1) ≡ group_of t (suc f)
-next_group t f = let e : (f % row_limit + 1) % row_limit ≡ suc f % row_limit = omega arith in rw (e) refl
-
 -- All of them, one after another.
 module _ (x : Case) (memo users : List ℕ) (at goal : ℕ) (a : Node) where
   -- those from the first of the nonterminal on, and before one, do not serve
@@ -94,9 +85,6 @@ module _ (x : Case) (memo users : List ℕ) (at goal : ℕ) (a : Node) where
     pub keeps : Keeps x memo users memo' users'
     pub last : from ≡ suc c
     pub fails : (w : World) → Ready x w memo users → (d : ℕ) → group_of x.t a.number ≤ d → d < from → (d ≡ c → ⊥) → Fails w at goal a d
-
-  pub failed_start : (from : ℕ) → from ≡ group_of x.t a.number → Failed memo users from
-  failed_start from e = record { keeps = keeps_all x memo users; fails = λ w r d l h. absurd (omega arith) }
 
   module _ {memo' users' : List ℕ} {from c : ℕ} (t : Tried memo' users' from c) where
     -- it does not serve either
@@ -120,14 +108,10 @@ module _ (x : Case) (memo users : List ℕ) (at goal : ℕ) (a : Node) where
       pub tried_fails : b ≡ false → Failed memo'' users'' from
       tried_fails e = failed_more memo'' users'' (keeps_on t.keeps (told ea et).keeps) (λ w r. (told ea et).no e w (ready_on t.keeps r))
 
-    -- none of those before the end serves
-    pub tried_none : (high : ℕ) → high < from → Failed memo' users' high
-    tried_none high l = record { keeps = t.keeps; fails = λ w r d low h. t.fails w r d low (omega arith) (λ e. let k = t.last in omega arith) }
-
   module _ {memo' users' : List ℕ} {from : ℕ} (f : Failed memo' users' from) where
     -- no binding of the nonterminal serves
-    pub failed_end : (high : ℕ) → high ≡ group_of x.t (a.number % row_limit + 1) → high ≤ from → a ≡ node_at x.t (base_in x.test) at → a.tag ≡ 1 → ChecksTerm x memo users at goal memo' users' false
-    failed_end high eh l ea et =
+    pub failed_end : ((c : ℕ) → from ≤ c → Misses x a.number a.count goal c) → a ≡ node_at x.t (base_in x.test) at → a.tag ≡ 1 → ChecksTerm x memo users at goal memo' users' false
+    failed_end behind ea et =
         record {
           keeps = f.keeps;
           yes = λ y. absurd (true≢false (sym y));
@@ -138,40 +122,23 @@ module _ (x : Case) (memo users : List ℕ) (at goal : ℕ) (a : Node) where
         none w r u σ g has (split ts eu al count few) =
             let eh' : u ≡ node (nt a.number) ts = eu ∙ ap (λ h. node h ts) (head_bound a.tag a.number et) in
             let (c', inside, kept, symbol, rest, args) = bound_had w w.kept ts σ a.number (subst (λ z. Has w w.kept z σ) eh' has) in
-            let (low, below) = r.setting.bindings.grouped c' inside in
-            let low' : group_of x.t a.number ≤ c' = subst (λ f. group_of x.t f ≤ c') symbol low in
-            let below' : c' < high = subst (λ k. c' < k) (sym (eh ∙ next_group x.t a.number)) (subst (λ f. c' < group_of x.t (suc f)) symbol below) in
-            f.fails w r c' low' (omega arith) σ g ts al count few
-            (record { inside = inside; is_kept_law = kept; symbol = symbol; rest = subst (λ k. off k (binding_at w.rs c').type ≡ some σ) count rest }) args
+            let low : group_of x.t a.number ≤ c' = subst (λ f. group_of x.t f ≤ c') symbol (r.setting.bindings.grouped c' inside).0 in
+            let leads : Leads w a.number a.count σ c' = record { inside = inside; is_kept_law = kept; symbol = symbol; rest = subst (λ k. off k (binding_at w.rs c').type ≡ some σ) count rest } in
+            by c' low leads args (dec_lt c' from)
+          where
+            by : (c : ℕ) → group_of x.t a.number ≤ c → Leads w a.number a.count σ c → Args (Has w w.kept) ts (binding_at w.rs c).type → Dec (c < from) → ⊥
+            by c low leads args (yes h) = f.fails w r c low h σ g ts al count few leads args
+            by c low leads args (no h) = behind c (omega arith) w r.setting σ g few leads
 
     -- the next one that leads to the goal
-    pub try_next : (c high from' row : ℕ) → row ≡ goal % row_limit * words_in x.test → FindsNext x.sets row from high c → from' ≡ suc c → Tried memo' users' from' c
-    try_next c high from' row er next ef =
+    pub try_next : (c from' : ℕ) → ((d : ℕ) → from ≤ d → d < c → Misses x a.number a.count goal d) → from' ≡ suc c → Tried memo' users' from' c
+    try_next c from' passed ef =
         record { keeps = f.keeps; last = ef; fails = λ w r d l h ne. by w r d l (omega arith) ne (dec_lt d from) }
       where
         by : (w : World) → Ready x w memo users → (d : ℕ) → group_of x.t a.number ≤ d → d ≤ c → (d ≡ c → ⊥) → Dec (d < from) → Fails w at goal a d
         by w r d l h ne (yes k) σ g ts al count few leads args = f.fails w r d l k σ g ts al count few leads args
-        by w r d l h ne (no k) σ g ts al count few leads args =
-            let below = goal_below r.setting.types g in
-            let e : row ≡ goal * words_in x.test = er ∙ ap (λ k. k * words_in x.test) (let m : goal % row_limit ≡ goal = omega arith in m) in
-            next.passed d (omega arith) (omega arith) (subst (λ k. In x.sets k d) (sym e) (r.setting.candidates.all_in d leads.inside leads.is_kept_law a.count goal σ few leads.rest g))
+        by w r d l h ne (no k) σ g ts al count few leads args = passed d (omega arith) (omega arith) w r.setting σ g few leads
 
 -- a binding that serves decides
 pub served : {x : Case} {memo users memo' users' : List ℕ} (at : ℕ) {goal : ℕ} {a : Node} {c : ℕ} → a ≡ node_at x.t (base_in x.test) at → a.tag ≡ 1 → {b : Bool} → Tries x memo users at goal a c memo' users' b → b ≡ true → ChecksTerm x memo users at goal memo' users' true
 served at ea et told e = record { keeps = (told ea et).keeps; yes = λ y. (told ea et).yes e; no = λ y. absurd (true≢false y) }
-
--- what is found below the end is in the set of the goal, and one of the nonterminal
-pub listed_is : (x : Case) (number n goal from high c : ℕ) (r : Option ℕ) → FindsNext x.sets (goal % row_limit * words_in x.test) from high c → c < high → group_of x.t number ≤ from → high ≡ group_of x.t (number % row_limit + 1)
-    → IsLeading x.t n goal c r → IsCandidate x number n goal c r
-listed_is x number n goal from high c r next h low eh leading =
-    let (behind, is-in) = next.found h in
-    candidate_is x number n goal c r is-in
-    (λ w s known. s.bindings.between number c known (omega arith) (subst (λ g. c < g) (eh ∙ next_group x.t number) h)) leading
-
--- what is found stands behind where the search began
-pub next_behind : (words : List ℕ) (row from high c : ℕ) → FindsNext words row from high c → from ≤ high → from ≤ c
-next_behind words row from high c n h = go (dec_lt c high)
-  where
-    go : Dec (c < high) → from ≤ c
-    go (yes l) = (n.found l).0
-    go (no l) = omega arith

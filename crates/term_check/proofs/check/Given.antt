@@ -38,9 +38,6 @@ module _ (x : Case) (memo users : List ℕ) (at goal : ℕ) (a : Node) (given : 
     pub keeps : Keeps x memo users memo' users'
     pub fails : (w : World) → Ready x w memo users → (k : ℕ) → k < j → Fails w k
 
-  pub given_start : Tried memo users 0
-  given_start = record { keeps = keeps_all x memo users; fails = λ w r k h. absurd (omega arith) }
-
   pub tried_on : {memo' users' memo'' users'' : List ℕ} {j : ℕ} → Keeps x memo' users' memo'' users'' → Tried memo' users' j → Tried memo'' users'' j
   tried_on k t = record { keeps = keeps_on t.keeps k; fails = t.fails }
 

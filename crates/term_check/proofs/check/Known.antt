@@ -19,9 +19,6 @@ use Rattle.term_check.proofs.check.Members.{states_had}
 use Rattle.term_check.proofs.check.Arguments.{args_none, args_rest}
 
 module _ (x : Case) (memo : List ℕ) (at n g : ℕ) where
-  pub known_not : {b : Bool} → b ≡ false → ArgsKnown x memo at n g b
-  known_not e = record { have = λ y. absurd (true≢false (sym y ∙ e)) }
-
   -- one argument, whose members are states that are remembered
   pub known_states : n ≡ 1 → arrows_of_spec x.t g ≡ 0 → (states : ℕ) → states ≡ states_of_spec x.t g → states < 65536 → (known : Outlook) → Looks memo (wide_in x.test) (stamp_in x.test) at 0 known → (left : ℕ) → Leaves states known.had left
       → ArgsKnown x memo at n g (eqb left 0)

@@ -130,16 +130,10 @@ module _ (x : Case) (memo users : List ℕ) (at g : ℕ) where
     pub keeps : Keeps x memo users memo' users'
     pub had : (w : World) → Ready x w memo users → (k : ℕ) → k < j → Yes x w users' at (member_of_spec x.t g k)
 
-  pub asked_start : Asked memo users 0
-  asked_start = record { keeps = keeps_all x memo users; had = λ w r k h. absurd (omega arith) }
-
   -- what was known last of the goals of a word
   pub record Recalled (users' : List ℕ) (last : Option (ℕ × Outlook)) : Type 0 where
     pub yes : (w : World) → Ready x w memo users → (h : ℕ) (known : Outlook) → last ≡ Some (h / word_bits, known) → bit_of (h % word_bits) known.had ≡ 1 → Yes x w users' at h
     pub no : (w : World) → Ready x w memo users → (h : ℕ) (known : Outlook) → last ≡ Some (h / word_bits, known) → bit_of (h % word_bits) known.lacked ≡ 1 → No x w at h
-
-  pub recalled_none : Recalled users None
-  recalled_none = record { yes = λ w r h known e. absurd (none-some _ e); no = λ w r h known e. absurd (none-some _ e) }
 
   pub recalled_more : {users' users'' : List ℕ} {last : Option (ℕ × Outlook)} → Grows users' users'' → Recalled users' last → Recalled users'' last
   recalled_more {users'} {users''} more is = record { yes = λ w r h known e o. yes_more x w users' users'' more at h (is.yes w r h known e o); no = is.no }

@@ -16,8 +16,8 @@ use Rattle.term_check.specs.masks.Masks.{TakesOut}
 use Rattle.term_check.specs.notes.Notes.{own_in_spec, base_in}
 use Rattle.term_check.specs.heads.Heads.{Wanted}
 use Rattle.term_check.specs.Worlds.{Case, Finds, Settles, ChecksTerm, ChecksArgs}
-use Rattle.term_check.proofs.check.States.{finds_none, finds_on, finds_more}
-use Rattle.term_check.proofs.check.Given.{Tried, given_start, given_end, tried_on, member_misses, member_fails, member_has}
+use Rattle.term_check.proofs.check.States.{finds_on, finds_more}
+use Rattle.term_check.proofs.check.Given.{Tried, given_end, tried_on, member_misses, member_fails, member_has}
 
 module _ (x : Case) (memo users : List ℕ) (at asked : ℕ) (a : Node) (given : ℕ) where
   -- before member j: what is found so far; and for what is still asked for none of the members before serves
@@ -25,9 +25,6 @@ module _ (x : Case) (memo users : List ℕ) (at asked : ℕ) (a : Node) (given :
     pub finds : Finds x memo users at memo' users' had
     pub within : (q : ℕ) → bit_of q left ≡ 1 → bit_of q asked ≡ 1
     pub tried : (q : ℕ) → bit_of q left ≡ 1 → Tried x memo users at q a given memo' users' j
-
-  pub sought_start : Sought memo users 0 asked 0
-  sought_start = record { finds = finds_none x memo users at; within = λ q b. b; tried = λ q b. given_start x memo users at q a given }
 
   module _ {memo' users' : List ℕ} {had left j : ℕ} (s : Sought memo' users' had left j) where
     module _ (ty : ℕ) (is-ty : ty ≡ member_of_spec x.t given j) (j' : ℕ) (ej : j' ≡ suc j) where

@@ -220,9 +220,6 @@ leaf_targets t c q present arity low hc ep b ea z =
     }
 
 module _ (t : List ℕ) (a : Node) (asked : ℕ) where
-  pub leaf_nothing : Leaf t a asked (record { had = 0; lacked = 0 })
-  leaf_nothing = record { had = λ q b. let z = zero_bit q in absurd (omega arith); lacked = λ q b. let z = zero_bit q in absurd (omega arith) }
-
   pub leaf_decided : (present arity : ℕ) → a.count ≡ 0 → a.number < max_constructors → arity ≡ arity_of_spec t a.number → arity ≡ 0 → asked ≤ 65535 → present ≡ present_of_spec t a.number → Leaf t a asked (record { had = bit_and asked present; lacked = asked - bit_and asked present })
   leaf_decided present arity none hc ea z few ep =
       record {

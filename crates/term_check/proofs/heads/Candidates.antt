@@ -2,17 +2,16 @@
 use Prim.Native.Nat.{ℕ, ◌*◌, ◌%◌, ◌<◌, ◌≤◌}
 use native.Mathlib.Omega.{arith}
 use native.Mathlib.Nat.{mul-le-mul}
-use mathlib.Core.Path.{◌≡◌, refl, sym, ap, ap₂, subst, ◌∙◌}
+use mathlib.Core.Path.{◌≡◌, refl, sym, ap, subst, ◌∙◌}
 use mathlib.Core.Bool.{Bool, true, false}
 use mathlib.Core.List.{List}
-use lib.ListN.{get_or}
 use lib.Dec.{eqb}
 use borrow.Author.Tests.{eqb-true, eqb-false}
 use Rattle.std.specs.Prelude.{Option, Some, None}
 use Rattle.std.specs.Bool.{then_some}
 use Rattle.std.proofs.lemmas.Option.{none-some, same_Some}
 use Rattle.scheme.specs.Types.{Ty}
-use Rattle.index.specs.layout.Layout.{row_limit, words_limit, test_words}
+use Rattle.index.specs.layout.Layout.{row_limit, words_limit}
 use Rattle.marks.specs.Marks.{In, Decides}
 use Rattle.tables.specs.reading.Cells.{symbol_of, own_of, off_of}
 use Rattle.tables.specs.Facts.{Goal, binding_at}
@@ -32,14 +31,8 @@ module _ (x : Case) (number n goal c : ℕ) where
   place : (w : World) → Setting x w → (σ : Ty) → Goal w.rs goal σ → goal % row_limit * words_in x.test ≡ goal * words_in x.test
   place w s σ g = let h = goal_below s.types g in ap (λ a. a * words_in x.test) (let i : goal % row_limit ≡ goal = omega arith in i)
 
-  pub past_all : (m : ℕ) → m ≡ total_in x.test → m ≤ c → IsCandidate x number n goal c None
-  past_all m e h = missing (λ w s σ g few l. let a = s.all_bindings_law in let i = l.inside in omega arith)
-
   pub not_in_set : (b : Bool) → Decides x.sets (goal % row_limit * words_in x.test) c b → b ≡ false → IsCandidate x number n goal c None
   not_in_set b d f = missing (λ w s σ g few l. d.no f (subst (λ a. In x.sets a c) (sym (place w s σ g)) (s.candidates.all_in c l.inside l.is_kept_law n goal σ few l.rest g)))
-
-  pub other_symbol : (f : ℕ) → f ≡ symbol_of x.t c → (f ≡ number → ⊥) → IsCandidate x number n goal c None
-  other_symbol f e d = missing (λ w s σ g few l. d (e ∙ s.bindings.symbol c l.inside ∙ l.symbol))
 
   -- a binding that is in the set of the goal, and of which it is known that it is one of the nonterminal
   pub candidate_is : (r : Option ℕ) → In x.sets (goal % row_limit * words_in x.test) c → ((w : World) → Setting x w → number < symbols w → (c < total w) × ((binding_at w.rs c).nonterminal ≡ number))
@@ -66,18 +59,3 @@ module _ (x : Case) (number n goal c : ℕ) where
 -- a binding is below all, and has the nonterminal
 pub stands_by : (x : Case) (number c m f : ℕ) → m ≡ total_in x.test → c < m → f ≡ symbol_of x.t c → f ≡ number → (w : World) → Setting x w → number < symbols w → (c < total w) × ((binding_at w.rs c).nonterminal ≡ number)
 stands_by x number c m f all h fs fn w s known = let a = s.all_bindings_law in let inside : c < total w = omega arith in (inside, sym (s.bindings.symbol c inside) ∙ sym fs ∙ fn)
-
--- the type of a binding, by the table
-module _ (t : List ℕ) (n goal c ty r : ℕ) (own : ty ≡ own_of t c) (o : r ≡ off_of t n ty) where
-  leading_not : (r ≡ goal → ⊥) → IsLeading t n goal c None
-  leading_not d = record { leads = λ other e. absurd (none-some other e); misses = λ z e. d (o ∙ ap (off_of t n) own ∙ e) }
-
-  leading_is : r ≡ goal → IsLeading t n goal c (Some ty)
-  leading_is e = record { leads = λ other f. let same = sym (same_Some ty other f) in (same ∙ own, ap (off_of t n) same ∙ sym o ∙ e); misses = λ z. absurd (none-some ty (sym z)) }
-
-  pub leading_where : (found : Option ℕ) → found ≡ then_some (eqb r goal) ty → IsLeading t n goal c found
-  leading_where found e = subst (IsLeading t n goal c) (sym e) (go (eqb r goal) refl)
-    where
-      go : (b : Bool) → eqb r goal ≡ b → IsLeading t n goal c (then_some b ty)
-      go true f = leading_is (eqb-true r goal f)
-      go false f = leading_not (eqb-false r goal f)

@@ -120,9 +120,6 @@ module _ (x : Case) (nd : Node) (goal : ℕ) where
 
 -- all members of an arrow, where they stand in one cell and are known to be had
 module _ (x : Case) (memo : List ℕ) (i g : ℕ) where
-  pub had_unseen : {b : Bool} → b ≡ false → AllHad x memo i g b
-  had_unseen e = record { had = λ y. absurd (true≢false (sym y ∙ e)) }
-
   pub had_seen : (near mask : ℕ) (known : Outlook) (left : ℕ) → near ≡ near_of_spec x.t g → (near ≡ no_number → ⊥) → mask ≡ mask_of x.t g → Looks memo (wide_in x.test) (stamp_in x.test) i (near * 32) known → Leaves mask known.had left → AllHad x memo i g (eqb left 0)
   had_seen near mask known left en there em looks leaves = record { had = λ y w users ready a ρ ga j h. having (eqb-true left 0 y) w users ready a ρ ga j h }
     where

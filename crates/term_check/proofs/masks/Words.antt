@@ -1,5 +1,5 @@
 -- Sets of goals below 32 as the bits of a word.
-use Prim.Native.Nat.{ℕ, ◌*◌, ◌-◌, ◌/◌, ◌%◌, ◌^◌, ◌<◌, ◌≤◌}
+use Prim.Native.Nat.{ℕ, ◌*◌, ◌/◌, ◌%◌, ◌^◌, ◌<◌, ◌≤◌}
 use native.Mathlib.Omega.{arith}
 use native.Mathlib.Decide.{dec_lt, ℕ_discrete}
 use mathlib.Core.Path.{◌≡◌, sym, ap, subst, ◌∙◌}
@@ -14,17 +14,6 @@ use Rattle.std.proofs.lemmas.Nat.Bits.{bit_at_not, bit_at_clear_same, bit_at_cle
 use Rattle.marks.specs.Marks.{bit_of}
 use Rattle.marks.proofs.Bits.{bit_small, bit_two, high_bit, and_bit, zeros_end, zeros_few}
 use Rattle.term_check.specs.masks.Masks.{HasBit, Lowest, TakesOut, Leaves}
-
-pub bit_decided : (word k : ℕ) → HasBit word k (eqb (word / 2 ^ (k % 32) % 2) 1)
-bit_decided word k =
-    record {
-      yes = eqb-true (bit_of (k % 32) word) 1;
-      no = λ f. let s = bit_small (k % 32) word in let n = eqb-false (bit_of (k % 32) word) 1 f in go (bit_two (k % 32) word) n;
-    }
-  where
-    go : (bit_of (k % 32) word ≡ 0) ⊎ (bit_of (k % 32) word ≡ 1) → (bit_of (k % 32) word ≡ 1 → ⊥) → bit_of (k % 32) word ≡ 0
-    go (inl z) n = z
-    go (inr o) n = absurd (n o)
 
 pub lowest_bit : (word : ℕ) → word < 2 ^ 32 → Lowest word (count_trailing_zeros 32 word)
 lowest_bit word h = record { within = zeros_few 32 32 word h; has = λ nz. zeros_end 32 word (zeros_few 32 32 word h nz) }

@@ -1,17 +1,18 @@
 -- What our own crates promise each other; nothing here has to be believed.
 -- The types of a head against a goal, and what is known of an argument without a check.
-use Rattle.std.specs.Prelude.{ℕ, suc, ◌/◌, ◌%◌, ◌^◌, ◌<◌, ◌≡◌, Bool, true, false, Option, Some, None, List, length, get_or}
+use Rattle.std.specs.Prelude.{ℕ, suc, ◌+◌, ◌/◌, ◌%◌, ◌^◌, ◌<◌, ◌≤◌, ◌≡◌, MatchOption, Bool, true, false, Option, Some, None, List, length, get_or}
 use Rattle.std.proofs.Math.Option.{some}
 use Rattle.scheme.specs.Terms.{Terms, countᵗ}
 use Rattle.scheme.specs.Types.{Ty, state, arrow, Tys, members, takes, final, off}
 use Rattle.scheme.specs.Flags.{is_kept}
 use Rattle.casefile.specs.Tables.{transitions_of, targets_at}
-use Rattle.index.specs.layout.Layout.{max_states, no_number, word_bits}
+use Rattle.index.specs.layout.Layout.{max_states, no_number, row_limit, word_bits}
 use Rattle.marks.specs.Marks.{bit_of}
-use Rattle.tables.specs.reading.Cells.{member_of_spec, node_at, own_of, off_of}
+use Rattle.tables.specs.reading.Cells.{member_of_spec, node_at, own_of, off_of, group_of}
 use Rattle.tables.specs.declared.reading.Node.{Node}
 use Rattle.tables.specs.Facts.{Goal, AllAt, TypesAre, binding_at}
 use Rattle.answers.specs.declared.Outlook.{Outlook}
+use Rattle.term_check.specs.declared.heads.Listed.{Listed}
 use Rattle.term_check.specs.notes.Notes.{own_in_spec, base_in}
 use Rattle.term_check.specs.Worlds.{Args, Case, World, Has, Setting, Ready, Tells, Yes, No, ArgsYes, Targets, total, symbols}
 
@@ -47,6 +48,16 @@ pub record IsCandidate (x : Case) (number n goal c : ℕ) (r : Option ℕ) : Typ
   pub leads : (ty : ℕ) → r ≡ Some ty → (w : World) → Setting x w → number < symbols w → (σ : Ty) → Goal w.rs goal σ → Leads w number n σ c
   pub owns : (ty : ℕ) → r ≡ Some ty → (w : World) → Setting x w → c < total w → Goal w.rs ty (binding_at w.rs c).type
   pub misses : r ≡ None → (w : World) → Setting x w → (σ : Ty) → Goal w.rs goal σ → n < 256 → Leads w number n σ c → ⊥
+
+-- binding c is not kept, or it does not lead to the goal
+abbrev pub Misses : Case → ℕ → ℕ → ℕ → ℕ → Type 0
+Misses x number n goal c = (w : World) → Setting x w → (σ : Ty) → Goal w.rs goal σ → n < 256 → Leads w number n σ c → ⊥
+
+-- r is the first binding of the nonterminal of a node, from one on, that is kept and leads to a goal, with its type
+abbrev pub NextLeads : Case → Node → ℕ → ℕ → Option Listed → Type 0
+NextLeads x a goal from r =
+    group_of x.t a.number ≤ from
+    → MatchOption r ((c : ℕ) → from ≤ c → Misses x a.number a.count goal c) (λ found. (from ≤ found.binding) × (found.binding < group_of x.t (a.number % row_limit + 1)) × ((c : ℕ) → from ≤ c → c < found.binding → Misses x a.number a.count goal c) × IsCandidate x a.number a.count goal found.binding (Some found.ty))
 
 -- r says whether a goal takes targets, so many that are packed in a number, to a state
 pub record Matches (t : List ℕ) (goal targets left : ℕ) (r : Bool) : Type 0 where

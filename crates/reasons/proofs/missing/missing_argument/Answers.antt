@@ -15,8 +15,5 @@ returns-in-Some c = (c.missing_member.ensures.0 ∙ c.loop.invariant.0, seek_fou
 pub loop-preserved : goal.loop-preserved
 loop-preserved c = (c.missing_member.ensures.0 ∙ c.loop.invariant.0, seek_next _ _ _ _ _ _ c.loop.invariant.1 (omega arith) _ _ c.in_default.ensures.1 _ (next_by _ c.args.r.now _ _ _ c.number_in-base.ensures.0 c.node_of-node.ensures) _ c.result_of-rest.ensures.0 _ (omega arith))
 
-pub shape_of-w : goal.shape_of-w
-shape_of-w c = c.loop.invariant.0
-
 pub returns : goal.returns
 returns c = (c.loop.invariant.0, seek_end _ _ _ _ _ _ c.loop.invariant.1 (omega arith))

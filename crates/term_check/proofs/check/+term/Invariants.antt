@@ -1,15 +1,14 @@
 -- The check of a term and of its arguments meet their contracts. The remaining nodes fall, then what is asked of a node.
-use Prim.Native.Nat.{◌-◌, ◌*◌, ◌+◌, ◌≤◌}
+use Prim.Native.Nat.{◌-◌, ◌*◌, ◌+◌, ◌≤◌, ◌%◌}
 use mathlib.Core.Path.{◌≡◌}
 use mathlib.Core.Bool.{Bool}
 use mathlib.Core.List.{List}
 use lib.ListN.{length}
+use Rattle.index.specs.layout.Layout.{row_limit}
 use Rattle.tables.specs.reading.Cells.{group_of, node_at}
 use Rattle.term_check.specs.notes.Notes.{base_in}
 use Rattle.term_check.specs.Worlds.{case_of, answers_of, users_of, ChecksArgs, ChecksTargets, Finds}
-use Rattle.term_check.proofs.check.Bound.{try_misses, try_lacks, try_serves, failed_start, tried_serves, tried_fails, tried_none, failed_end, try_next, served, next_behind, listed_is}
 use Rattle.term_check.proofs.check.Bound as Bound
-use Rattle.term_check.proofs.check.Given.{given_start, given_none, given_end, member_misses, member_fails, member_has}
 use Rattle.term_check.proofs.check.Given as Given
 use Rattle.term_check.proofs.check.Seeking.{Sought}
 use Rattle.term_check.proofs.check.Members.{Asked, Recalled}
@@ -74,11 +73,11 @@ invariant-check_each-loop-j l = (length l.w ≡ length l.initial.w) × Asked (ca
 abbrev pub invariant-check_given-loop-j : goal.invariant-check_given-loop-j
 invariant-check_given-loop-j l = (length l.w ≡ length l.initial.w) × Given.Tried (case_of l.t l.r) (answers_of l.r l.initial.w) (users_of l.r l.initial.w) l.at l.goal l.node l.given (answers_of l.r l.w) (users_of l.r l.w) l.j
 
-abbrev pub invariant-check_listed-loop-from : goal.invariant-check_listed-loop-from
-invariant-check_listed-loop-from l = (length l.w ≡ length l.initial.w) × (group_of l.t l.node.number ≤ l.from) × (l.node ≡ node_at l.t (base_in l.r) l.at → l.node.tag ≡ 1 → Bound.Failed (case_of l.t l.r) (answers_of l.r l.initial.w) (users_of l.r l.initial.w) l.at l.goal l.node (answers_of l.r l.w) (users_of l.r l.w) l.from)
+abbrev pub invariant-check_listed-loop-found : goal.invariant-check_listed-loop-found
+invariant-check_listed-loop-found l = (length l.w ≡ length l.initial.w) × (group_of l.t l.node.number ≤ l.from) × (l.node ≡ node_at l.t (base_in l.r) l.at → l.node.tag ≡ 1 → Bound.Failed (case_of l.t l.r) (answers_of l.r l.initial.w) (users_of l.r l.initial.w) l.at l.goal l.node (answers_of l.r l.w) (users_of l.r l.w) l.from)
 
-abbrev pub decreases-check_listed-loop-from : goal.decreases-check_listed-loop-from
-decreases-check_listed-loop-from l = l.high - l.from
+abbrev pub decreases-check_listed-loop-found : goal.decreases-check_listed-loop-found
+decreases-check_listed-loop-found l = group_of l.t (l.node.number % row_limit + 1) - l.from
 
 abbrev pub invariant-check_states-loop-left : goal.invariant-check_states-loop-left
 invariant-check_states-loop-left l = (length l.w ≡ length l.initial.w) × ((memo users : List ℕ) → Finds (case_of l.t l.r) memo users l.at (answers_of l.r l.initial.w) (users_of l.r l.initial.w) l.initial.had → Left (case_of l.t l.r) memo users l.at l.asked (answers_of l.r l.w) (users_of l.r l.w) l.had l.left)

@@ -1,10 +1,6 @@
 -- `all_had` meets its contract.
-use mathlib.Core.Path.{refl}
-use Rattle.term_check.proofs.heads.Looking.{had_unseen, had_seen}
+use Rattle.term_check.proofs.heads.Looking.{had_seen}
 use Rattle.term_check.proofs.heads.all_had.Goals as goal
-
-pub returns-then-near-eq-NONE : goal.returns-then-near-eq-NONE
-returns-then-near-eq-NONE c = had_unseen _ _ _ _ refl
 
 pub returns : goal.returns
 returns c = had_seen _ _ _ _ _ _ _ _ c.near_of-near.ensures.0 c.if-near-eq-NONE.false c.mask_of.ensures c.outlook_in-known.ensures c.left_of.ensures

@@ -1,13 +1,9 @@
 -- `matches` meets its contract.
 use native.Mathlib.Omega.{arith}
-use native.Mathlib.Numerals.{unary_clauses}
 use mathlib.Core.Bool.{false}
 use Rattle.term_check.proofs.heads.Matching.{match_end, match_many, match_member, match_next}
 use Rattle.term_check.proofs.heads.matches.Goals as goal
 use Rattle.term_check.proofs.heads.matches.Goals.{then-many_of-ne1-via-then-many_of-ne1, then-many_of-ne1-via-else-many_of-ne1+then-member_of-rest}
-
-pub loop-init : goal.loop-init
-loop-init c r m = simp unary_clauses at m
 
 pub returns-then-many_of-ne1 : goal.returns-then-many_of-ne1
 returns-then-many_of-ne1 c =

@@ -1,13 +1,6 @@
 -- `state_targets` meets its contract.
-use native.Mathlib.Omega.{arith}
-use Rattle.term_check.proofs.heads.Building.{no_constructor, state_missing, state_partial, state_found}
+use Rattle.term_check.proofs.heads.Building.{state_missing, state_partial, state_found}
 use Rattle.term_check.proofs.heads.state_targets.Goals as goal
-
-pub returns-then-c-ge-MAX_CONSTRUCTORS : goal.returns-then-c-ge-MAX_CONSTRUCTORS
-returns-then-c-ge-MAX_CONSTRUCTORS c = no_constructor _ _ _ _ c.if-c-ge-MAX_CONSTRUCTORS.true
-
-pub overflow_shr-present : goal.overflow_shr-present
-overflow_shr-present c = let h = c.requires in omega arith
 
 pub returns-then-present-q-eq0 : goal.returns-then-present-q-eq0
 returns-then-present-q-eq0 c = state_missing _ _ _ _ c.requires _ c.present_of-present.ensures.0 c.if-present-q-eq0.true

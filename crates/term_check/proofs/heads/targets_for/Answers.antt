@@ -1,15 +1,6 @@
 -- `targets_for` meets its contract.
-use Rattle.term_check.proofs.heads.Building.{no_constructor, no_transition, too_few, no_match, match_found}
+use Rattle.term_check.proofs.heads.Building.{no_transition, too_few, no_match, match_found}
 use Rattle.term_check.proofs.heads.targets_for.Goals as goal
-
-pub state_targets-requires : goal.state_targets-requires
-state_targets-requires c = c.if-goal-lt-MAX_STATES.true
-
-pub returns-then-goal-lt-MAX_STATES : goal.returns-then-goal-lt-MAX_STATES
-returns-then-goal-lt-MAX_STATES c = c.state_targets.ensures
-
-pub returns-then-c-ge-MAX_CONSTRUCTORS : goal.returns-then-c-ge-MAX_CONSTRUCTORS
-returns-then-c-ge-MAX_CONSTRUCTORS c = no_constructor _ _ _ _ c.if-c-ge-MAX_CONSTRUCTORS.true
 
 pub returns-then-present-q-eq0 : goal.returns-then-present-q-eq0
 returns-then-present-q-eq0 c = no_transition _ _ _ _ _ _ (λ rs are. c.end_of-q.ensures.0) c.present_of-present.ensures.0 c.if-present-q-eq0.true

@@ -1,7 +1,6 @@
 -- `without_bit` meets its contract.
 use native.Mathlib.Omega.{arith}
 use Rattle.term_check.proofs.masks.Words.{bit_out}
-use borrow.Author.Rules.{rules}
 use Rattle.term_check.proofs.masks.without_bit.Goals as goal
 
 pub returns : goal.returns

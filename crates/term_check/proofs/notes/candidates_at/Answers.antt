@@ -1,7 +1,6 @@
 -- `candidates_at` meets its contract.
 use native.Mathlib.Omega.{arith}
 use Rattle.term_check.proofs.heads.Candidates.{row_fits}
-use borrow.Author.Rules.{rules}
 use Rattle.term_check.proofs.notes.candidates_at.Goals as goal
 
 pub overflow_mul-result : goal.overflow_mul-result
