@@ -17,21 +17,23 @@ pub struct Held {
     pub state: usize,
 }
 
+// What a path is replayed on: a file and its index, and how many rules and constructors it has. The transition table goes beside it.
+#[derive(Clone, Copy)]
+pub struct Tables<'a> {
+    pub file: &'a [u8],
+    pub index: &'a [u16],
+    pub rules: usize,
+    pub constructors: usize,
+}
+
 // Letter 0: the nonterminal in front is unfolded, its arguments in block `top`; without a rule it stands for itself.
-fn unfold_held(
-    file: &[u8],
-    index: &[u16],
-    rules: usize,
-    cells: &mut [u64],
-    held: Held,
-    top: usize,
-) -> Result<Held, Fault>
-    ensures { Unfolds file.now index.now rules cells.old cells.new held top result }
+fn unfold_held(tables: &Tables, cells: &mut [u64], held: Held, top: usize) -> Result<Held, Fault>
+    ensures { Unfolds tables.now.file.now tables.now.index.now tables.now.rules cells.old cells.new held top result }
 {
     let Head::Nonterminal(number) = held.head else {
         return Err(Fault::Lost);
     };
-    if rules <= number {
+    if tables.rules <= number {
         let mut itself = held;
         itself.frame.count = 0;
         return Ok(itself);
@@ -39,8 +41,8 @@ fn unfold_held(
     if MAX_NONTERMINALS <= number {
         return Err(Fault::Lost);
     }
-    let at = place_at(index, RULES_AT + number);
-    let front = gather(file, cells, at, held.frame, top).ok_or(Fault::Lost)?;
+    let at = place_at(tables.index, RULES_AT + number);
+    let front = gather(tables.file, cells, at, held.frame, top).ok_or(Fault::Lost)?;
     if MAX_TERM < front.nodes {
         return Err(Fault::TooLarge);
     }
@@ -68,25 +70,23 @@ fn target_for(row: Option<Row>, arity: usize, count: usize, i: usize) -> Option<
 
 // Letter i + 1: argument i of the constructor in front, with target i of the row for it; its arguments in block `top`.
 fn descend_held(
-    file: &[u8],
-    index: &[u16],
-    constructors: usize,
+    tables: &Tables,
     table: &Transitions,
     cells: &mut [u64],
     held: Held,
     i: usize,
     top: usize,
 ) -> Result<Held, Fault>
-    ensures { Descends file.now index.now constructors table.now cells.old cells.new held i top result }
+    ensures { Descends tables.now.file.now tables.now.index.now tables.now.constructors table.now cells.old cells.new held i top result }
 {
     let Head::Constructor(c) = held.head else {
         return Err(Fault::Lost);
     };
-    let row = row_of(table, constructors, held.state, c);
-    let arity = arity_of(file, index, constructors, c);
+    let row = row_of(table, tables.constructors, held.state, c);
+    let arity = arity_of(tables.file, tables.index, tables.constructors, c);
     let state = target_for(row, arity, held.frame.count, i).ok_or(Fault::Lost)?;
     let closure = closure_at(cells, held.frame, i).ok_or(Fault::Lost)?;
-    let front = gather(file, cells, closure.at(), closure.frame(), top).ok_or(Fault::Lost)?;
+    let front = gather(tables.file, cells, closure.at(), closure.frame(), top).ok_or(Fault::Lost)?;
     Ok(Held {
         head: front.head,
         frame: Frame {
@@ -99,29 +99,17 @@ fn descend_held(
 
 // A letter on the term held, with block `top` for the next arguments.
 pub(crate) fn follow(
-    file: &[u8],
-    index: &[u16],
-    rules: usize,
-    constructors: usize,
+    tables: &Tables,
     table: &Transitions,
     cells: &mut [u64],
     held: Held,
     letter: usize,
     top: usize,
 ) -> Result<Held, Fault>
-    ensures { Follows file.now index.now rules constructors table.now cells.old cells.new held letter top result }
+    ensures { Follows tables.now.file.now tables.now.index.now tables.now.rules tables.now.constructors table.now cells.old cells.new held letter top result }
 {
     if letter == 0 {
-        return unfold_held(file, index, rules, cells, held, top);
+        return unfold_held(tables, cells, held, top);
     }
-    descend_held(
-        file,
-        index,
-        constructors,
-        table,
-        cells,
-        held,
-        letter - 1,
-        top,
-    )
+    descend_held(tables, table, cells, held, letter - 1, top)
 }

@@ -3,7 +3,7 @@ ghost use Rattle.std.specs.Prelude.{◌+◌, ◌*◌, ◌≤◌};
 ghost use Rattle.index.specs.layout.Layout.{max_letters};
 ghost use Rattle.replay.specs.replay.Replays.{Arrives, Runs, ReplaysPath, Attempts};
 
-use crate::letters::{Held, follow};
+use crate::letters::{Held, Tables, follow};
 use closures::closures::Frame;
 use closures::heads::Head;
 use index::entries::count_of;
@@ -38,30 +38,28 @@ fn arrive(
         fault: Fault::NotStuck,
         place: letters,
     };
-    let Head::Constructor(constructor) = held.head else {
+    let Head::Constructor(c) = held.head else {
         return Err(elsewhere);
     };
-    if row_of(&table, constructors, held.state, constructor).is_some() {
+    let row = row_of(&table, constructors, held.state, c);
+    if row.is_some() {
         return Err(elsewhere);
     }
     Ok(Refuted {
         letters,
         state: held.state,
-        constructor,
+        constructor: c,
     })
 }
 
 // The answer to the letters of a path, from the start symbol on at state 0; each letter has a block of eight cells.
 fn run(
-    file: &[u8],
-    index: &[u16],
-    rules: usize,
-    constructors: usize,
+    tables: &Tables,
     table: Transitions,
     path: &[u8],
     cells: &mut [u64],
 ) -> Result<Refuted, Refusal>
-    ensures { Runs file.now index.now rules constructors table path.now cells.old result }
+    ensures { Runs tables.now.file.now tables.now.index.now tables.now.rules tables.now.constructors table path.now cells.old result }
 {
     let mut held = Held {
         head: Head::Nonterminal(0),
@@ -70,25 +68,16 @@ fn run(
     };
     for (place, letter) in path.iter().enumerate() {
         let letter = usize::from(*letter);
-        let top = place + 1;
-        held = follow(
-            file,
-            index,
-            rules,
-            constructors,
-            &table,
-            cells,
-            held,
-            letter,
-            top,
-        )
-        .map_err(|fault| Refusal { fault, place })?;
+        held = follow(tables, &table, cells, held, letter, place + 1).map_err(|fault| Refusal {
+            fault,
+            place,
+        })?;
     }
-    arrive(table, constructors, held, path.len())
+    arrive(table, tables.constructors, held, path.len())
 }
 
 // The answer to the path of a file, by its tables, where there is a block of cells for the start symbol and one for each
-// letter. It is a function of its own for each number of cells, so that no caller makes room for more than it needs.
+// letter. It stays a function of its own for each number of cells, so that no caller makes room for more than it needs.
 #[inline(never)]
 fn path_within<const CELLS: usize>(
     file: &[u8],
@@ -100,10 +89,14 @@ fn path_within<const CELLS: usize>(
 {
     let path = entry(file, index, PATH_AT);
     let table = moves(file, index, count_of(counts, Kind::Transition));
-    let rules = count_of(counts, Kind::Rule);
-    let constructors = count_of(counts, Kind::Constructor);
+    let tables = Tables {
+        file,
+        index,
+        rules: count_of(counts, Kind::Rule),
+        constructors: count_of(counts, Kind::Constructor),
+    };
     let mut cells = [0u64; CELLS];
-    run(file, index, rules, constructors, table, path, &mut cells)
+    run(&tables, table, path, &mut cells)
 }
 
 // The answer to the path of a file, by its tables. A path has the smallest of four sets of cells that is enough for its letters:

@@ -16,7 +16,7 @@ pub fn row_of(table: &Transitions, constructors: usize, state: usize, c: usize) 
     if row[0] == NO_TARGET { None } else { Some(row) }
 }
 
-// The argument count of a constructor; 0 where there is none.
+// The argument count of a constructor; 0 where there is none, as in the definitions.
 pub fn arity_of(file: &[u8], index: &[u16], constructors: usize, c: usize) -> usize
     ensures { IsArity file.now index.now constructors c result }
 {

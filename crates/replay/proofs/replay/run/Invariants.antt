@@ -3,4 +3,4 @@ use Rattle.replay.proofs.replay.Running.{Running}
 use Rattle.replay.proofs.replay.run.Given as goal
 
 abbrev pub invariant-loop-place : goal.invariant-loop-place
-invariant-loop-place l = Running l.file l.index l.rules l.constructors l.table l.path l.initial.cells l.cells l.held l.place-counter
+invariant-loop-place l = Running l.tables.file.now l.tables.index.now l.tables.rules l.tables.constructors l.table l.path l.initial.cells l.cells l.held l.place-counter
