@@ -2,13 +2,14 @@
 ghost use Rattle.std.specs.Prelude.{◌≡◌, true, ◌⊎◌};
 ghost use Rattle.plan_check.specs.Promises.{HasNodes, HasRoom, room_of};
 
-use index::entries::place_at;
+use index::entries::count_of;
 use index::layout::{
     BROAD_BINDINGS, BROAD_NODES, BROAD_TYPES, Counts, ENDS, Index, MAX_BINDINGS, MAX_TYPES,
     MIDDLE_BINDINGS, MIDDLE_NODES, MIDDLE_TYPES, MODEST_BINDINGS, MODEST_NODES, MODEST_TYPES, NODE,
-    PLAIN_BINDINGS, PLAIN_NODES, PLAIN_TYPES, RULE, SMALL_BINDINGS, SMALL_NODES, SMALL_TYPES,
+    PLAIN_BINDINGS, PLAIN_NODES, PLAIN_TYPES, SMALL_BINDINGS, SMALL_NODES, SMALL_TYPES,
     TINY_BINDINGS, TINY_NODES, TINY_TYPES, WIDE_BINDINGS, WIDE_NODES, WIDE_TYPES,
 };
+use records::kind::Kind;
 use rules::first_nodes::nodes_in_all;
 
 // How many nodes a binding case has at most: by its length where the first frame has room for so many, else counted.
@@ -19,7 +20,7 @@ pub(crate) fn nodes_at_most(file: &[u8], index: &Index, counts: &Counts) -> usiz
     if nodes <= TINY_NODES {
         return nodes;
     }
-    nodes_in_all(file, index, place_at(counts, RULE))
+    nodes_in_all(file, index, count_of(counts, Kind::Rule))
 }
 
 // The frames of binding cases, the smallest first; the last has room for every file.

@@ -6,4 +6,4 @@ pub returns-then-nodes-le-TINY_NODES : goal.returns-then-nodes-le-TINY_NODES
 returns-then-nodes-le-TINY_NODES c = nodes_by_length
 
 pub returns : goal.returns
-returns c = nodes_by_rules c.place_at.ensures.value c.nodes_in_all.ensures
+returns c = nodes_by_rules c.count_of.ensures.value c.nodes_in_all.ensures
