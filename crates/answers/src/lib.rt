@@ -1,7 +1,7 @@
 #![tactic(auto)]
 
 // What a test remembers of a node. Goals stand by 32 in cells of three words: the number of the test, the goals that are known, and
-// the known ones that the node has.
+// the known ones that the node has. They are words and no structs, since all that a test writes is one table of fixed memory.
 ghost use Rattle.answers.specs.Answers.{IsCell, Looks, Learns};
 
 use index::layout::{CELL, MAX_CELLS, MAX_NODES, WORD};

@@ -1,4 +1,5 @@
-// Sets of numbers as the bits of words: the words of a set begin at a place, and number n is bit n % 32 of word n / 32.
+// Sets of numbers as the bits of words: the words of a set begin at a place, and number n is bit n % 32 of word n / 32. Many sets
+// stand in one table of fixed memory, so a set is a place and no type of its own.
 #![tactic(auto)]
 
 pub mod briefs;

@@ -17,8 +17,8 @@ fn target_at(file: &[u8], at: usize) -> u8
     byte_at(file, at) as u8
 }
 
-// The table of the n transitions of a file, the last one first, so that the first for a state and a constructor counts; 255
-// stands where there is none.
+// The table of the n transitions of a file, the last one first, so that the first for a state and a constructor counts. 255
+// stands where there is none, and no Option: a table is fixed memory, with a byte for each target.
 pub fn moves(file: &[u8], index: &[u16], n: usize) -> Transitions
     ensures { Holds file.now index.now n result }
 {

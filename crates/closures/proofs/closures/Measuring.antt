@@ -50,9 +50,6 @@ module _ {file cells : List ℕ} {block count : ℕ} {xs : Terms} (frame : Frame
   parameter_size = closure_size parameter_closure
 
 module _ {file cells : List ℕ} {at block count : ℕ} where
-  pub weigh_far : place_units ≤ at → Weighs file cells at block count 1
-  weigh_far h = record { small = omega arith; weighs = λ n xs here frame few. absurd (omega (arith, here.near)) }
-
   module _ (h : Code) (eh : head_as h ≡ head_by (byte file at) (word file (at + 1))) where
     pub weigh_head : ((i : ℕ) → h ≡ Parameter i → ⊥) → Weighs file cells at block count 1
     weigh_head k = record { small = omega arith; weighs = λ n xs here frame few. sym (ap (weight xs) (sym (eh ∙ here.head_is)) ∙ weight_other h k xs) }

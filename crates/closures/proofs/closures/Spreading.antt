@@ -46,17 +46,6 @@ spread_start file cells at m block count low =
       halfway = λ top ts xs p. record { here = p.here; sum = 0; summed = capped_same 0 0 refl; whole = omega arith; done = λ f j h. absurd (omega arith) };
     }
 
--- no room
-pub spread_over : {file cells : List ℕ} {at m block count low r : ℕ} → length cells < low + m → Spreads file cells cells at m block count low r
-spread_over h =
-    record {
-      long = refl;
-      below = λ s k. refl;
-      above = λ s k. refl;
-      total = λ top ts xs p. absurd (omega (arith, p.room));
-      closed = λ top ts xs p. absurd (omega (arith, p.room));
-    }
-
 module _ {file cells₀ : List ℕ} {at m block count low : ℕ} {cells : List ℕ} {i next total : ℕ} (w : Spreading file cells₀ at m block count low cells i next total) where
   pub spread_end : m ≤ i → Spreads file cells₀ cells at m block count low total
   spread_end h =

@@ -27,7 +27,7 @@ use Rattle.closures.proofs.closures.Capping.{capped_same, capped_as}
 use Rattle.closures.proofs.closures.Measuring.{parameter_closure, applied_none, put_alone, nodes_near, some_term}
 use Rattle.closures.specs.fronts.Fronts.{argumentsᵗ, Gatherable, IsFront, Gathers}
 use Rattle.closures.specs.declared.fronts.Front.{Front}
-use Rattle.index.specs.layout.Layout.{node_units, place_units, count_units, block_units, count_unit, block_unit}
+use Rattle.index.specs.layout.Layout.{node_units, place_units, count_units, count_unit, block_unit}
 
 -- a term with more arguments
 arguments_applied : (t : Term) (us : Terms) → countᵗ (argumentsᵗ (applied t us)) ≡ countᵗ (argumentsᵗ t) + countᵗ us
@@ -147,10 +147,6 @@ gather_start file cells at block count top =
 gather_never : {file cells cells' : List ℕ} {at block count top : ℕ} {r : Option Front} → length cells' ≡ length cells → ((s : ℕ) → s < top * 8 → get_or cells' s 0 ≡ get_or cells s 0)
     → ((b : Term) (xs : Terms) → Gatherable file cells at block count top b xs → ⊥) → Gathers file cells cells' at block count top r
 gather_never long kept none = record { long = long; kept = kept; total = λ b xs p. absurd (none b xs p); gathers = λ b xs p. absurd (none b xs p) }
-
--- too many blocks
-pub gather_high : {file cells : List ℕ} {at block count top : ℕ} {r : Option Front} → block_units ≤ top → Gathers file cells cells at block count top r
-gather_high h = gather_never refl (λ s k. refl) (λ b xs p. omega (arith, p.few))
 
 -- a node with its arguments apart
 record Opened (file cells : List ℕ) (top : ℕ) (t : Term) (free place under known total : ℕ) : Type 0 where

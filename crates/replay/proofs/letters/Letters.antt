@@ -9,7 +9,7 @@ use borrow.Author.Tests.{ne_eqb, le-ltb}
 use lib.ListN.{length, get_or}
 use Rattle.std.specs.Prelude.{Option as Maybe, None, Some, IfSome, IsSomeAnd, MatchOption, ok_or, Result, Ok, Err, IsErrAnd}
 use Rattle.std.proofs.lemmas.Result.{err_from_is_err_and}
-use Rattle.std.proofs.lemmas.Option.{MatchOption-at_some, MatchOption-at_none}
+use Rattle.std.proofs.lemmas.Option.{MatchOption-at_some}
 use mathlib.Core.Logic.{inl, inr}
 use Rattle.records.specs.declared.refusal.Fault.{Fault}
 use Rattle.records.specs.declared.refusal.Fault.TheVariants.{Lost, TooLarge}
@@ -138,9 +138,6 @@ module _ (file index : List ℕ) (rules : ℕ) (cells : List ℕ) (held : Held) 
               );
         }
 
-    pub unfold_over : 256 ≤ f → f < rules → Unfolds file index rules cells cells held top (Err Lost)
-    unfold_over l m = record { long = refl; leads = λ constructors table rs s t q w. absurd (omega (arith, s.few_rules)) }
-
     module _ (l : f < rules) (at : ℕ) (ea : at ≡ get_or index (rules_at + f) 0) (small : at < 65536) (r : Maybe Front) {cells' : List ℕ} (gathers : Gathers file cells cells' at held.frame.block held.frame.count top r) where
       -- the body with the arguments put
       module _ (constructors : ℕ) (table : List (List (List ℕ))) (rs : List Record) (s : Replaying file index rules constructors table rs) (t : Term) (q : ℕ) (w : Ready file cells rs held top t q) where
@@ -244,16 +241,6 @@ module _ {file index : List ℕ} {constructors : ℕ} {table : List (List (List 
       -- there is such an argument
       cell_there : (t : Term) (q : ℕ) (h : Holding file cells top held t q) → top < block_units → MatchOption found (held.frame.count ≤ i) (λ v. (i < held.frame.count) × (v.0 ≡ get_or cells (slot_of held.frame.block held.frame.count + i) 0))
       cell_there t q h few = let l = h.lower in cell (omega arith) h.frame.few
-
-      pub descend_none : found ≡ None → Descends file index constructors table cells cells held i top (Err Lost)
-      descend_none z =
-          record {
-            long = refl;
-            leads = λ rules rs s t q w.
-                let (targets, there, below, inside, few, is) = is-target.goes r e in
-                let past : held.frame.count ≤ i = MatchOption-at_none (held.frame.count ≤ i) (λ v. (i < held.frame.count) × (v.0 ≡ get_or cells (slot_of held.frame.block held.frame.count + i) 0)) z (cell_there t q w.holding w.few) in
-                absurd (omega arith);
-          }
 
       module _ (v : Packed) (z : found ≡ Some v) (at block count : ℕ) (eat : at ≡ place_in v.0) (eblock : block ≡ block_in_spec v.0) (ecount : count ≡ count_in v.0) (result : Maybe Front) {cells' : List ℕ} (gathers : Gathers file cells cells' at block count top result) where
         next_at : (rules : ℕ) (rs : List Record) → Replaying file index rules constructors table rs → (t : Term) (q : ℕ) (h : Holding file cells top held t q)

@@ -10,12 +10,6 @@ loop-need-init c = measure_start _ _ _ _ _
 pub returns-then-next-ge-PLACE_UNITS : goal.returns-then-next-ge-PLACE_UNITS
 returns-then-next-ge-PLACE_UNITS c = measure_far c.loop-need.invariant c.if-next-ge-PLACE_UNITS.true c.loop-need-test.true
 
-pub overflow_add-nodes : goal.overflow_add-nodes
-overflow_add-nodes c = let w = c.loop-need.invariant.sums in let v = c.weigh-nodes.ensures.small in omega arith
-
-pub overflow_add-need : goal.overflow_add-need
-overflow_add-need c = let w = c.loop-need.invariant.needs in let v = c.byte_at.ensures.bound in omega arith
-
 pub loop-need-preserved : goal.loop-need-preserved
 loop-need-preserved c = measure_next c.loop-need.invariant c.loop-need-test.true _ _ c.weigh-nodes.ensures c.byte_at.ensures.value c.byte_at.ensures.bound _ _ _ refl refl refl
 

@@ -1,27 +1,15 @@
 -- `spread` meets its contract. The invariant: the first i closures are written, and their nodes summed.
 use native.Mathlib.Omega.{arith}
 use mathlib.Core.Path.{refl}
-use Rattle.closures.proofs.closures.Spreading.{spread_start, spread_over, spread_end, spread_next}
+use Rattle.closures.proofs.closures.Spreading.{spread_start, spread_end, spread_next}
 use Rattle.closures.proofs.closures.Capping.{adds_saturating}
 use Rattle.closures.proofs.closures.spread.Goals as goal
-
-pub returns-then-cells-low : goal.returns-then-cells-low
-returns-then-cells-low c = spread_over (omega arith)
 
 pub loop-i-init : goal.loop-i-init
 loop-i-init c = spread_start _ _ _ _ _ _ _
 
-pub overflow_add-cells : goal.overflow_add-cells
-overflow_add-cells c = let l = c.loop-i.invariant.long in omega arith
-
-pub bounds-cells-low : goal.bounds-cells-low
-bounds-cells-low c = let l = c.loop-i.invariant.long in omega arith
-
 pub loop-i-preserved : goal.loop-i-preserved
 loop-i-preserved c = let l = c.loop-i.invariant.long in spread_next c.loop-i.invariant c.loop-i-test.true (omega arith) _ _ c.measure_term-measured.ensures c.closure_of-closure.ensures _ (adds_saturating c.saturating_add-total.ensures) _ refl
-
-pub shape_of-cells : goal.shape_of-cells
-shape_of-cells c = c.loop-i.invariant.long
 
 pub returns : goal.returns
 returns c = spread_end c.loop-i.invariant (omega arith)

@@ -1,9 +1,6 @@
 -- `weigh` meets its contract.
-use Rattle.closures.proofs.closures.Measuring.{weigh_far, weigh_head, weigh_free, weigh_parameter}
+use Rattle.closures.proofs.closures.Measuring.{weigh_head, weigh_free, weigh_parameter}
 use Rattle.closures.proofs.closures.weigh.Goals as goal
-
-pub returns-then-at-ge-PLACE_UNITS : goal.returns-then-at-ge-PLACE_UNITS
-returns-then-at-ge-PLACE_UNITS c = weigh_far c.if-at-ge-PLACE_UNITS.true
 
 pub returns-in_default : goal.returns-in_default
 returns-in_default c = weigh_head _ c.head_at.ensures c.in_default.not-Parameter

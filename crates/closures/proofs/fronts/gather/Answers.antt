@@ -3,11 +3,8 @@ use native.Mathlib.Omega.{arith}
 use mathlib.Core.Path.{refl, sym, ap, ◌∙◌}
 use Rattle.closures.specs.heads.Heads.{head_as}
 use Rattle.closures.proofs.closures.Capping.{adds_saturating}
-use Rattle.closures.proofs.fronts.Gathering.{gather_start, gather_high, gather_far, gather_over, gather_head, gather_free, gather_rising, gather_next}
+use Rattle.closures.proofs.fronts.Gathering.{gather_start, gather_far, gather_over, gather_head, gather_free, gather_rising, gather_next}
 use Rattle.closures.proofs.fronts.gather.Goals as goal
-
-pub returns-then-top-ge-BLOCK_UNITS : goal.returns-then-top-ge-BLOCK_UNITS
-returns-then-top-ge-BLOCK_UNITS c = gather_high c.if-top-ge-BLOCK_UNITS.true
 
 pub loop-place-init : goal.loop-place-init
 loop-place-init c = gather_start _ _ _ _ _ _

@@ -1,5 +1,5 @@
 -- `descend_held` meets its contract.
-use Rattle.replay.proofs.letters.Letters.{lost_by, descend_not, descend_lost, descend_none, descend_never, descend_does}
+use Rattle.replay.proofs.letters.Letters.{lost_by, descend_not, descend_lost, descend_never, descend_does}
 use Rattle.replay.proofs.letters.descend_held.Goals as goal
 
 pub returns-in_default : goal.returns-in_default
@@ -9,11 +9,6 @@ pub returns-in_err-state : goal.returns-in_err-state
 returns-in_err-state c =
     rw (lost_by _ _ _ c.from_residual.ensures.1 c.in_err-state.ensures.ok_part c.in_err-state.ensures.value)
     (descend_lost _ c.in-Constructor.is _ c.row_of-row.ensures _ c.arity_of-arity.ensures _ c.target_for.ensures c.in_err-state.ensures.ok_part)
-
-pub returns-in_err-closure : goal.returns-in_err-closure
-returns-in_err-closure c =
-    rw (lost_by _ _ _ c.from_residual-in_err-closure.ensures.1 c.in_err-closure.ensures.ok_part c.in_err-closure.ensures.value)
-    (descend_none _ c.in-Constructor.is _ c.row_of-row.ensures _ c.arity_of-arity.ensures _ c.target_for.ensures _ c.in_ok-state.ensures.ok_part _ c.closure_at.ensures c.in_err-closure.ensures.ok_part)
 
 pub returns-in_err-front : goal.returns-in_err-front
 returns-in_err-front c =

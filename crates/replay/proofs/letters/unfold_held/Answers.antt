@@ -1,5 +1,5 @@
 -- `unfold_held` meets its contract.
-use Rattle.replay.proofs.letters.Letters.{lost_by, unfold_not, unfold_itself, unfold_over, unfold_none, unfold_large, unfold_does}
+use Rattle.replay.proofs.letters.Letters.{lost_by, unfold_not, unfold_itself, unfold_none, unfold_large, unfold_does}
 use Rattle.replay.proofs.letters.unfold_held.Goals as goal
 
 pub returns-in_default : goal.returns-in_default
@@ -7,9 +7,6 @@ returns-in_default c = unfold_not _ _ _ _ _ _ c.in_default.not-Nonterminal
 
 pub returns-then-tables-number : goal.returns-then-tables-number
 returns-then-tables-number c = unfold_itself _ _ _ _ _ _ _ c.in-Nonterminal.is c.if-tables-number.true
-
-pub returns-then-number-ge-MAX_NONTERMINALS : goal.returns-then-number-ge-MAX_NONTERMINALS
-returns-then-number-ge-MAX_NONTERMINALS c = unfold_over _ _ _ _ _ _ _ c.in-Nonterminal.is c.if-number-ge-MAX_NONTERMINALS.true c.if-tables-number.false
 
 pub returns-in_err-front : goal.returns-in_err-front
 returns-in_err-front c =

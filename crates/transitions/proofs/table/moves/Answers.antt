@@ -3,9 +3,6 @@ use native.Mathlib.Omega.{arith}
 use Rattle.transitions.proofs.table.Filling.{sofar_none, sofar_put, sofar_other}
 use Rattle.transitions.proofs.table.moves.Goals as goal
 
-pub returns-then-n-gt-MAX_TRANSITIONS : goal.returns-then-n-gt-MAX_TRANSITIONS
-returns-then-n-gt-MAX_TRANSITIONS c = λ rs ok ix few. absurd (omega (arith, c.if-n-gt-MAX_TRANSITIONS.true))
-
 pub loop-k-init : goal.loop-k-init
 loop-k-init c = sofar_none _ _ _ c.if-n-gt-MAX_TRANSITIONS.false
 
