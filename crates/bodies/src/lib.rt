@@ -175,6 +175,7 @@ impl<'a> Heads<'a> {
 
     // Is the body one term of sort o within 64 levels? Where it is, `ends` has for each node the number of the node behind its subterm.
     // `codes` and `depths` are tables to work in: what they hold does not matter, before or after.
+    // The three tables are no struct: each contract would have to say of all three references that they stay the same.
     pub fn body_fits(
         self,
         p: &[u8],

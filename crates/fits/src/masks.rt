@@ -58,6 +58,7 @@ pub(crate) fn row_with(tos: &SortMasks, froms: &SortMasks, sorts: u64) -> Row
     let mut results: u64 = 0;
     let mut arguments: u64 = 0;
     let mut left = sorts;
+    // Bit by bit: no iterator of the library gives the bits of a word.
     while left != 0 {
         let i = u64::trailing_zeros(left) as usize;
         results |= tos[i + 1];

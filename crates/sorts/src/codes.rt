@@ -1,4 +1,5 @@
 // The codes of sorts: of the sorts that a file lists, and of those of constructors.
+// A code is a number and no enum, since the tables of a body, which are lent, hold codes in two bytes.
 ghost use Rattle.std.specs.Prelude.{◌≡◌, ◌&&◌, eqb, get_or, List};
 ghost use Rattle.sorts.specs.codes.Sorted.{SortArrays, TreeCodes, ArrowTo, NextTree};
 ghost use Rattle.scheme.specs.Sorts.{Sort};
