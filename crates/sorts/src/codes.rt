@@ -1,14 +1,13 @@
 // The codes of sorts: of the sorts that a file lists, and of those of constructors.
 // A code is a number and no enum, since the tables of a body, which are lent, hold codes in two bytes.
-ghost use Rattle.std.specs.Prelude.{◌≡◌, ◌&&◌, eqb, get_or, List};
+ghost use Rattle.std.specs.Prelude.{◌≡◌, ◌&&◌, eqb, get_or, length, List};
 ghost use Rattle.sorts.specs.codes.Sorted.{SortArrays, TreeCodes, ArrowTo, NextTree};
 ghost use Rattle.scheme.specs.Sorts.{Sort};
 
 use index::entries::place_at;
 use index::layout::MAX_ARITY;
 
-// The sorts that a file lists, by their numbers: sort 0 is o, any other sort i goes from sort froms[i] to sort tos[i]. The two tables
-// have an entry for each sort.
+// The sorts that a file lists, by their numbers: sort 0 is o, any other sort i goes from sort froms[i] to sort tos[i].
 #[derive(Clone, Copy)]
 pub struct Sorts<'a> {
     pub froms: &'a [u16],
@@ -48,9 +47,9 @@ impl<'a> Sorts<'a> {
         }
     }
 
-    // The codes of the sorts of constructors with 0 to 4 arguments.
+    // The codes of the sorts of constructors with 0 to 4 arguments, where the tables have an entry for each sort and no other.
     pub fn tree_codes(self) -> [u16; MAX_ARITY + 1]
-        ensures { (sorts : List Sort) → SortArrays sorts self.entry → TreeCodes sorts result }
+        ensures { (sorts : List Sort) → SortArrays sorts self.entry → length self.entry.froms.now ≡ length sorts → TreeCodes sorts result }
     {
         let one = self.next_tree(0, 1001);
         let two = self.next_tree(one, 1002);

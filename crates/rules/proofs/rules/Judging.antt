@@ -27,7 +27,7 @@ use Rattle.index.specs.entries.Index.{base, Indexed}
 use Rattle.sorts.specs.codes.Sorted.{SortArrays, TreeCodes}
 use Rattle.bodies.specs.declared.Heads.{Heads}
 use Rattle.bodies.specs.Bodies.{BodyTables}
-use Rattle.sorts.proofs.codes.FileSorts.{sort_arrays}
+use Rattle.sorts.proofs.codes.FileSorts.{sorts_count, sort_arrays}
 use Rattle.casefile.proofs.Cells.{cells_length}
 use Rattle.rules.specs.rules.Rules.{Filled, Filed}
 use Rattle.rules.specs.reading.RuleBodies.{rule_of, numbers_of, Judged}
@@ -192,7 +192,7 @@ module _ {file index : List ℕ} {sorts constructors nonterminals rules : ℕ} {
     (z₁ z₂ z₃ z₄ t₁ t₂ : List ℕ) (heads : Heads) (e₁ : heads.sorts.froms.now ≡ take (sorts + 1) t₁) (e₂ : heads.sorts.tos.now ≡ take (sorts + 1) t₂) (l₁ : length z₁ ≡ all_sorts) (l₂ : length z₂ ≡ all_sorts) (l₃ : length z₃ ≡ max_constructors) (l₄ : length z₄ ≡ max_nonterminals)
     (from-filled : Filled 2 file index sorts_at 0 sorts 1 z₁ t₁) (to-filled : Filled 2 file index sorts_at 2 sorts 1 z₂ t₂)
     (arity-filled : Filled 1 file index constructors_at 0 constructors 0 z₃ heads.arities.now) (signature-filled : Filled 2 file index nonterminals_at 0 nonterminals 0 z₄ heads.signatures.now)
-    (codes : (ss : List Sort) → SortArrays ss heads.sorts → TreeCodes ss heads.trees.now) where
+    (codes : (ss : List Sort) → SortArrays ss heads.sorts → length heads.sorts.froms.now ≡ length ss → TreeCodes ss heads.trees.now) where
   -- the arrays
   abbrev froms : List ℕ
   froms = heads.sorts.froms.now
@@ -239,10 +239,10 @@ module _ {file index : List ℕ} {sorts constructors nonterminals rules : ℕ} {
       ap length e₁ ∙ length-take-le (sorts + 1) t₁ (omega arith) ∙ (omega arith)
 
   arrays : SortArrays (sorts_of rs) heads.sorts
-  arrays = sort_arrays fi.passed fi.sort_bytes heads.sorts from_long (let c = sorts_counted in let s = fi.few_sorts in omega arith) from_is to_is
+  arrays = sort_arrays fi.passed fi.sort_bytes heads.sorts (let c = sorts_counted in let s = fi.few_sorts in omega arith) from_is to_is
 
   tree_codes : TreeCodes (sorts_of rs) heads.trees.now
-  tree_codes = codes (sorts_of rs) arrays
+  tree_codes = codes (sorts_of rs) arrays (from_long ∙ sym (sorts_count rs))
 
   number_at : (f : ℕ) → f < nonterminals → get_or signatures f 0 ≡ word (get_or (payloads nonterminal rs) f []) 0
   number_at f h =

@@ -16,13 +16,14 @@ use Rattle.casefile.proofs.SortTable.{sort_zero, sort_below, sort_made, sorts_di
 use Rattle.sorts.specs.declared.codes.Sorts.{Sorts}
 use Rattle.sorts.specs.codes.Sorted.{SortArrays}
 
-module _ {rs : List Record} (ok : Passed rs) (bytes : (i : ℕ) → Bytes (get_or (payloads sort rs) i [])) (arrows : Sorts) (long : length arrows.froms.now ≡ suc (length (payloads sort rs))) (few : length (payloads sort rs) < 1000)
+-- a file has its sort records' sorts, and o
+pub sorts_count : (rs : List Record) → length (sorts_of rs) ≡ suc (length (payloads sort rs))
+unfolding sorts_of
+sorts_count rs = grow_length sort_from (o ∷ []) (payloads sort rs) ∙ (omega arith)
+
+module _ {rs : List Record} (ok : Passed rs) (bytes : (i : ℕ) → Bytes (get_or (payloads sort rs) i [])) (arrows : Sorts) (few : length (payloads sort rs) < 1000)
     (from_is : (i : ℕ) → i < length (payloads sort rs) → get_or arrows.froms.now (suc i) 0 ≡ word (get_or (payloads sort rs) i []) 0)
     (to_is : (i : ℕ) → i < length (payloads sort rs) → get_or arrows.tos.now (suc i) 0 ≡ word (get_or (payloads sort rs) i []) 2) where
-  count_is : length (sorts_of rs) ≡ suc (length (payloads sort rs))
-  unfolding sorts_of
-  count_is = grow_length sort_from (o ∷ []) (payloads sort rs) ∙ (omega arith)
-
   made_is : (i : ℕ) → 0 < i → i < suc (length (payloads sort rs)) → get_or (sorts_of rs) i o ≡ get_or (sorts_of rs) (get_or arrows.froms.now i 0) o ⇒ get_or (sorts_of rs) (get_or arrows.tos.now i 0) o
   unfolding sort_from
   made_is zero p h = absurd (omega arith)
@@ -41,12 +42,11 @@ module _ {rs : List Record} (ok : Passed rs) (bytes : (i : ℕ) → Bytes (get_o
   -- the arrays list the sorts of the file
   pub sort_arrays : SortArrays (sorts_of rs) arrows
   sort_arrays = record {
-    count = long ∙ sym count_is;
-    few = let c = count_is in omega arith;
-    positive = let c = count_is in omega arith;
+    few = let c = sorts_count rs in omega arith;
+    positive = let c = sorts_count rs in omega arith;
     start = sort_zero rs;
-    made = λ i p h. made_is i p (let c = count_is in omega arith);
-    from_below = λ i p h. from_below_is i p (let c = count_is in omega arith);
-    to_below = λ i p h. to_below_is i p (let c = count_is in omega arith);
+    made = λ i p h. made_is i p (let c = sorts_count rs in omega arith);
+    from_below = λ i p h. from_below_is i p (let c = sorts_count rs in omega arith);
+    to_below = λ i p h. to_below_is i p (let c = sorts_count rs in omega arith);
     distinct = λ i j hi hj e. sorts_distinct ok bytes i j hi hj e;
   }

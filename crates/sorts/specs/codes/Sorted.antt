@@ -6,7 +6,6 @@ use Rattle.sorts.specs.declared.codes.Sorts.{Sorts}
 
 -- the sorts that two arrays list: sort 0 is o, sort i is from sort froms[i] to sort tos[i], and no two are the same
 pub record SortArrays (sorts : List Sort) (arrows : Sorts) : Type 0 where
-  pub count : length arrows.froms.now ≡ length sorts
   pub few : length sorts ≤ 1000
   pub positive : 0 < length sorts
   pub start : get_or sorts 0 o ≡ o
@@ -46,7 +45,7 @@ pub record ArrowTo (arrows : Sorts) (to : ℕ) (r : Option ℕ) : Type 0 where
 -- r is the code of the sort of constructors of m + 1 arguments, made of that of m arguments; 1001 + m is to stand for it where it is not listed
 abbrev pub NextTree : Sorts → ℕ → ℕ → ℕ → Type 0
 NextTree arrows code other r =
-    (sorts : List Sort) (m : ℕ) → SortArrays sorts arrows → m < 4 → other ≡ 1001 + m → Code sorts code (tree_sort m) → Code sorts r (tree_sort (suc m))
+    (sorts : List Sort) (m : ℕ) → SortArrays sorts arrows → length arrows.froms.now ≡ length sorts → m < 4 → other ≡ 1001 + m → Code sorts code (tree_sort m) → Code sorts r (tree_sort (suc m))
 
 -- r is the number of the sort of parameter j of a nonterminal whose sort has the number own
 abbrev pub ParameterSort : Sorts → ℕ → ℕ → ℕ → Type 0
