@@ -27,7 +27,7 @@ targets_from file arity place = choose eqb place 0 then none else some (take ari
 pub record RowsFor (file index : List ℕ) (rs : List Record) : Type 0 where
   pub targets : (q c : ℕ) → q < max_states → c < max_constructors → targets_from file (get_or (arities_of rs) c 0) (place_in index q c) ≡ targets_at (transitions_of rs) q c
 
--- no transition of a state and a constructor has a place; so it is past the states and the constructors
+-- a state and a constructor have no transition; so it is past the states and the constructors
 abbrev pub NoPlaceIn : List ℕ → ℕ → ℕ → Type 0
 NoPlaceIn index q c = q < max_states → c < max_constructors → place_in index q c ≡ 0
 
