@@ -1,14 +1,15 @@
 // The bindings of a file, grouped by nonterminal.
 ghost use Rattle.std.specs.Prelude.{◌≤◌};
+ghost use Rattle.index.specs.layout.Layout.{max_bindings};
 ghost use Rattle.goals.specs.groups.Groups.{Seeks, Fills};
 
 use index::entries::place_at;
 use index::layout::{BINDINGS_AT, MAX_BINDINGS};
 use records::fields::word_at;
 
-// The number of the first binding, from one on, whose nonterminal is f or a later one; n where there is none.
+// The number of the first binding, from one on, whose nonterminal is f or a later one; n where there is none, since a group ends there too.
 fn first_from(file: &[u8], index: &[u16], n: usize, from: usize, f: usize) -> usize
-    requires few { n ≤ 1024 }
+    requires few { n ≤ max_bindings }
     requires within { from ≤ n }
     ensures { Seeks file.now index.now n from f result }
 {

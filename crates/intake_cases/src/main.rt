@@ -7,7 +7,7 @@ use plan_check::Verdict;
 use std::io;
 use std::io::Write;
 
-// The last refusal that needs no replay.
+// The last refusal that needs no replay, by the number that a verdict has.
 const LAST: usize = 12;
 
 fn say_accepted<W: Write>(out: &mut W) -> io::Result<()> {

@@ -75,6 +75,7 @@ pub fn next_beyond(words: &[u32], at: usize, from: usize, end: usize) -> usize
         return end;
     }
     let mut n = from;
+    // Not a `for`: a step goes to the next word, or past eight quiet ones.
     while n < end {
         let word = word_in(words, at, n / WORD);
         let rest = word >> ((n % WORD) as u32);

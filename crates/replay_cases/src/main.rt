@@ -17,7 +17,7 @@ const LETTERS: usize = 4096;
 // How many paths are drawn for a plan.
 const DRAWN: usize = 40;
 
-// The first refusal of a path that is replayed.
+// The first refusal of a path that is replayed, by the number that a verdict has.
 const FIRST: usize = 13;
 
 fn say_answer<W: Write>(out: &mut W, verdict: Verdict) -> io::Result<()> {

@@ -77,7 +77,8 @@ pub fn member_of(t: &[u16], goal: usize, j: usize) -> usize
     row_cell(t, goal, MEMBERS + j % MAX_MEMBERS)
 }
 
-// The word in which all members of a goal stand as goals; NONE where they stand in more than one, or are few.
+// The word in which all members of a goal stand as goals; NONE where they stand in more than one, or are few: it is the number in a cell,
+// as at `result_of`.
 pub fn near_of(t: &[u16], goal: usize) -> usize
     ensures { (result ≡ near_of_spec t.now goal) × (result < 65536) }
 {
@@ -122,7 +123,7 @@ pub fn group_of(t: &[u16], f: usize) -> usize
     place_at(t, GROUPS_AT + f % ROW_LIMIT)
 }
 
-// A goal with k arrows off; NONE where it has fewer.
+// A goal with k arrows off; NONE where it has fewer: the last cell read, as at `result_of`, which callers compare with a goal as it is.
 pub fn off(t: &[u16], goal: usize, k: usize) -> usize
     ensures { result ≡ off_of t.now k goal }
 {

@@ -55,6 +55,7 @@ fn all_targets(t: &[u16], r: &[u32], w: &mut [u32], at: usize, count: usize, tar
     let mut here = at;
     let mut rest = targets;
     let mut left = count;
+    // Not a `for`: where the last argument is a constructor, as many are left as it has.
     while 0 < left {
         let node = node_of(t, base, here);
         if node.next <= here {
