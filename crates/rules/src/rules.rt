@@ -100,7 +100,7 @@ pub fn first_wrong_body(
         froms: &froms[..sorts + 1],
         tos: &tos[..sorts + 1],
     };
-    let trees = listed.tree_codes();
+    let trees = listed.tree_codes(sorts + 1);
     let heads = Heads {
         sorts: listed,
         trees: &trees,

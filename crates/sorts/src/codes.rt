@@ -22,11 +22,11 @@ impl<'a> Sorts<'a> {
         place_at(self.froms, i) == 0 && place_at(self.tos, i) == to
     }
 
-    // The number of the sort from o to sort `to`, where one of the listed sorts is it.
-    fn arrow_to(self, to: usize) -> Option<usize>
-        ensures { ArrowTo self.entry to result }
+    // The number of the sort from o to sort `to`, where one of the n sorts is it.
+    fn arrow_to(self, n: usize, to: usize) -> Option<usize>
+        ensures { ArrowTo self.entry n to result }
     {
-        for i in 1..self.froms.len() {
+        for i in 1..n {
             if self.is_arrow(i, to) {
                 return Some(i);
             }
@@ -35,26 +35,26 @@ impl<'a> Sorts<'a> {
     }
 
     // The code of the sort of constructors with one argument more than those of sort `code`; `other` where it is not listed.
-    fn next_tree(self, code: u16, other: u16) -> u16
-        ensures { NextTree self.entry code other result }
+    fn next_tree(self, n: usize, code: u16, other: u16) -> u16
+        ensures { NextTree self.entry n code other result }
     {
         if 1000 <= code {
             return other;
         }
-        match self.arrow_to(code as usize) {
+        match self.arrow_to(n, code as usize) {
             Some(i) => u16::try_from(i).unwrap_or(other),
             None => other,
         }
     }
 
-    // The codes of the sorts of constructors with 0 to 4 arguments, where the tables have an entry for each sort and no other.
-    pub fn tree_codes(self) -> [u16; MAX_ARITY + 1]
-        ensures { (sorts : List Sort) → SortArrays sorts self.entry → length self.entry.froms.now ≡ length sorts → TreeCodes sorts result }
+    // The codes of the sorts of constructors with 0 to 4 arguments, where there are n sorts.
+    pub fn tree_codes(self, n: usize) -> [u16; MAX_ARITY + 1]
+        ensures { (sorts : List Sort) → SortArrays sorts self.entry → n ≡ length sorts → TreeCodes sorts result }
     {
-        let one = self.next_tree(0, 1001);
-        let two = self.next_tree(one, 1002);
-        let three = self.next_tree(two, 1003);
-        let four = self.next_tree(three, 1004);
+        let one = self.next_tree(n, 0, 1001);
+        let two = self.next_tree(n, one, 1002);
+        let three = self.next_tree(n, two, 1003);
+        let four = self.next_tree(n, three, 1004);
         [0, one, two, three, four]
     }
 }

@@ -192,7 +192,7 @@ module _ {file index : List ℕ} {sorts constructors nonterminals rules : ℕ} {
     (z₁ z₂ z₃ z₄ t₁ t₂ : List ℕ) (heads : Heads) (e₁ : heads.sorts.froms.now ≡ take (sorts + 1) t₁) (e₂ : heads.sorts.tos.now ≡ take (sorts + 1) t₂) (l₁ : length z₁ ≡ all_sorts) (l₂ : length z₂ ≡ all_sorts) (l₃ : length z₃ ≡ max_constructors) (l₄ : length z₄ ≡ max_nonterminals)
     (from-filled : Filled 2 file index sorts_at 0 sorts 1 z₁ t₁) (to-filled : Filled 2 file index sorts_at 2 sorts 1 z₂ t₂)
     (arity-filled : Filled 1 file index constructors_at 0 constructors 0 z₃ heads.arities.now) (signature-filled : Filled 2 file index nonterminals_at 0 nonterminals 0 z₄ heads.signatures.now)
-    (codes : (ss : List Sort) → SortArrays ss heads.sorts → length heads.sorts.froms.now ≡ length ss → TreeCodes ss heads.trees.now) where
+    (codes : (ss : List Sort) → SortArrays ss heads.sorts → sorts + 1 ≡ length ss → TreeCodes ss heads.trees.now) where
   -- the arrays
   abbrev froms : List ℕ
   froms = heads.sorts.froms.now
@@ -231,18 +231,14 @@ module _ {file index : List ℕ} {sorts constructors nonterminals rules : ℕ} {
       let q = four_bytes_long fi.passed i h in
       ap (λ t. get_or t (suc i) 0) e₂ ∙ get_or-take (sorts + 1) t₂ (suc i) 0 (omega arith) ∙ ap (λ j. get_or t₂ j 0) e ∙ field_in sort sorts fi.sorts_there 2 (omega arith) (omega arith) 2 1 z₂ t₂ to-filled i (omega arith) (omega arith)
 
-  from_long : length froms ≡ suc (length (payloads sort rs))
-  from_long =
-      let c = sorts_counted in
-      let s = fi.few_sorts in
-      let f = from-filled.long in
-      ap length e₁ ∙ length-take-le (sorts + 1) t₁ (omega arith) ∙ (omega arith)
-
   arrays : SortArrays (sorts_of rs) heads.sorts
   arrays = sort_arrays fi.passed fi.sort_bytes heads.sorts (let c = sorts_counted in let s = fi.few_sorts in omega arith) from_is to_is
 
   tree_codes : TreeCodes (sorts_of rs) heads.trees.now
-  tree_codes = codes (sorts_of rs) arrays (from_long ∙ sym (sorts_count rs))
+  tree_codes =
+      let c = sorts_counted in
+      let many : sorts + 1 ≡ suc (length (payloads sort rs)) = omega arith in
+      codes (sorts_of rs) arrays (many ∙ sym (sorts_count rs))
 
   number_at : (f : ℕ) → f < nonterminals → get_or signatures f 0 ≡ word (get_or (payloads nonterminal rs) f []) 0
   number_at f h =

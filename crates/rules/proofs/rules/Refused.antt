@@ -83,7 +83,7 @@ pub finds : (file index : List ℕ) (sorts constructors nonterminals rules : ℕ
     → heads.sorts.froms.now ≡ take (sorts + 1) t₁ → heads.sorts.tos.now ≡ take (sorts + 1) t₂ → length z₁ ≡ all_sorts → length z₂ ≡ all_sorts → length z₃ ≡ max_constructors → length z₄ ≡ max_nonterminals
     → Filled 2 file index sorts_at 0 sorts 1 z₁ t₁ → Filled 2 file index sorts_at 2 sorts 1 z₂ t₂ → Filled 1 file index constructors_at 0 constructors 0 z₃ heads.arities.now
     → Filled 2 file index nonterminals_at 0 nonterminals 0 z₄ heads.signatures.now
-    → ((ss : List Sort) → SortArrays ss heads.sorts → length heads.sorts.froms.now ≡ length ss → TreeCodes ss heads.trees.now)
+    → ((ss : List Sort) → SortArrays ss heads.sorts → sorts + 1 ≡ length ss → TreeCodes ss heads.trees.now)
     → ReadsRules file index heads rules before after r → FindsWrongBody file index sorts constructors nonterminals rules before after r
 finds file index sorts constructors nonterminals rules z₁ z₂ z₃ z₄ t₁ t₂ heads before after r e₁ e₂ l₁ l₂ l₃ l₄ a b c d codes answer rs fi room =
     refusal fi after r (answer rs (judged fi z₁ z₂ z₃ z₄ t₁ t₂ heads e₁ e₂ l₁ l₂ l₃ l₄ a b c d codes) room)

@@ -52,7 +52,7 @@ module _ {sorts : List Sort} {arrows : Sorts} (w : SortArrays sorts arrows) wher
       (λ i l g. let (p, q, r, s) = arrow_parts (tree_sort m) i (omega arith) g in u (get_or arrows.tos.now i 0) (omega arith) (s ∙ f))
 
   -- where it is listed
-  pub next_listed : (m code r r' : ℕ) {found : Option ℕ} → length arrows.froms.now ≡ length sorts → code < 1000 → ArrowTo arrows code found → found ≡ Some r → (r < 65536 → r' ≡ r) → Code sorts code (tree_sort m) → Code sorts r' (tree_sort (suc m))
+  pub next_listed : (m code r r' : ℕ) {n : ℕ} {found : Option ℕ} → n ≡ length sorts → code < 1000 → ArrowTo arrows n code found → found ≡ Some r → (r < 65536 → r' ≡ r) → Code sorts code (tree_sort m) → Code sorts r' (tree_sort (suc m))
   unfolding tree_sort
   next_listed m code r r' long h a is e d =
       let (k', p, q, t) = a.is r is in
@@ -66,7 +66,7 @@ module _ {sorts : List Sort} {arrows : Sorts} (w : SortArrays sorts arrows) wher
       rw er (listed (omega arith) (cc))
 
   -- where it is not, and the one before is
-  pub next_missing : (m code other : ℕ) {found : Option ℕ} → length arrows.froms.now ≡ length sorts → m < 4 → other ≡ 1001 + m → code < 1000 → ArrowTo arrows code found → found ≡ None → Code sorts code (tree_sort m) → Code sorts other (tree_sort (suc m))
+  pub next_missing : (m code other : ℕ) {n : ℕ} {found : Option ℕ} → n ≡ length sorts → m < 4 → other ≡ 1001 + m → code < 1000 → ArrowTo arrows n code found → found ≡ None → Code sorts code (tree_sort m) → Code sorts other (tree_sort (suc m))
   unfolding tree_sort
   next_missing m code other long h e k a g d =
       let (x, y) = code_listed d k in

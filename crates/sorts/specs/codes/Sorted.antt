@@ -37,15 +37,15 @@ abbrev pub Applied : Sorts → List ℕ → ℕ → ℕ → Option ℕ → Type 
 Applied arrows trees head argument r =
     (sorts : List Sort) (s t : Sort) → Coded sorts arrows trees → Code sorts head s → Code sorts argument t → Off sorts s t r
 
--- r is the number of the sort from o to sort `to`, or no such sort is listed and r is none
-pub record ArrowTo (arrows : Sorts) (to : ℕ) (r : Option ℕ) : Type 0 where
-  pub is : (i : ℕ) → r ≡ Some i → (i < length arrows.froms.now) × (0 < i) × (get_or arrows.froms.now i 0 ≡ 0) × (get_or arrows.tos.now i 0 ≡ to)
-  pub none_is : r ≡ None → (i : ℕ) → 0 < i → i < length arrows.froms.now → get_or arrows.froms.now i 0 ≡ 0 → get_or arrows.tos.now i 0 ≡ to → ⊥
+-- r is the number of the sort from o to sort `to`, or none of the n sorts is it and r is none
+pub record ArrowTo (arrows : Sorts) (n to : ℕ) (r : Option ℕ) : Type 0 where
+  pub is : (i : ℕ) → r ≡ Some i → (i < n) × (0 < i) × (get_or arrows.froms.now i 0 ≡ 0) × (get_or arrows.tos.now i 0 ≡ to)
+  pub none_is : r ≡ None → (i : ℕ) → 0 < i → i < n → get_or arrows.froms.now i 0 ≡ 0 → get_or arrows.tos.now i 0 ≡ to → ⊥
 
 -- r is the code of the sort of constructors of m + 1 arguments, made of that of m arguments; 1001 + m is to stand for it where it is not listed
-abbrev pub NextTree : Sorts → ℕ → ℕ → ℕ → Type 0
-NextTree arrows code other r =
-    (sorts : List Sort) (m : ℕ) → SortArrays sorts arrows → length arrows.froms.now ≡ length sorts → m < 4 → other ≡ 1001 + m → Code sorts code (tree_sort m) → Code sorts r (tree_sort (suc m))
+abbrev pub NextTree : Sorts → ℕ → ℕ → ℕ → ℕ → Type 0
+NextTree arrows n code other r =
+    (sorts : List Sort) (m : ℕ) → SortArrays sorts arrows → n ≡ length sorts → m < 4 → other ≡ 1001 + m → Code sorts code (tree_sort m) → Code sorts r (tree_sort (suc m))
 
 -- r is the number of the sort of parameter j of a nonterminal whose sort has the number own
 abbrev pub ParameterSort : Sorts → ℕ → ℕ → ℕ → Type 0
