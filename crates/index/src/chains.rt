@@ -5,7 +5,7 @@ ghost use Rattle.index.specs.chains.Listing.{Listed};
 
 use crate::entries::place_at;
 use crate::layout::{HASHES_AT, LAST_HASH, LINKS_AT, TYPES_AT};
-use crate::lookup::entry;
+use crate::lookup::has_payload;
 use records::fields::{byte_at, word_at};
 
 // The hash of a payload, below 256.
@@ -33,7 +33,7 @@ pub fn listed(file: &[u8], index: &[u16], h: usize, p: &[u8]) -> bool
     // Not a `for`: each step goes where the link of the one before leads.
     while 0 < last {
         let i = last - 1;
-        if p == entry(file, index, TYPES_AT + i) {
+        if has_payload(file, index, TYPES_AT + i, p) {
             return true;
         }
         let before = place_at(index, LINKS_AT + i);
