@@ -65,17 +65,23 @@ fn letter(ways: Onward, rate: usize, seed: usize) -> Option<u8> {
     }
 }
 
-// Makes these letters the path at an offset, the last record of a file; returns where the file then ends.
-pub fn set_path(file: &mut [u8], path: usize, letters: &[u8]) -> usize {
-    let from = path.saturating_add(4);
-    let end = from.saturating_add(letters.len());
-    if let Ok(length) = u16::try_from(letters.len()) {
-        if end <= file.len() {
-            file[path..path + 2].copy_from_slice(&length.to_le_bytes());
-            file[from..end].copy_from_slice(letters);
-        }
+// Puts bytes at a place of a file, as many as there is room for.
+fn put(file: &mut [u8], at: usize, bytes: &[u8]) {
+    for (place, byte) in file.iter_mut().skip(at).zip(bytes) {
+        *place = *byte;
     }
-    end
+}
+
+// Makes these letters the path at an offset, the last record of a file; returns where the file then ends, or 0 where the offset is
+// past every file or the letters are more than a path has.
+pub fn set_path(file: &mut [u8], path: usize, letters: &[u8]) -> usize {
+    if 60000 < path || 4096 < letters.len() {
+        return 0;
+    }
+    let length = letters.len() as u16;
+    put(file, path, &length.to_le_bytes());
+    put(file, path + 4, letters);
+    path + 4 + letters.len()
 }
 
 // Draws a path of a plan that is loaded.
@@ -92,7 +98,10 @@ pub fn draw(
     seed = turn(turn(seed));
     let mut spot = Some(crate::start(cells));
     for i in 0..most {
-        let ways = spot.map_or(Onward::Into(0), |spot| crate::ways(file, plan, cells, spot));
+        let ways = match spot {
+            Some(at) => crate::ways(file, plan, cells, at),
+            None => Onward::Into(0),
+        };
         let next = letter(ways, rate, seed);
         seed = turn(turn(seed));
         let Some(next) = next else {
@@ -101,7 +110,9 @@ pub fn draw(
         if let Some(place) = letters.get_mut(i) {
             *place = next;
         }
-        spot = spot.and_then(|spot| crate::step(file, plan, cells, spot, next).ok());
+        if let Some(at) = spot {
+            spot = crate::step(file, plan, cells, at, usize::from(next)).ok();
+        }
     }
     Drawn { length: most, seed }
 }

@@ -6,14 +6,34 @@
 
 pub mod drawn;
 
-ghost use Rattle.std.specs.Prelude.{◌≤◌};
+ghost use Rattle.std.specs.Prelude.{ℕ, ◌≡◌, ◌≤◌};
 
-// What stands in front of a term.
+// What stands in front of a term; no file that is judged has another tag than the first three.
 #[derive(Clone, Copy, PartialEq, Eq)]
 enum Tag {
     Constructor,
     Nonterminal,
     Parameter,
+    Other,
+}
+
+// The place of a cell, or that there is none, as a table holds it in two bytes: 0 stands for none, and no term has cell 0. With an Option
+// in its place a replay takes a seventh more instructions.
+#[derive(Clone, Copy, PartialEq, Eq)]
+struct Place {
+    cell: u16,
+}
+
+const NONE: Place = Place { cell: 0 };
+
+impl Place {
+    fn of(cell: u16) -> Place {
+        Place { cell }
+    }
+
+    fn cell(self) -> Option<u16> {
+        if self == NONE { None } else { Some(self.cell) }
+    }
 }
 
 // A term: what stands in front and its number, its first argument, the term behind it in the same list, and a link: the cell
@@ -22,19 +42,22 @@ enum Tag {
 pub struct Cell {
     tag: Tag,
     number: u16,
-    first: Option<u16>,
-    next: Option<u16>,
-    link: Option<u16>,
+    first: Place,
+    next: Place,
+    link: Place,
 }
 
 // A cell before it is written.
 pub const EMPTY: Cell = Cell {
     tag: Tag::Constructor,
     number: 0,
-    first: None,
-    next: None,
-    link: None,
+    first: NONE,
+    next: NONE,
+    link: NONE,
 };
+
+// No place of a file lies beyond this one.
+const FARTHEST: usize = 65535;
 
 // The cells of the rules begin here.
 const RULES: u16 = 15500;
@@ -65,15 +88,15 @@ enum Kind {
 pub struct Plan {
     pub moves: usize,
     pub path: usize,
-    pub rules: u16,
-    pub cells: u16,
+    pub rules: usize,
+    pub cells: usize,
 }
 
 // Where a replay stands: a term and a state.
 #[derive(Clone, Copy)]
 pub struct Spot {
-    term: u16,
-    state: u8,
+    pub term: usize,
+    pub state: usize,
 }
 
 // In how many arguments a path can go on, or that a nonterminal stands in front.
@@ -117,14 +140,20 @@ impl From<Fault> for usize {
     }
 }
 
-// Byte at + k of a file, 0 past its end.
+// Byte at + k of a file, 0 past its end or where one of the two is past every file.
 pub fn byte(file: &[u8], at: usize, k: usize) -> u8 {
-    file.get(at.saturating_add(k)).copied().unwrap_or(0)
+    if FARTHEST < at || FARTHEST < k {
+        return 0;
+    }
+    file.get(at + k).copied().unwrap_or(0)
 }
 
 // The two bytes at + k of a file.
 pub fn word(file: &[u8], at: usize, k: usize) -> u16 {
-    u16::from_le_bytes([byte(file, at, k), byte(file, at, k.saturating_add(1))])
+    if FARTHEST <= k {
+        return 0;
+    }
+    u16::from_le_bytes([byte(file, at, k), byte(file, at, k + 1)])
 }
 
 // The kind of the record at an offset.
@@ -143,29 +172,30 @@ fn tag_at(file: &[u8], at: usize) -> Tag {
     match byte(file, at, 0) {
         0 => Tag::Constructor,
         1 => Tag::Nonterminal,
-        _ => Tag::Parameter,
+        2 => Tag::Parameter,
+        _ => Tag::Other,
     }
 }
 
 // The cell at a place; an empty one where there is none.
-fn cell_at(cells: &[Cell], at: Option<u16>) -> Cell {
-    let Some(at) = at else {
+fn cell_at(cells: &[Cell], at: Place) -> Cell {
+    let Some(cell) = at.cell() else {
         return EMPTY;
     };
-    cells.get(usize::from(at)).copied().unwrap_or(EMPTY)
+    cells.get(usize::from(cell)).copied().unwrap_or(EMPTY)
 }
 
-// Changes the cell at a place; nothing past the end.
-fn change<F: FnOnce(&mut Cell)>(cells: &mut [Cell], at: u16, how: F)
+// Changes a cell; nothing past the end.
+fn change<F: FnOnce(&mut Cell)>(cells: &mut [Cell], cell: u16, how: F)
     requires { F.IsAlwaysCallable how }
 {
-    if let Some(cell) = cells.get_mut(usize::from(at)) {
-        how(cell);
+    if let Some(changed) = cells.get_mut(usize::from(cell)) {
+        how(changed);
     }
 }
 
-// The cell n places after a cell in its list.
-fn along(cells: &[Cell], list: Option<u16>, n: u16) -> Option<u16> {
+// The place n behind another in its list.
+fn along(cells: &[Cell], list: Place, n: u16) -> Place {
     let mut at = list;
     for _ in 0..n {
         at = cell_at(cells, at).next;
@@ -173,17 +203,19 @@ fn along(cells: &[Cell], list: Option<u16>, n: u16) -> Option<u16> {
     at
 }
 
-// Ends a list at a cell; returns what stood behind.
-fn cut(cells: &mut [Cell], last: Option<u16>) -> Option<u16> {
+// Ends a list at a place; returns what stood behind.
+fn cut(cells: &mut [Cell], last: Place) -> Place {
     let rest = cell_at(cells, last).next;
-    change(cells, last?, |cell| cell.next = None);
+    if let Some(cell) = last.cell() {
+        change(cells, cell, |cell| cell.next = NONE);
+    }
     rest
 }
 
 // Makes a cell of the body's node at an offset. `right` is the list of terms to the right of the node that are not yet
 // arguments of a cell: the node takes its arguments off it and comes in front of the rest.
-fn link_node(file: &[u8], at: usize, cells: &mut [Cell], place: u16, right: Option<u16>) {
-    let mut first = None;
+fn link_node(file: &[u8], at: usize, cells: &mut [Cell], cell: u16, right: Place) {
+    let mut first = NONE;
     let mut next = right;
     if let Some(others) = byte(file, at, 3).checked_sub(1) {
         let last = along(cells, right, u16::from(others));
@@ -195,19 +227,19 @@ fn link_node(file: &[u8], at: usize, cells: &mut [Cell], place: u16, right: Opti
         number: word(file, at, 1),
         first,
         next,
-        link: None,
+        link: NONE,
     };
-    change(cells, place, |cell| *cell = node);
+    change(cells, cell, |place| *place = node);
 }
 
 // Makes the cells of a body of `nodes` nodes, from the last node to the first, which gets the given cell.
 fn link(file: &[u8], at: usize, nodes: u16, cells: &mut [Cell], place: u16)
     requires { (at ≤ 65535) × (nodes ≤ 16383) × (place ≤ 15000) }
 {
-    let mut right = None;
+    let mut right = NONE;
     for left in (0..nodes).rev() {
         link_node(file, at + 4 * usize::from(left), cells, place + left, right);
-        right = Some(place + left);
+        right = Place::of(place + left);
     }
 }
 
@@ -218,14 +250,17 @@ fn enter_rule(file: &[u8], at: usize, cells: &mut [Cell], plan: Plan) -> Plan
     if 255 < plan.rules || 15000 < plan.cells {
         return plan;
     }
+    let place = plan.cells as u16;
     let nodes = word(file, at, 0) / 4;
-    link(file, at + 4, nodes, cells, plan.cells);
-    change(cells, RULES + plan.rules, |cell| {
-        cell.first = Some(plan.cells);
+    if at + 4 <= 60000 {
+        link(file, at + 4, nodes, cells, place);
+    }
+    change(cells, RULES + plan.rules as u16, |cell| {
+        cell.first = Place::of(place);
     });
     Plan {
         rules: plan.rules + 1,
-        cells: plan.cells + nodes,
+        cells: plan.cells + usize::from(nodes),
         ..plan
     }
 }
@@ -262,62 +297,56 @@ pub fn load(file: &[u8], cells: &mut [Cell]) -> Plan {
 }
 
 // Sets cells aside, from `top` on and before `end`, one for each cell of a list; returns where they end.
-fn extend(cells: &mut [Cell], list: Option<u16>, top: u16, end: u16) -> u16 {
+fn extend(cells: &mut [Cell], list: Place, top: u16, end: u16) -> u16 {
     let mut from = list;
     for at in top..end {
-        if from.is_none() {
+        if from == NONE {
             return at;
         }
         change(cells, at, |cell| {
             cell.link = from;
-            cell.next = at.checked_add(1);
+            cell.next = Place::of(at + 1);
         });
         from = cell_at(cells, from).next;
     }
     end
 }
 
-// Gives a cell the cells from `top` to `last` as its arguments.
-fn give(cells: &mut [Cell], place: u16, top: u16, last: u16) {
-    if last <= top {
-        change(cells, place, |cell| cell.first = None);
-        return;
-    }
-    change(cells, place, |cell| cell.first = Some(top));
-    change(cells, last - 1, |cell| cell.next = None);
-}
-
 // Gives a cell the head of a term, and arguments: the cells from `top` to `middle`, which are set aside already, and
 // behind them cells for a list of its own; returns where these end.
 fn build(
     cells: &mut [Cell],
-    place: u16,
+    cell: u16,
     head: Cell,
-    own: Option<u16>,
+    own: Place,
     top: u16,
     middle: u16,
     end: u16,
 ) -> u16 {
-    change(cells, place, |cell| {
+    let last = extend(cells, own, middle, end);
+    let first = if top < last { Place::of(top) } else { NONE };
+    change(cells, cell, |cell| {
         cell.tag = head.tag;
         cell.number = head.number;
+        cell.first = first;
     });
-    let last = extend(cells, own, middle, end);
-    give(cells, place, top, last);
+    if top < last {
+        change(cells, last - 1, |cell| cell.next = NONE);
+    }
     last
 }
 
 // Fills a cell that was set aside by the one that it is made from, and sets cells aside for its arguments from `top` on. A
 // parameter's cell gets the head and the arguments of the term that stands for it in `list`, the arguments of the
 // unfolded term, and then the parameter's own arguments.
-fn fill(cells: &mut [Cell], place: u16, list: Option<u16>, top: u16, end: u16) -> u16 {
-    let source = cell_at(cells, cell_at(cells, Some(place)).link);
+fn fill(cells: &mut [Cell], cell: u16, list: Place, top: u16, end: u16) -> u16 {
+    let source = cell_at(cells, cell_at(cells, Place::of(cell)).link);
     if source.tag != Tag::Parameter {
-        return build(cells, place, source, source.first, top, top, end);
+        return build(cells, cell, source, source.first, top, top, end);
     }
     let head = cell_at(cells, along(cells, list, source.number));
     let middle = extend(cells, head.first, top, end);
-    build(cells, place, head, source.first, top, middle, end)
+    build(cells, cell, head, source.first, top, middle, end)
 }
 
 // Where the half begins in which a term does not lie.
@@ -327,13 +356,15 @@ fn other_half(term: u16) -> u16
     if term < HIGH { HIGH } else { LOW }
 }
 
-// Makes a body's term with the arguments of a term for its parameters, in the other half, if there is room.
-fn unfold(cells: &mut [Cell], term: u16, body: Option<u16>) -> Option<u16> {
-    let list = cell_at(cells, Some(term)).first;
+// Makes a body's term with the arguments of a term for its parameters, in the other half, if there is room. It stays a function of its
+// own, as `size` does: within `step` each turn of its loop would make the answers of `step` ready too.
+#[inline(never)]
+fn unfold(cells: &mut [Cell], term: u16, body: Place) -> Option<u16> {
+    let list = cell_at(cells, Place::of(term)).first;
     let base = other_half(term);
     change(cells, base, |cell| {
         cell.link = body;
-        cell.next = None;
+        cell.next = NONE;
     });
     let end = base + ROOM;
     let mut top = base + 1;
@@ -346,20 +377,21 @@ fn unfold(cells: &mut [Cell], term: u16, body: Option<u16>) -> Option<u16> {
     None
 }
 
-// Puts a cell, if it is one, in front of those that wait.
-fn push(cells: &mut [Cell], waiting: Option<u16>, place: Option<u16>) -> Option<u16> {
-    let Some(at) = place else {
+// Puts a place, if it is one, in front of those that wait.
+fn push(cells: &mut [Cell], waiting: Place, at: Place) -> Place {
+    let Some(cell) = at.cell() else {
         return waiting;
     };
-    change(cells, at, |cell| cell.link = waiting);
-    place
+    change(cells, cell, |cell| cell.link = waiting);
+    at
 }
 
 // The nodes of a term that is no argument, counted as a tree up to 4,097.
+#[inline(never)]
 fn size(cells: &mut [Cell], term: u16) -> usize {
-    let mut waiting = push(cells, None, Some(term));
+    let mut waiting = push(cells, NONE, Place::of(term));
     for nodes in 0..4097 {
-        if waiting.is_none() {
+        if waiting == NONE {
             return nodes;
         }
         let top = cell_at(cells, waiting);
@@ -370,14 +402,14 @@ fn size(cells: &mut [Cell], term: u16) -> usize {
 }
 
 // Whether the record at an offset is the transition from a state for a constructor.
-fn moves_by(file: &[u8], at: usize, state: u8, constructor: u16) -> bool {
+fn moves_by(file: &[u8], at: usize, state: usize, constructor: u16) -> bool {
     kind_at(file, at) == Kind::Transition
-        && byte(file, at, 4) == state
+        && usize::from(byte(file, at, 4)) == state
         && u16::from(byte(file, at, 5)) == constructor
 }
 
 // The record of the transition from a state for a constructor, if there is one.
-fn transition(file: &[u8], plan: Plan, state: u8, constructor: u16) -> Option<usize> {
+fn transition(file: &[u8], plan: Plan, state: usize, constructor: u16) -> Option<usize> {
     let mut at = plan.moves;
     while at < plan.path && at <= 60000 {
         if moves_by(file, at, state, constructor) {
@@ -388,6 +420,11 @@ fn transition(file: &[u8], plan: Plan, state: u8, constructor: u16) -> Option<us
     None
 }
 
+// The cell of a spot's term; an empty one where there is none.
+fn term_of(cells: &[Cell], spot: Spot) -> Cell {
+    cell_at(cells, u16::try_from(spot.term).map_or(NONE, Place::of))
+}
+
 // The start symbol, in state 0.
 pub fn start(cells: &mut [Cell]) -> Spot {
     let symbol = Cell {
@@ -396,36 +433,43 @@ pub fn start(cells: &mut [Cell]) -> Spot {
     };
     change(cells, LOW, |cell| *cell = symbol);
     Spot {
-        term: LOW,
+        term: usize::from(LOW),
         state: 0,
     }
 }
 
 // Letter 0.
 fn reduce(cells: &mut [Cell], spot: Spot) -> Result<Spot, Fault> {
-    let term = cell_at(cells, Some(spot.term));
+    let Ok(cell) = u16::try_from(spot.term) else {
+        return Err(Fault::Lost);
+    };
+    let term = cell_at(cells, Place::of(cell));
     if term.tag != Tag::Nonterminal {
         return Err(Fault::Lost);
     }
-    let rule = cell_at(cells, Some(RULES.saturating_add(term.number)));
-    let made = unfold(cells, spot.term, rule.first).ok_or(Fault::TooLarge)?;
+    let rule = cell_at(cells, Place::of(RULES.saturating_add(term.number)));
+    let made = unfold(cells, cell, rule.first).ok_or(Fault::TooLarge)?;
     if 4096 < size(cells, made) {
         return Err(Fault::TooLarge);
     }
-    Ok(Spot { term: made, ..spot })
+    Ok(Spot {
+        term: usize::from(made),
+        ..spot
+    })
 }
 
 // A letter from 1, which leads into an argument.
 fn descend(file: &[u8], plan: Plan, cells: &[Cell], spot: Spot, n: u8) -> Result<Spot, Fault> {
-    let term = cell_at(cells, Some(spot.term));
+    let term = term_of(cells, spot);
     if term.tag != Tag::Constructor {
         return Err(Fault::Lost);
     }
-    let argument = along(cells, term.first, u16::from(n)).ok_or(Fault::Lost)?;
+    let argument = along(cells, term.first, u16::from(n));
+    let argument = argument.cell().ok_or(Fault::Lost)?;
     let at = transition(file, plan, spot.state, term.number).ok_or(Fault::Lost)?;
     Ok(Spot {
-        term: argument,
-        state: byte(file, at, usize::from(n) + 6),
+        term: usize::from(argument),
+        state: usize::from(byte(file, at, usize::from(n) + 6)),
     })
 }
 
@@ -435,17 +479,20 @@ pub fn step(
     plan: Plan,
     cells: &mut [Cell],
     spot: Spot,
-    letter: u8,
+    letter: usize,
 ) -> Result<Spot, Fault> {
-    match letter.checked_sub(1) {
-        None => reduce(cells, spot),
-        Some(n) => descend(file, plan, cells, spot, n),
+    match u8::try_from(letter) {
+        Ok(0) => reduce(cells, spot),
+        Ok(i) => descend(file, plan, cells, spot, i - 1),
+        Err(_) => Err(Fault::Lost),
     }
 }
 
-// How a path can go on: in no argument at a constructor without a transition.
-pub fn ways(file: &[u8], plan: Plan, cells: &[Cell], spot: Spot) -> Onward {
-    let term = cell_at(cells, Some(spot.term));
+// How a path can go on: in no argument at a constructor without a transition, and in no more than four.
+pub fn ways(file: &[u8], plan: Plan, cells: &[Cell], spot: Spot) -> Onward
+    ensures { (n : ℕ) → result ≡ Onward.Into n → n ≤ 4 }
+{
+    let term = term_of(cells, spot);
     if term.tag != Tag::Constructor {
         return Onward::Unfold;
     }
@@ -454,7 +501,7 @@ pub fn ways(file: &[u8], plan: Plan, cells: &[Cell], spot: Spot) -> Onward {
     }
     let mut at = term.first;
     for n in 0..4 {
-        if at.is_none() {
+        if at == NONE {
             return Onward::Into(n);
         }
         at = cell_at(cells, at).next;
@@ -470,7 +517,7 @@ fn finish(
     spot: Spot,
     letters: usize,
 ) -> Result<Refuted, Refusal> {
-    let term = cell_at(cells, Some(spot.term));
+    let term = term_of(cells, spot);
     if term.tag != Tag::Constructor || transition(file, plan, spot.state, term.number).is_some() {
         return Err(Refusal {
             fault: Fault::NotStuck,
@@ -479,7 +526,7 @@ fn finish(
     }
     Ok(Refuted {
         letters,
-        state: usize::from(spot.state),
+        state: spot.state,
         constructor: usize::from(term.number),
     })
 }
@@ -490,7 +537,7 @@ pub fn replay(file: &[u8], cells: &mut [Cell]) -> Result<Refuted, Refusal> {
     let letters = usize::from(word(file, plan.path, 0));
     let mut spot = start(cells);
     for i in 0..letters {
-        let letter = byte(file, plan.path, i + 4);
+        let letter = usize::from(byte(file, plan.path, i + 4));
         spot = step(file, plan, cells, spot, letter).map_err(|fault| Refusal { fault, place: i })?;
     }
     finish(file, plan, cells, spot, letters)

@@ -53,10 +53,15 @@ pub fn written(verdict: Verdict) -> usize {
     }
 }
 
-// The verdict where the first flags are lent, as many as `lent` says, or all where there are fewer.
+// The verdict where the first flags are lent, as many as `lent` says; refused 0 at 0 where there are fewer.
 pub fn judge_lent(file: &[u8], flags: &mut [u8], lent: usize) -> Verdict {
-    let most = flags.len();
-    plan_check::judge(file, &mut flags[..lent.min(most)])
+    if flags.len() < lent {
+        return Verdict::Refused {
+            number: 0,
+            place: 0,
+        };
+    }
+    plan_check::judge(file, &mut flags[..lent])
 }
 
 // The decimal number in a text, at most 1,024. The library's `parse` refuses a larger one, and a text that is no number.
