@@ -31,18 +31,18 @@ pub fn check_term(t: &[u16], r: &[u32], w: &mut [u32], at: usize, goal: usize) -
     }
     let node = node_of(t, number_in(r, TEST_BASE), at);
     if node.tag == 0 {
-        let Some(targets) = targets_for(t, node.number, node.count, goal) else {
+        let Some(targets) = targets_for(&*t, node.number, node.count, goal) else {
             return false;
         };
-        return all_targets(t, r, w, at + 1, node.count, targets);
+        return all_targets(&*t, &*r, w, at + 1, node.count, targets);
     }
     if node.tag == 1 {
-        return check_bound(t, r, w, at, goal, node);
+        return check_bound(&*t, &*r, w, at, goal, node);
     }
     if let Some(has) = alone(t, r, node, goal) {
         return has;
     }
-    check_given(t, r, w, at, goal, node)
+    check_given(&*t, &*r, w, at, goal, node)
 }
 
 // Whether the `count` arguments from node `at` on have their targets, four bits each. Where the last one is a constructor, its own
@@ -69,7 +69,7 @@ fn all_targets(t: &[u16], r: &[u32], w: &mut [u32], at: usize, count: usize, tar
             here += 1;
             left = node.count;
         } else {
-            if !one_target(t, r, w, here, rest % 16, node) {
+            if !one_target(&*t, &*r, w, here, rest % 16, node) {
                 return false;
             }
             here = node.next;
@@ -86,11 +86,11 @@ fn one_target(t: &[u16], r: &[u32], w: &mut [u32], at: usize, goal: usize, node:
     ensures { (length w.new ≡ length w.old) × (node ≡ node_at t.now (base_in r.now) at → ChecksTerm (case_of t.now r.now) (answers_of r.now w.old) (users_of r.now w.old) at goal (answers_of r.now w.new) (users_of r.now w.new) result) }
 {
     if node.tag == 2 {
-        if let Some(has) = alone(t, r, node, goal) {
+        if let Some(has) = alone(&*t, &*r, node, goal) {
             return has;
         }
     }
-    check_term(t, r, w, at, goal)
+    check_term(&*t, &*r, w, at, goal)
 }
 
 // Whether a nonterminal's term has a goal: one of its kept bindings leads to it, and the arguments have what its type asks for. The
@@ -101,11 +101,11 @@ fn check_bound(t: &[u16], r: &[u32], w: &mut [u32], at: usize, goal: usize, node
     ensures { (length w.new ≡ length w.old) × (node ≡ node_at t.now (base_in r.now) at → node.tag ≡ 1 → ChecksTerm (case_of t.now r.now) (answers_of r.now w.old) (users_of r.now w.old) at goal (answers_of r.now w.new) (users_of r.now w.new) result) }
 {
     if let Some(c) = bound_hint(r, w, node, goal) {
-        if try_one(t, r, w, at, goal, node, c) {
+        if try_one(&*t, &*r, w, at, goal, node, c) {
             return true;
         }
     }
-    check_listed(t, r, w, at, goal, node)
+    check_listed(&*t, &*r, w, at, goal, node)
 }
 
 // Whether binding c serves: it is kept, it leads to the goal, and the arguments have what its type asks for. That it serves is noted.
@@ -125,7 +125,7 @@ fn try_one(
     let Some(ty) = candidate(t, r, node.number, node.count, goal, c) else {
         return false;
     };
-    if !check_args(t, r, w, at + 1, node.count, ty) {
+    if !check_args(&*t, &*r, w, at + 1, node.count, ty) {
         return false;
     }
     note_in(r, w, c);
@@ -140,7 +140,7 @@ fn check_listed(t: &[u16], r: &[u32], w: &mut [u32], at: usize, goal: usize, nod
 {
     let mut from = group_of(t, node.number);
     while let Some(found) = next_leading(t, r, node, goal, from) {
-        if check_args(t, r, w, at + 1, node.count, found.ty) {
+        if check_args(&*t, &*r, w, at + 1, node.count, found.ty) {
             note_in(r, w, found.binding);
             hint_in(r, w, at, node.number, goal, found.binding);
             return true;
@@ -163,7 +163,7 @@ fn check_given(t: &[u16], r: &[u32], w: &mut [u32], at: usize, goal: usize, node
     for j in 0..many {
         let ty = member_of(t, given, j);
         if off(t, ty, node.count) == goal {
-            if check_args(t, r, w, at + 1, node.count, ty) {
+            if check_args(&*t, &*r, w, at + 1, node.count, ty) {
                 return true;
             }
         }
@@ -179,7 +179,7 @@ fn check_args(t: &[u16], r: &[u32], w: &mut [u32], at: usize, count: usize, ty: 
     if count == 0 {
         return true;
     }
-    all_args(t, r, w, at, count, ty)
+    all_args(&*t, &*r, w, at, count, ty)
 }
 
 // The same, one argument after another.
@@ -195,7 +195,7 @@ fn all_args(t: &[u16], r: &[u32], w: &mut [u32], at: usize, count: usize, ty: us
         if node.next <= here {
             return false;
         }
-        if !all_members(t, r, w, here, rest, node) {
+        if !all_members(&*t, &*r, w, here, rest, node) {
             return false;
         }
         here = node.next;
@@ -220,15 +220,15 @@ fn all_members(t: &[u16], r: &[u32], w: &mut [u32], at: usize, ty: usize, node: 
         if arrows == 0 {
             return true;
         }
-        return check_each(t, r, w, at, ty);
+        return check_each(&*t, &*r, w, at, ty);
     }
-    if !check_states(t, r, w, at, missing, node) {
+    if !check_states(&*t, &*r, w, at, missing, node) {
         return false;
     }
     if arrows == 0 {
         return true;
     }
-    check_each(t, r, w, at, ty)
+    check_each(&*t, &*r, w, at, ty)
 }
 
 // Whether the term at a node has all goals of a set of states: first what is found at once, then the others, one by one. What is found
@@ -237,7 +237,7 @@ fn all_members(t: &[u16], r: &[u32], w: &mut [u32], at: usize, ty: usize, node: 
 fn check_states(t: &[u16], r: &[u32], w: &mut [u32], at: usize, asked: u32, node: Node) -> bool
     ensures { (length w.new ≡ length w.old) × (node ≡ node_at t.now (base_in r.now) at → ChecksAll (case_of t.now r.now) (answers_of r.now w.old) (users_of r.now w.old) at asked (answers_of r.now w.new) (users_of r.now w.new) result) }
 {
-    let found = find_states(t, r, w, at, asked, node);
+    let found = find_states(&*t, &*r, w, at, asked, node);
     if found.lacked != 0 {
         let known = with_bit(found.had, lowest(found.lacked));
         learn_in(r, w, at, 0, known, found.had);
@@ -247,7 +247,7 @@ fn check_states(t: &[u16], r: &[u32], w: &mut [u32], at: usize, asked: u32, node
     let mut left = left_of(asked, found.had);
     while left != 0 {
         let q = lowest(left);
-        if !check_term(t, r, w, at, q) {
+        if !check_term(&*t, &*r, w, at, q) {
             learn_in(r, w, at, 0, with_bit(had, q), had);
             return false;
         }
@@ -271,13 +271,13 @@ fn find_states(t: &[u16], r: &[u32], w: &mut [u32], at: usize, asked: u32, node:
         if number_in(r, TEST_USERS) < FEW_HINTS {
             return Outlook { had: 0, lacked: 0 };
         }
-        let had = find_bound(t, r, w, at, asked, node);
+        let had = find_bound(&*t, &*r, w, at, asked, node);
         return Outlook { had, lacked: 0 };
     }
     if node.tag == 0 {
         return leaf_states(t, node, asked);
     }
-    find_given(t, r, w, at, asked, node)
+    find_given(&*t, &*r, w, at, asked, node)
 }
 
 // States of a set that a nonterminal's term has by the bindings that served last for this node.
@@ -296,7 +296,7 @@ fn find_bound(t: &[u16], r: &[u32], w: &mut [u32], at: usize, asked: u32, node: 
         let Some(ty) = candidate(t, r, node.number, node.count, q, c) else {
             return had;
         };
-        if !args_again(t, r, w, at + 1, node.count, ty) {
+        if !args_again(&*t, &*r, w, at + 1, node.count, ty) {
             return had;
         }
         note_in(r, w, c);
@@ -322,7 +322,7 @@ fn find_given(t: &[u16], r: &[u32], w: &mut [u32], at: usize, asked: u32, node: 
     for j in 0..many {
         let ty = member_of(t, given, j);
         if let Some(q) = wanted(t, left, ty, node.count) {
-            if args_again(t, r, w, at + 1, node.count, ty) {
+            if args_again(&*t, &*r, w, at + 1, node.count, ty) {
                 had = with_bit(had, q);
                 left = without_bit(left, q);
             } else {
@@ -341,7 +341,7 @@ fn args_again(t: &[u16], r: &[u32], w: &mut [u32], at: usize, count: usize, ty: 
     if args_known(t, r, w, at, count, ty) {
         return true;
     }
-    check_args(t, r, w, at, count, ty)
+    check_args(&*t, &*r, w, at, count, ty)
 }
 
 // Whether the term at a node has each member of an arrow. What is found is remembered.
@@ -362,7 +362,7 @@ fn check_each(t: &[u16], r: &[u32], w: &mut [u32], at: usize, ty: usize) -> bool
         }
         if !has_bit(known.had, goal) {
             let bit = with_bit(0, goal % WORD);
-            if !check_term(t, r, w, at, goal) {
+            if !check_term(&*t, &*r, w, at, goal) {
                 learn_in(r, w, at, goal, bit, 0);
                 return false;
             }
