@@ -21,6 +21,7 @@ pub enum Case {
 
 // The number of the first binding whose type does not fit its nonterminal's sort, none where all fit, by a table with room for the
 // rows of ROOM types.
+#[inline(never)]
 fn misfit_in<const ROOM: usize>(
     file: &[u8],
     index: &[u16],
