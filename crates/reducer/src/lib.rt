@@ -408,12 +408,12 @@ fn moves_by(file: &[u8], at: usize, state: usize, constructor: u16) -> bool {
         && u16::from(byte(file, at, 5)) == constructor
 }
 
-// The record of the transition from a state for a constructor, if there is one.
+// The record of the transition from a state for a constructor, if there is one; none at the start of a file, where no plan has it.
 fn transition(file: &[u8], plan: Plan, state: usize, constructor: u16) -> Option<usize> {
     let mut at = plan.moves;
     while at < plan.path && at <= 60000 {
         if moves_by(file, at, state, constructor) {
-            return Some(at);
+            return (at != 0).then_some(at);
         }
         at = at + 4 + usize::from(word(file, at, 0));
     }
