@@ -246,6 +246,8 @@ fn link(file: &[u8], at: usize, nodes: u16, cells: &mut [Cell], place: u16)
 // The body in a rule's record, linked behind those before it.
 fn enter_rule(file: &[u8], at: usize, cells: &mut [Cell], plan: Plan) -> Plan
     requires { at ≤ 60000 }
+    ensures rules { plan.rules ≤ 256 → result.rules ≤ 256 }
+    ensures cells { plan.cells ≤ 65535 → result.cells ≤ 65535 }
 {
     if 255 < plan.rules || 15000 < plan.cells {
         return plan;
@@ -268,6 +270,8 @@ fn enter_rule(file: &[u8], at: usize, cells: &mut [Cell], plan: Plan) -> Plan
 // What the record at an offset adds to a plan.
 fn enter(file: &[u8], at: usize, cells: &mut [Cell], plan: Plan) -> Plan
     requires { at ≤ 60000 }
+    ensures rules { plan.rules ≤ 256 → result.rules ≤ 256 }
+    ensures cells { plan.cells ≤ 65535 → result.cells ≤ 65535 }
 {
     match kind_at(file, at) {
         Kind::Rule => enter_rule(file, at, cells, plan),
@@ -280,8 +284,12 @@ fn enter(file: &[u8], at: usize, cells: &mut [Cell], plan: Plan) -> Plan
     }
 }
 
-// The plan of a file that is a path case; the cells of its bodies and rules are written anew.
-pub fn load(file: &[u8], cells: &mut [Cell]) -> Plan {
+// The plan of a file that is a path case; the cells of its bodies and rules are written anew. It counts 256 rules at most, and the first
+// cell that their bodies leave has a number of two bytes.
+pub fn load(file: &[u8], cells: &mut [Cell]) -> Plan
+    ensures rules { result.rules ≤ 256 }
+    ensures cells { result.cells ≤ 65535 }
+{
     let mut plan = Plan {
         moves: 0,
         path: 0,
